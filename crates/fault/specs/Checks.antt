@@ -1,0 +1,26 @@
+-- "The first failing check decides." A check is a number of the refusal table, or 0 where nothing fails.
+use Prim.Native.Nat.{ℕ, zero, suc}
+use mathlib.Core.Bool.{Bool, cond}
+use mathlib.Core.List.{List, _++_}
+use lib.ListN.{length, drop}
+use Rattle.fault.specs.declared.Fault.{Fault}
+use Rattle.fault.specs.Number.{faultNumber}
+
+-- the fault's number unless the test holds
+abbrev pub unless : Bool → Fault → ℕ
+unless test f = cond test 0 (faultNumber f)
+
+-- the first check's number, or the second's where the first does not fail
+abbrev pub andThen : ℕ → ℕ → ℕ
+andThen zero second = second
+andThen (suc n) second = suc n
+
+-- the first failing check of n
+unfoldable pub firstOf : (ℕ → ℕ) → ℕ → ℕ
+firstOf check zero = 0
+firstOf check (suc n) = andThen (firstOf check n) (check n)
+
+-- a lent buffer after a call: where no check fails what the call writes, followed by what stood past that; on a refusal as it was
+abbrev pub filled : {A : Type 0} → ℕ → List A → List A → List A
+filled zero new old = new ++ drop (length new) old
+filled (suc n) new old = old

@@ -1,0 +1,62 @@
+-- Document 01, plan evaluation: "wire i up to u holds entry i of the row, each gate wire its gate's bit, and result entry j is the bit of
+-- the wire that output j names". The wires are defined over values of any type, bits are one instance.
+use Prim.Native.Nat.{ℕ, zero, suc, _+_, _-_, _*_, _/_, _%_, _^_}
+use mathlib.Core.List.{List, [], _∷_, _++_}
+use lib.Dec.{leb, ltb, eqb}
+use lib.ListN.{length, getD}
+use Rattle.fault.specs.declared.Fault.{Fault}
+use Rattle.fault.specs.Checks.{unless, andThen, firstOf, filled}
+use Rattle.plan.specs.declared.record.Plan.{Plan}
+use Rattle.plan.specs.declared.record.PlanWire.{PlanWire}
+use Rattle.plan.specs.Record.{gateAt, outputAt}
+use Rattle.plan.specs.Faults.{planFault}
+
+-- f 0 to f (n - 1)
+unfoldable pub listOf : {A : Type 0} → ℕ → (ℕ → A) → List A
+listOf zero f = []
+listOf (suc n) f = listOf n f ++ (f n ∷ [])
+
+-- the value on a wire: wire w stands at place w - 1
+abbrev pub valueOn : {A : Type 0} → A → List A → PlanWire → A
+valueOn none ws w = getD ws (w .0 - 1) none
+
+-- one gate more: `act` makes its value of the gate's number, counted from 0, its table and its operands' values
+abbrev pub withGate : {A : Type 0} → A → (ℕ → ℕ → A → A → A) → Plan → ℕ → List A → List A
+withGate none act p i ws =
+    ws ++ (act i (gateAt p i .table) (valueOn none ws (gateAt p i .first)) (valueOn none ws (gateAt p i .second)) ∷ [])
+
+-- the values on the inputs' wires and those of the first n gates
+unfoldable pub planWires : {A : Type 0} → A → (ℕ → ℕ → A → A → A) → Plan → List A → ℕ → List A
+planWires none act p row zero = row
+planWires none act p row (suc n) = withGate none act p n (planWires none act p row n)
+
+-- the values on the wires that the outputs name
+abbrev pub planOutputs : {A : Type 0} → A → (ℕ → ℕ → A → A → A) → Plan → List A → List A
+planOutputs none act p row =
+    listOf (p .«output_count») (λ j. valueOn none (planWires none act p row (p .«gate_count»)) (outputAt p j))
+
+-- "With operand bits a, b the gate's bit is bit 2a + b of the table, bit 0 lowest"
+unfoldable pub tableBit : ℕ → ℕ → ℕ → ℕ
+tableBit t a b = t / 2 ^ (2 * a + b) % 2
+
+-- the action of a gate on bits
+abbrev pub gateBit : ℕ → ℕ → ℕ → ℕ → ℕ
+gateBit i t a b = tableBit t a b
+
+-- 12: the row is not of length u, or an entry is not 0 or 1
+unfoldable pub contactFault : ℕ → List ℕ → ℕ
+contactFault u row =
+    andThen (unless (eqb (length row) u) Fault.Contact)
+    (firstOf (λ i. unless (leb (getD row i 0) 1) Fault.Contact) (length row))
+
+-- 11: a lent buffer of n entries is below its stated length
+unfoldable pub shortFault : ℕ → ℕ → ℕ
+shortFault stated n = unless (leb stated n) Fault.Short
+
+-- the call's checks, with a result buffer of n entries: plan faults, 12, 11
+abbrev pub evaluateFault : Plan → List ℕ → ℕ → ℕ
+evaluateFault p row n = andThen (planFault p) (andThen (contactFault (p .inputs) row) (shortFault (p .«output_count») n))
+
+-- the result buffer after the call
+abbrev pub evaluateResult : Plan → List ℕ → List ℕ → List ℕ
+evaluateResult p row result = filled (evaluateFault p row (length result)) (planOutputs 0 gateBit p row) result

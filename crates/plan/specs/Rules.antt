@@ -1,0 +1,24 @@
+-- Document 01, "Refusal table": when numbers 2 to 4 and 6 to 9 are not given.
+use Prim.Native.Nat.{ℕ, _+_}
+use mathlib.Core.Bool.{Bool, _&&_}
+use lib.Dec.{leb, ltb}
+
+-- a number of inputs, gates or outputs: 1 to its limit
+unfoldable pub countAllowed : ℕ → ℕ → Bool
+countAllowed limit n = leb 1 n && leb n limit
+
+-- a map byte: not above 7
+unfoldable pub mapAllowed : ℕ → Bool
+mapAllowed b = leb b 7
+
+-- an operand: not wire 0, and below the gate's own wire
+unfoldable pub operandAllowed : ℕ → ℕ → Bool
+operandAllowed own w = leb 1 w && ltb w own
+
+-- a table: not above 15
+unfoldable pub tableAllowed : ℕ → Bool
+tableAllowed t = leb t 15
+
+-- an output: in u + 1 to u + k
+unfoldable pub sourceAllowed : ℕ → ℕ → ℕ → Bool
+sourceAllowed u k w = leb (u + 1) w && leb w (u + k)

@@ -1,0 +1,20 @@
+// Plans: the record in memory, reading one from a file, its faults, and what it gives on a row of inputs.
+// For any bytes the reader says, with proof, whether they are a plan, which fault they have and where; for any record in memory
+// `plan_fault` says whether it is an accepted plan, and `evaluate` what it gives.
+// Nothing here knows of fabrics.
+mod record;
+mod rules;
+mod cursor;
+mod reading;
+
+pub use cursor::Cursor;
+pub use cursor::MapStep;
+pub use cursor::OperandStep;
+pub use cursor::OutputStep;
+pub use cursor::TableStep;
+pub use reading::read_plan;
+pub use reading::PlanRead;
+pub use reading::ReadAnswer;
+pub use record::Gate;
+pub use record::Plan;
+pub use record::PlanWire;

@@ -1,0 +1,48 @@
+// What a count, a map byte, an operand, a table and an output may be: one definition each, for reading and for a plan in memory.
+ghost use mathlib.Core.Path.{_≡_};
+ghost use Rattle.plan.specs.Rules.{countAllowed, mapAllowed, operandAllowed, tableAllowed, sourceAllowed};
+use crate::record::PlanWire;
+
+// Whether there is at least one, and no more than the limit.
+pub(crate) fn count_allowed(count: u16, limit: usize) -> bool
+    ensures { λ r. ⌜ r ≡ countAllowed limit count ⌝ }
+{
+    if count == 0 {
+        return false;
+    }
+    count as usize <= limit
+}
+
+// Whether a map byte has no bit above the three fields.
+pub(crate) fn map_allowed(map: u8) -> bool
+    ensures { λ r. ⌜ r ≡ mapAllowed map ⌝ }
+{
+    map <= 7
+}
+
+// Whether the wire may be an operand of the gate whose own wire is own.
+pub(crate) fn operand_allowed(own: PlanWire, wire: PlanWire) -> bool
+    ensures { λ r. ⌜ r ≡ operandAllowed (own .0) (wire .0) ⌝ }
+{
+    if wire.0 == 0 {
+        return false;
+    }
+    wire.0 < own.0
+}
+
+// Whether a table has no bit above the four lines.
+pub(crate) fn table_allowed(table: u8) -> bool
+    ensures { λ r. ⌜ r ≡ tableAllowed table ⌝ }
+{
+    table <= 15
+}
+
+// Whether the wire is a gate's, in a plan with so many inputs and gates.
+pub(crate) fn source_allowed(inputs: u16, gates: u16, wire: PlanWire) -> bool
+    ensures { λ r. ⌜ r ≡ sourceAllowed inputs gates (wire .0) ⌝ }
+{
+    if wire.0 <= inputs {
+        return false;
+    }
+    wire.0 - inputs <= gates
+}

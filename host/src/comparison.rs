@@ -1,0 +1,276 @@
+//! The library and the reference on the same cases: answers, records and lent buffers.
+//!
+//! The first difference ends a comparison. Otherwise it has counted its cases by kind and by call,
+//! and how often each call gave each number.
+
+mod files;
+mod memory;
+mod show;
+
+use std::fmt::{self, Write};
+use std::ops::Range;
+
+use self::show::{first_difference, hex, show_number, show_plan, show_read};
+use crate::fault::{Fault, Refusal};
+use crate::plan::Plan;
+use crate::random::Random;
+use crate::{exports, reference};
+
+/// Bytes kept on each side of a lent buffer, which no call may change.
+const GUARD: usize = 8;
+
+/// One place for each number of the refusal table, and place 0 for done.
+const NUMBERS: usize = Fault::TABLE.len() + 1;
+
+/// A call that is compared.
+#[derive(Clone, Copy)]
+enum Call {
+    Reading,
+    Faults,
+    Evaluation,
+}
+
+/// Each call's name, and the numbers that it must have given at least once.
+const CALLS: [(&str, &[usize]); 3] = [
+    ("reading", &[0, 1, 2, 3, 4, 5, 6, 7, 8, 9, 10]),
+    ("plan faults", &[0, 2, 3, 4, 7, 8, 9]),
+    ("evaluation", &[0, 2, 3, 4, 7, 8, 9, 11, 12]),
+];
+
+/// What ends a comparison: a case with both answers, or a number that was never given.
+#[derive(Debug)]
+pub struct Difference(String);
+
+pub type Outcome = Result<(), Difference>;
+
+/// The cases compared so far.
+#[derive(Default)]
+pub struct Comparison {
+    kinds: Vec<(&'static str, [u64; CALLS.len()])>,
+    seen: [[u64; NUMBERS]; CALLS.len()],
+}
+
+impl Comparison {
+    /// Compares all kinds of cases, the same ones for the same seed.
+    pub fn run(seed: u64) -> Result<Comparison, Difference> {
+        let mut comparison = Comparison::default();
+        let mut random = Random::new(seed);
+        files::compare(&mut comparison, &mut random)?;
+        memory::compare(&mut comparison, &mut random)?;
+        comparison.check_seen()?;
+        Ok(comparison)
+    }
+
+    /// Begins a kind of cases.
+    fn begin(&mut self, kind: &'static str) {
+        self.kinds.push((kind, [0; CALLS.len()]));
+    }
+
+    /// Compares the reading of a file, and gives the plan if there is one.
+    fn reading(&mut self, file: &[u8]) -> Result<Option<Plan>, Difference> {
+        let answer = reference::plan::read(file);
+        let expected = read_record(&answer);
+        let found = exports::plan_read(file);
+        if found != expected {
+            return Err(self.difference(&[
+                ("file", hex(file)),
+                ("reference", show_read(&expected)),
+                ("library", show_read(&found)),
+                (
+                    "first difference",
+                    first_difference(&expected.plan, &found.plan),
+                ),
+            ]));
+        }
+        self.count(Call::Reading, expected.number);
+        Ok(answer.ok())
+    }
+
+    /// Compares the plan faults of a plan in memory.
+    fn faults(&mut self, plan: &Plan) -> Outcome {
+        let expected = number(reference::plan::fault(plan));
+        let found = exports::plan_fault(plan);
+        if found != expected {
+            return Err(self.difference(&[
+                ("plan", show_plan(plan)),
+                ("reference", show_number(expected)),
+                ("library", show_number(found)),
+            ]));
+        }
+        self.count(Call::Faults, expected);
+        Ok(())
+    }
+
+    /// Compares an evaluation that is lent a result buffer of `result_len` entries.
+    fn evaluation(&mut self, plan: &Plan, row: &[u8], result_len: usize) -> Outcome {
+        let before = foreign_entries(GUARD + result_len + GUARD);
+        let result = GUARD..GUARD + result_len;
+        let (mut expected, mut found) = (before.clone(), before.clone());
+
+        let answer = reference::plan::evaluate(plan, row, &mut expected[result.clone()]);
+        let expected_number = number(answer.err());
+        let found_number = exports::plan_evaluate(plan, row, &mut found[result]);
+
+        let written = match expected_number {
+            0 => GUARD..GUARD + usize::from(plan.output_count),
+            _ => 0..0,
+        };
+        if found_number != expected_number
+            || found != expected
+            || !is_stated(&before, &found, written)
+        {
+            return Err(self.difference(&[
+                ("plan", show_plan(plan)),
+                ("row", hex(row)),
+                ("result length", result_len.to_string()),
+                ("buffer and guards", hex(&before)),
+                ("reference", show_number(expected_number)),
+                ("leaves", hex(&expected)),
+                ("library", show_number(found_number)),
+                ("leaves", hex(&found)),
+            ]));
+        }
+        self.count(Call::Evaluation, expected_number);
+        Ok(())
+    }
+
+    fn count(&mut self, call: Call, number: u32) {
+        self.seen[call as usize][number as usize] += 1;
+        if let Some((_, cases)) = self.kinds.last_mut() {
+            cases[call as usize] += 1;
+        }
+    }
+
+    /// Fails if a call never gave a number that it must give.
+    fn check_seen(&self) -> Outcome {
+        for ((call, due), seen) in CALLS.iter().zip(&self.seen) {
+            if let Some(number) = due.iter().find(|&&number| seen[number] == 0) {
+                return Err(Difference(format!(
+                    "no case of {call} had the answer {number}\n"
+                )));
+            }
+        }
+        Ok(())
+    }
+
+    /// A difference in the present kind: the case and both answers, by name.
+    fn difference(&self, parts: &[(&str, String)]) -> Difference {
+        let kind = self.kinds.last().map_or("", |&(kind, _)| kind);
+        let mut text = format!("a difference in: {kind}\n");
+        for (name, part) in parts {
+            let _ = writeln!(text, "{name}: {part}");
+        }
+        Difference(text)
+    }
+
+    fn cases(&self, call: Call) -> u64 {
+        self.seen[call as usize].iter().sum()
+    }
+}
+
+/// The tables of cases by kind and of answers by number, and the totals.
+impl fmt::Display for Comparison {
+    fn fmt(&self, out: &mut fmt::Formatter<'_>) -> fmt::Result {
+        let titles = CALLS.map(|(call, _)| call.to_string());
+        write_row(out, "cases compared", &titles)?;
+        for (kind, cases) in &self.kinds {
+            write_row(out, kind, &cases.map(or_dash))?;
+        }
+        writeln!(out)?;
+        write_row(out, "answers", &titles)?;
+        for number in 0..NUMBERS {
+            let answers = self.seen.map(|seen| seen[number]);
+            if answers.iter().any(|&cases| cases > 0) {
+                write_row(out, &show_number(number as u32), &answers.map(or_dash))?;
+            }
+        }
+        writeln!(out)?;
+        let total: u64 = self.seen.iter().flatten().sum();
+        let files = self.cases(Call::Reading);
+        writeln!(
+            out,
+            "compared {total} cases, {files} of them files: no difference"
+        )
+    }
+}
+
+impl fmt::Display for Difference {
+    fn fmt(&self, out: &mut fmt::Formatter<'_>) -> fmt::Result {
+        out.write_str(&self.0)
+    }
+}
+
+fn write_row(out: &mut fmt::Formatter<'_>, title: &str, cells: &[String]) -> fmt::Result {
+    write!(out, "{title:<40}")?;
+    for cell in cells {
+        write!(out, "{cell:>14}")?;
+    }
+    writeln!(out)
+}
+
+fn or_dash(cases: u64) -> String {
+    match cases {
+        0 => "-".to_string(),
+        _ => cases.to_string(),
+    }
+}
+
+/// The number of an answer: 0 for done.
+fn number(fault: Option<Fault>) -> u32 {
+    fault.map_or(0, Fault::number)
+}
+
+/// The record that an answer of a read comes as; a refusal's plan is all zero.
+fn read_record(answer: &Result<Plan, Refusal>) -> exports::Read {
+    match *answer {
+        Ok(plan) => exports::Read {
+            number: 0,
+            at: 0,
+            plan,
+        },
+        Err(Refusal { fault, at }) => exports::Read {
+            number: fault.number(),
+            at,
+            plan: Plan::ZERO,
+        },
+    }
+}
+
+/// A buffer of entries that no evaluation writes: none is 0 or 1, and neighbours differ.
+fn foreign_entries(len: usize) -> Vec<u8> {
+    (2..=255).cycle().take(len).collect()
+}
+
+/// Whether the entries in `written` are 0 or 1, and all others what they were.
+fn is_stated(before: &[u8], after: &[u8], written: Range<usize>) -> bool {
+    before
+        .iter()
+        .zip(after)
+        .enumerate()
+        .all(|(i, (before, after))| {
+            if written.contains(&i) {
+                *after <= 1
+            } else {
+                after == before
+            }
+        })
+}
+
+#[cfg(test)]
+mod tests {
+    use super::*;
+
+    #[test]
+    fn a_comparison_without_cases_fails() {
+        assert!(Comparison::default().check_seen().is_err());
+    }
+
+    #[test]
+    fn an_entry_past_the_stated_ones_stays() {
+        let before = foreign_entries(4);
+        assert!(is_stated(&before, &[2, 0, 1, 5], 1..3));
+        assert!(!is_stated(&before, &[2, 0, 1, 1], 1..3));
+        assert!(!is_stated(&before, &[2, 0, 4, 5], 1..3));
+        assert!(!is_stated(&before, &[0, 3, 4, 5], 0..0));
+    }
+}

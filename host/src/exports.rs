@@ -1,0 +1,83 @@
+//! Safe calls of the library's exports, which `include/mukdalis.h` documents.
+//!
+//! `plan_read`, `plan_fault` and `plan_evaluate` give each answer as it comes. `read`, `check` and
+//! `evaluate` give it as a `Result`.
+
+use crate::fault::{Fault, Refusal};
+use crate::plan::Plan;
+
+/// What a read gives: number and offset 0 with the plan, or a refusal with the all-zero record.
+#[repr(C)]
+#[derive(Clone, Copy, Debug, PartialEq, Eq)]
+pub struct Read {
+    pub number: u32,
+    pub at: u64,
+    pub plan: Plan,
+}
+
+extern "C" {
+    fn mkd_plan_read(file: *const u8, len: usize) -> Read;
+    fn mkd_plan_fault(plan: Plan) -> u32;
+    fn mkd_plan_evaluate(
+        plan: Plan,
+        row: *const u8,
+        row_len: usize,
+        result: *mut u8,
+        result_len: usize,
+    ) -> u32;
+}
+
+/// `mkd_plan_read` of a whole file.
+pub fn plan_read(file: &[u8]) -> Read {
+    // SAFETY: the pointer and length are a slice's; the call only reads it and keeps no pointer.
+    unsafe { mkd_plan_read(file.as_ptr(), file.len()) }
+}
+
+/// `mkd_plan_fault`: the number of the first plan fault, or 0.
+pub fn plan_fault(plan: &Plan) -> u32 {
+    // SAFETY: the plan goes by value, and every value of its fields is allowed.
+    unsafe { mkd_plan_fault(*plan) }
+}
+
+/// `mkd_plan_evaluate`: the number of the refusal, or 0.
+pub fn plan_evaluate(plan: &Plan, row: &[u8], result: &mut [u8]) -> u32 {
+    // SAFETY: both pointers and lengths are slices', which do not overlap since one is borrowed
+    // for writing; the call stays within them and keeps no pointer.
+    unsafe {
+        mkd_plan_evaluate(
+            *plan,
+            row.as_ptr(),
+            row.len(),
+            result.as_mut_ptr(),
+            result.len(),
+        )
+    }
+}
+
+/// The plan of a plan file.
+pub fn read(file: &[u8]) -> Result<Plan, Refusal> {
+    let Read { number, at, plan } = plan_read(file);
+    match done(number) {
+        Ok(()) => Ok(plan),
+        Err(fault) => Err(Refusal { fault, at }),
+    }
+}
+
+/// Whether a plan in memory is accepted, that is, has no plan fault.
+pub fn check(plan: &Plan) -> Result<(), Fault> {
+    done(plan_fault(plan))
+}
+
+/// Writes the plan's outputs on an input row to the first v entries of `result`.
+pub fn evaluate(plan: &Plan, row: &[u8], result: &mut [u8]) -> Result<(), Fault> {
+    done(plan_evaluate(plan, row, result))
+}
+
+/// An export's number: 0 is done, any other a row of the refusal table.
+fn done(number: u32) -> Result<(), Fault> {
+    if number == 0 {
+        return Ok(());
+    }
+    let fault = Fault::from_number(number);
+    Err(fault.unwrap_or_else(|| panic!("the library answered {number}, which is no refusal")))
+}

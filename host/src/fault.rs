@@ -1,0 +1,112 @@
+//! Document 01's refusal table: its words and numbers, and a refused read with its place.
+
+use std::error::Error;
+use std::fmt;
+
+/// A word of the refusal table. Its discriminant is the word's number.
+#[derive(Clone, Copy, Debug, PartialEq, Eq)]
+pub enum Fault {
+    /// The file is below 6 bytes.
+    Stub = 1,
+    /// u is not 1 to 64.
+    Inputs = 2,
+    /// k is not 1 to 256.
+    Gates = 3,
+    /// v is not 1 to 64.
+    Outputs = 4,
+    /// The file ends inside or before a needed field.
+    Cut = 5,
+    /// A map byte is above 7.
+    Map = 6,
+    /// An operand is wire 0, or not below the gate's own.
+    Operand = 7,
+    /// A table is above 15.
+    Table = 8,
+    /// An output is not in u + 1 to u + k.
+    Source = 9,
+    /// Bytes follow the last output.
+    Tail = 10,
+    /// A lent buffer is below its stated length.
+    Short = 11,
+    /// The input row is not of length u, or an entry is not 0 or 1.
+    Contact = 12,
+    /// A fabric table is malformed.
+    Fabric = 13,
+    /// A program is not of its exact length, or a spare bit is set.
+    Program = 14,
+}
+
+impl Fault {
+    /// Every word, in the order of the numbers.
+    pub const TABLE: [(Fault, &'static str); 14] = [
+        (Fault::Stub, "stub"),
+        (Fault::Inputs, "inputs"),
+        (Fault::Gates, "gates"),
+        (Fault::Outputs, "outputs"),
+        (Fault::Cut, "cut"),
+        (Fault::Map, "map"),
+        (Fault::Operand, "operand"),
+        (Fault::Table, "table"),
+        (Fault::Source, "source"),
+        (Fault::Tail, "tail"),
+        (Fault::Short, "short"),
+        (Fault::Contact, "contact"),
+        (Fault::Fabric, "fabric"),
+        (Fault::Program, "program"),
+    ];
+
+    /// The fault's number in the table.
+    pub fn number(self) -> u32 {
+        self as u32
+    }
+
+    /// The fault of a number, if the table has it.
+    pub fn from_number(number: u32) -> Option<Fault> {
+        let row = (number as usize).checked_sub(1)?;
+        Fault::TABLE.get(row).map(|&(fault, _)| fault)
+    }
+
+    /// The fault's word in the table.
+    pub fn word(self) -> &'static str {
+        Fault::TABLE[self as usize - 1].1
+    }
+}
+
+impl fmt::Display for Fault {
+    fn fmt(&self, out: &mut fmt::Formatter<'_>) -> fmt::Result {
+        write!(out, "refused {} ({})", self.number(), self.word())
+    }
+}
+
+impl Error for Fault {}
+
+/// A refused read: the fault, and the byte offset where the faulty field begins or would begin.
+#[derive(Clone, Copy, Debug, PartialEq, Eq)]
+pub struct Refusal {
+    pub fault: Fault,
+    pub at: u64,
+}
+
+impl fmt::Display for Refusal {
+    fn fmt(&self, out: &mut fmt::Formatter<'_>) -> fmt::Result {
+        write!(out, "refused {} at {}", self.fault.number(), self.at)
+    }
+}
+
+impl Error for Refusal {}
+
+#[cfg(test)]
+mod tests {
+    use super::*;
+
+    #[test]
+    fn a_word_stands_at_its_number() {
+        for (row, &(fault, word)) in Fault::TABLE.iter().enumerate() {
+            assert_eq!(fault.number() as usize, row + 1);
+            assert_eq!(Fault::from_number(fault.number()), Some(fault));
+            assert_eq!(fault.word(), word);
+        }
+        assert_eq!(Fault::from_number(0), None);
+        assert_eq!(Fault::from_number(15), None);
+    }
+}

@@ -1,0 +1,3 @@
+//! The second implementation, in plain safe Rust from document 01 alone: one module a subject.
+
+pub mod plan;

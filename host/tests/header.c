@@ -1,0 +1,40 @@
+/* Uses include/mukdalis.h as a C program does, and prints the layout of its records. */
+#include "mukdalis.h"
+
+#include <stddef.h>
+#include <stdio.h>
+
+static const uint8_t not_plan[10] = {1, 0, 1, 0, 1, 0, 4, 1, 2, 0};
+
+static int fails(const char *what)
+{
+    printf("fails: %s\n", what);
+    return 1;
+}
+
+int main(void)
+{
+    struct mkd_read refused = mkd_plan_read(not_plan, 9);
+    struct mkd_read done = mkd_plan_read(not_plan, sizeof not_plan);
+    const uint8_t row[1] = {0};
+    uint8_t result[2] = {9, 9};
+
+    if (refused.number != MKD_CUT || refused.at != 8 || refused.plan.inputs != 0)
+        return fails("a cut file");
+    if (done.number != 0 || done.at != 0 || done.plan.gates[0].table != 1)
+        return fails("a plan file");
+    if (mkd_plan_fault(done.plan) != 0 || mkd_plan_fault(refused.plan) != MKD_INPUTS)
+        return fails("plan faults");
+    if (mkd_plan_evaluate(done.plan, row, 1, result, 0) != MKD_SHORT || result[0] != 9)
+        return fails("a short result");
+    if (mkd_plan_evaluate(done.plan, row, 1, result, 2) != 0 || result[0] != 1 || result[1] != 9)
+        return fails("an evaluation");
+
+    printf("%zu %zu %zu", sizeof(struct mkd_gate), offsetof(struct mkd_gate, second),
+           offsetof(struct mkd_gate, table));
+    printf(" %zu %zu %zu", sizeof(struct mkd_plan), offsetof(struct mkd_plan, gates),
+           offsetof(struct mkd_plan, outputs));
+    printf(" %zu %zu %zu\n", sizeof(struct mkd_read), offsetof(struct mkd_read, at),
+           offsetof(struct mkd_read, plan));
+    return 0;
+}

@@ -1,0 +1,113 @@
+/*
+ * Mukdalis, the contact fabric library: plans, their faults and their evaluation.
+ *
+ * Every call takes all inputs and refuses bad ones. It answers a number: 0 for done, any other
+ * the row of the refusal table below whose check failed first. A refusal writes through no
+ * pointer. Where a buffer is longer than its stated length, the entries past it stay as they were.
+ *
+ * A pointer is never null, also where its length is 0; that many bytes behind it belong to the
+ * caller, and a buffer that is written overlaps no other. No call keeps a pointer.
+ *
+ * Wires of a plan: 1 to u are its inputs, u + g is gate g, where u, k and v are the plan's numbers
+ * of inputs, gates and outputs. Gates and outputs count from 1 here and lie in arrays from 0.
+ */
+#ifndef MUKDALIS_H
+#define MUKDALIS_H
+
+#include <stddef.h>
+#include <stdint.h>
+
+#ifdef __cplusplus
+extern "C" {
+#endif
+
+/* The limits of u, k and v. */
+#define MKD_MAX_INPUTS 64
+#define MKD_MAX_GATES 256
+#define MKD_MAX_OUTPUTS 64
+
+/* The refusal table. */
+enum mkd_fault {
+    MKD_STUB = 1,     /* file below 6 bytes */
+    MKD_INPUTS = 2,   /* u not 1 to 64 */
+    MKD_GATES = 3,    /* k not 1 to 256 */
+    MKD_OUTPUTS = 4,  /* v not 1 to 64 */
+    MKD_CUT = 5,      /* file ends inside or before a needed field */
+    MKD_MAP = 6,      /* map byte above 7 */
+    MKD_OPERAND = 7,  /* wire 0, or not below the gate's own */
+    MKD_TABLE = 8,    /* table above 15 */
+    MKD_SOURCE = 9,   /* output not in u + 1 to u + k */
+    MKD_TAIL = 10,    /* bytes after the last output */
+    MKD_SHORT = 11,   /* a lent buffer below its stated length */
+    MKD_CONTACT = 12, /* input row not of length u, or an entry not 0 or 1 */
+    MKD_FABRIC = 13,  /* fabric table malformed */
+    MKD_PROGRAM = 14  /* program not of its exact length, or a spare bit set */
+};
+
+/*
+ * A gate. Its operands are wires below its own. With operand bits a, b its bit is bit 2a + b of
+ * the table, bit 0 lowest.
+ */
+struct mkd_gate {
+    uint16_t first;  /* first operand */
+    uint16_t second; /* second operand */
+    uint8_t table;   /* 0 to 15: AND is 8, XOR 6, OR 14 */
+};
+
+/*
+ * A plan in memory. The first gate_count gates and output_count outputs are used. Reading zeroes
+ * the other places; no call looks at them.
+ */
+struct mkd_plan {
+    uint16_t inputs;       /* u */
+    uint16_t gate_count;   /* k */
+    uint16_t output_count; /* v */
+    struct mkd_gate gates[MKD_MAX_GATES];
+    uint16_t outputs[MKD_MAX_OUTPUTS]; /* gate wires, u + 1 to u + k */
+};
+
+/* The answer of a read. */
+struct mkd_read {
+    uint32_t number; /* 0, or the refusal */
+    uint64_t at;     /* 0, or the byte offset where the faulty field begins or would begin */
+    struct mkd_plan plan;
+};
+
+/*
+ * Reads a plan file of len bytes.
+ *
+ * The file: u, k, v, two bytes each, low byte first, as all numbers of two bytes. Per gate a map
+ * byte, then the fields whose map bit stands: bit 0 first operand (two bytes; absent: the wire
+ * just before the gate), bit 1 second operand (two bytes; absent: the same as the first), bit 2
+ * table (one byte; absent: 8). Last v outputs, two bytes each. The longest plan has 1,670 bytes.
+ *
+ * Refusals, the first failing check deciding: 1 at 0; 2 at 0; 3 at 2; 4 at 4; per gate 5, then 6
+ * for the map and, per field that stands, 5, then 7 or 8; per output 5, then 9; 10 at the first
+ * byte after the last output. The other offsets are those of the field's first byte.
+ *
+ * Done: number and at are 0, and the plan has no plan fault. Refused: the plan is all zero.
+ */
+struct mkd_read mkd_plan_read(const uint8_t *file, size_t len);
+
+/*
+ * The first plan fault of a plan in memory, or 0 where it has none.
+ *
+ * Order: 2, 3, 4; per gate 7 for both operands, then 8; then 9 over the outputs.
+ */
+uint32_t mkd_plan_fault(struct mkd_plan plan);
+
+/*
+ * Evaluates a plan on an input row: entry i of row is the bit of input i, and the first v entries
+ * of result become the bits, 0 or 1, of the wires that the outputs name.
+ *
+ * Refusals, in this order: the plan faults; 12 if row_len is not u or an entry of row is not 0 or
+ * 1; 11 if result_len is below the stated length v. A refusal leaves result as it was.
+ */
+uint32_t mkd_plan_evaluate(struct mkd_plan plan, const uint8_t *row, size_t row_len,
+                           uint8_t *result, size_t result_len);
+
+#ifdef __cplusplus
+}
+#endif
+
+#endif
