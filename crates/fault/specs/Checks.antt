@@ -1,8 +1,6 @@
 -- "The first failing check decides." A check is a number of the refusal table, or 0 where nothing fails.
 use Prim.Native.Nat.{ℕ, zero, suc}
 use mathlib.Core.Bool.{Bool, cond}
-use mathlib.Core.List.{List, _++_}
-use lib.ListN.{length, drop}
 use Rattle.fault.specs.declared.Fault.{Fault}
 use Rattle.fault.specs.Number.{faultNumber}
 
@@ -19,8 +17,3 @@ andThen (suc n) second = suc n
 unfoldable pub firstOf : (ℕ → ℕ) → ℕ → ℕ
 firstOf check zero = 0
 firstOf check (suc n) = andThen (firstOf check n) (check n)
-
--- a lent buffer after a call: where no check fails what the call writes, followed by what stood past that; on a refusal as it was
-abbrev pub filled : {A : Type 0} → ℕ → List A → List A → List A
-filled zero new old = new ++ drop (length new) old
-filled (suc n) new old = old

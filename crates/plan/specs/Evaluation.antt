@@ -5,7 +5,8 @@ use mathlib.Core.List.{List, [], _∷_, _++_}
 use lib.Dec.{leb, ltb, eqb}
 use lib.ListN.{length, getD}
 use Rattle.fault.specs.declared.Fault.{Fault}
-use Rattle.fault.specs.Checks.{unless, andThen, firstOf, filled}
+use Rattle.fault.specs.Checks.{unless, andThen, firstOf}
+use Rattle.fault.specs.Buffers.{filled}
 use Rattle.plan.specs.declared.record.Plan.{Plan}
 use Rattle.plan.specs.declared.record.PlanWire.{PlanWire}
 use Rattle.plan.specs.Record.{gateAt, outputAt}
@@ -30,10 +31,12 @@ unfoldable pub planWires : {A : Type 0} → A → (ℕ → ℕ → A → A → A
 planWires none act p row zero = row
 planWires none act p row (suc n) = withGate none act p n (planWires none act p row n)
 
--- the values on the wires that the outputs name
+-- the values on the wires that the first n outputs name
+abbrev pub namedBy : {A : Type 0} → A → Plan → List A → ℕ → List A
+namedBy none p ws n = listOf n (λ j. valueOn none ws (outputAt p j))
+
 abbrev pub planOutputs : {A : Type 0} → A → (ℕ → ℕ → A → A → A) → Plan → List A → List A
-planOutputs none act p row =
-    listOf (p .«output_count») (λ j. valueOn none (planWires none act p row (p .«gate_count»)) (outputAt p j))
+planOutputs none act p row = namedBy none p (planWires none act p row (p .«gate_count»)) (p .«output_count»)
 
 -- "With operand bits a, b the gate's bit is bit 2a + b of the table, bit 0 lowest"
 unfoldable pub tableBit : ℕ → ℕ → ℕ → ℕ

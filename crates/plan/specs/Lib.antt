@@ -1,6 +1,7 @@
 -- Document 01, "The plan", in reading order.
 -- the record in memory and its limits
 pub mod Record
+pub mod RecordLaws
 -- what a count, a map byte, an operand, a table and an output may be
 pub mod Rules
 pub mod RulesLaws
@@ -16,5 +17,7 @@ pub mod Parts
 pub mod PartsLaws
 -- faults of a plan in memory
 pub mod Faults
+pub mod FaultsLaws
 -- what a plan gives on a row of inputs
 pub mod Evaluation
+pub mod EvaluationLaws

@@ -2,12 +2,11 @@
 -- places zero; the header, then the body, is the whole file.
 use mathlib.Core.Path.{_≡_, refl, sym, ap, _∙_}
 use mathlib.Core.Bool.{true, false, and-eq-true-iff}
-use mathlib.Core.List.{List, [], _∷_, _++_, append-assoc}
-use Prim.Native.Nat.{ℕ, zero, suc, _+_, _-_, _<_, _≤_}
+use mathlib.Core.List.{List, [], _∷_, _++_}
+use Prim.Native.Nat.{ℕ, suc, _+_, _<_, _≤_}
 use native.Mathlib.Omega.{arith}
 use native.Mathlib.Numerals.{add-one}
-use lib.ListN.{length, set, replicate, length-append}
-use lib.Seq.{set-at}
+use lib.ListN.{length, set, length-append}
 use lib.Dec.{leb}
 use borrow.Author.Tests.{leb-true}
 use Rattle.fault.specs.declared.Fault.{Fault}
@@ -15,19 +14,12 @@ use Rattle.plan.specs.declared.record.Gate.{Gate}
 use Rattle.plan.specs.declared.record.Plan.{Plan}
 use Rattle.plan.specs.declared.record.PlanWire.{PlanWire}
 use Rattle.plan.specs.Record.{maxInputs, maxGates, maxOutputs, wire, zeroGate, places, planOf, zeroPlan}
+use Rattle.plan.specs.RecordLaws.{places-more}
 use Rattle.plan.specs.Rules.{countAllowed}
 use Rattle.plan.specs.Parsing.{Parsed, got, refused, Step, followed, _>>=_, pure, wordAt, inOrder}
 use Rattle.plan.specs.ParsingLaws.{field-allowed, item-got, item-refused, still-refused}
 use Rattle.plan.specs.PlanFile.{countField, planFile}
 use Rattle.plan.specs.Parts.{withGates, withOutputs, countsPart, headerPart, gatesPart, outputsPart, endPart, bodyPart, Limited, Blank}
-
--- one place more is filled
-pub places-more : {A : Type 0} (n : ℕ) (none : A) (xs : List A) (x : A) → length xs < n
-    → set (places n none xs) (length xs) x ≡ places n none (xs ++ (x ∷ []))
-unfolding places
-places-more n none xs x h =
-    let e : n - length xs ≡ suc (n - length (xs ++ (x ∷ []))) = omega (arith, length-append xs (x ∷ [])) in
-    rw (e, append-assoc xs (x ∷ [])) (set-at xs none _ x (length xs) refl)
 
 -- i items are read, from the cursor `start` up to `at`, and stand in their places
 pub record ReadSoFar {A : Type 0} (item : ℕ → Step A) (s : List ℕ) (start n : ℕ) (none : A) (i : ℕ) (held : List A) (at : ℕ) : Type 0 where
@@ -47,9 +39,7 @@ module _ {A : Type 0} (item : ℕ → Step A) (s : List ℕ) (start n : ℕ) (no
     items = r .items ++ (x ∷ []);
     count = length-append (r .items) (x ∷ []) ∙ ap (λ m. m + 1) (r .count);
     parsed = rw (add-one i) (item-got item s start i (r .items) x at next (r .parsed) (sym e));
-    placed =
-      ap (λ l. set l i x) (r .placed) ∙ ap (λ m. set (places n none (r .items)) m x) (sym (r .count))
-      ∙ places-more n none (r .items) x (rw (r .count) h)
+    placed = ap (λ l. set l i x) (r .placed) ∙ places-more n none (r .items) x i (r .count) h
   }
 
   pub one-refused : (k i : ℕ) (held : List A) (at m o : ℕ) → i < k

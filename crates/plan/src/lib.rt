@@ -6,12 +6,16 @@ mod record;
 mod rules;
 mod cursor;
 mod reading;
+mod faults;
+mod evaluation;
 
 pub use cursor::Cursor;
 pub use cursor::MapStep;
 pub use cursor::OperandStep;
 pub use cursor::OutputStep;
 pub use cursor::TableStep;
+pub use evaluation::evaluate;
+pub use faults::plan_fault;
 pub use reading::read_plan;
 pub use reading::PlanRead;
 pub use reading::ReadAnswer;

@@ -111,7 +111,7 @@ fn read_count(file: &[u8], c: Cursor, limit: usize, fault: Fault) -> CountStep
         });
     }
     let count = word_at(file, at);
-    if count_allowed(count, limit) {
+    if count_allowed(count as u32, limit) {
         return CountStep::Count(count, Cursor { at: at + 2 });
     }
     CountStep::Refused(Refusal {

@@ -19,4 +19,4 @@ bad c =
 pub read-count-spec : {M : Type 1} → statement M
 read-count-spec =
     tie.close
-    (tie.spec (λ c κs. search needs) cut (λ c κs. search needs) (λ c κs. search needs) (λ c. search needs) value bad)
+    (tie.spec (λ c κs. search needs) cut (λ c κs. search needs) (λ c. search needs) (λ c κs. search needs) (λ c. search needs) value bad)

@@ -1,0 +1,13 @@
+-- "A refusal gives its number and changes no buffer. On success entries past the stated length are unchanged."
+use Prim.Native.Nat.{ℕ, zero, suc}
+use mathlib.Core.List.{List, _++_}
+use lib.ListN.{length, drop}
+
+-- a buffer that begins with what a call writes, followed by what stood past that
+abbrev pub over : {A : Type 0} → List A → List A → List A
+over new old = new ++ drop (length new) old
+
+-- a lent buffer after a call whose checks gave the number: as it was on a refusal
+abbrev pub filled : {A : Type 0} → ℕ → List A → List A → List A
+filled zero new old = over new old
+filled (suc n) new old = old

@@ -1,0 +1,31 @@
+-- Laws of buffers that are written from the front.
+use mathlib.Core.Path.{_≡_, refl, sym, ap, _∙_}
+use mathlib.Core.List.{List, [], _∷_, _++_, append-assoc}
+use Prim.Native.Nat.{ℕ, zero, suc, _+_, _<_, _≤_}
+use native.Mathlib.Omega.{arith}
+use native.Mathlib.Numerals.{add-one}
+use lib.ListN.{length, getD, set, drop, length-append}
+use lib.Seq.{set-at, drop-cons}
+use Rattle.fault.specs.declared.Fault.{Fault}
+use Rattle.fault.specs.Number.{faultNumber}
+use Rattle.fault.specs.ChecksLaws.{number-positive}
+use Rattle.fault.specs.Buffers.{over, filled}
+
+-- nothing is written yet
+pub over-none : {A : Type 0} (old : List A) → old ≡ over [] old
+over-none old = refl
+
+-- one entry more
+pub over-more : {A : Type 0} (new old : List A) (x : A) → length new < length old → set (over new old) (length new) x ≡ over (new ++ (x ∷ [])) old
+over-more new old x h =
+    rw (length-append new (x ∷ []), append-assoc new (x ∷ []), add-one (length new), drop-cons old (length new) x h)
+    (set-at new (getD old (length new) x) (drop (suc (length new)) old) x (length new) refl)
+
+-- on a refusal the buffer is as it was
+pub filled-refused : {A : Type 0} (f : Fault) (n : ℕ) (new old : List A) → faultNumber f ≡ n → old ≡ filled n new old
+filled-refused f zero new old e = absurd (omega (arith, number-positive f))
+filled-refused f (suc n) new old e = refl
+
+-- where no check fails it begins with what was written
+pub filled-done : {A : Type 0} (n : ℕ) (new old : List A) → 0 ≡ n → over new old ≡ filled n new old
+filled-done n new old e = rw (← e)

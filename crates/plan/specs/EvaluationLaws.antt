@@ -1,0 +1,148 @@
+-- Laws of evaluation: how many wires there are, that bits stay bits, and that unused places of the wires' array do not show.
+use mathlib.Core.Path.{_≡_, refl, sym, ap, _∙_, fun-ext}
+use mathlib.Core.List.{List, [], _∷_, _++_}
+use Prim.Native.Nat.{ℕ, zero, suc, _+_, _-_, _*_, _/_, _%_, _^_, _<_, _≤_}
+use native.Mathlib.Omega.{arith}
+use native.Mathlib.Numerals.{add-one}
+use native.Mathlib.Decide.{decLt, ℕ-discrete}
+use borrow.Author.Tests.{leb-true, eqb-true}
+use lib.Dec.{leb, eqb}
+use lib.ListN.{length, getD, set, length-append, List·getD-eq-default}
+use Rattle.fault.specs.declared.Fault.{Fault}
+use Rattle.fault.specs.Buffers.{over}
+use Rattle.fault.specs.BuffersLaws.{over-more}
+use Rattle.fault.specs.Checks.{unless, firstOf}
+use Rattle.fault.specs.ChecksLaws.{unless-passes, both-pass, each-passes}
+use Rattle.plan.specs.declared.record.Plan.{Plan}
+use Rattle.plan.specs.declared.record.PlanWire.{PlanWire}
+use Rattle.plan.specs.Record.{maxInputs, maxGates, maxOutputs, places, gateAt, outputAt, gateWire}
+use Rattle.plan.specs.RecordLaws.{places-more, getD-places}
+use Rattle.plan.specs.Faults.{planFault, Accepted}
+use Rattle.plan.specs.FaultsLaws.{GateWithin, accepted-counts, accepted-gate, accepted-output}
+use Rattle.plan.specs.Evaluation.{listOf, valueOn, planWires, namedBy, tableBit, gateBit, contactFault, shortFault, evaluateFault}
+
+-- the wires of the largest plan
+abbrev pub maxWires : ℕ
+maxWires = maxInputs + maxGates
+
+-- an accepted plan with a row of its inputs
+pub record Evaluable (p : Plan) (row : List ℕ) : Type 0 where
+  pub accepted : Accepted p
+  pub contacts : contactFault (p .inputs) row ≡ 0
+
+module _ {A : Type 0} (none : A) (act : ℕ → ℕ → A → A → A) (p : Plan) (row : List A) where
+  pub length-planWires : (n : ℕ) → length (planWires none act p row n) ≡ length row + n
+  unfolding planWires
+  length-planWires zero = omega arith
+  length-planWires (suc n) = length-append (planWires none act p row n) _ ∙ omega (arith, length-planWires n)
+
+-- a row that passes its check: one entry for each input, each 0 or 1
+module _ (u : ℕ) (row : List ℕ) (contacts : contactFault u row ≡ 0) where
+  both : (unless (eqb (length row) u) Fault.Contact ≡ 0) × (firstOf (λ i. unless (leb (getD row i 0) 1) Fault.Contact) (length row) ≡ 0)
+  unfolding contactFault
+  both = both-pass (unless (eqb (length row) u) Fault.Contact) _ contacts
+
+  pub row-length : length row ≡ u
+  row-length = eqb-true (length row) u (unless-passes _ Fault.Contact (both .0))
+
+  pub row-bit : (i : ℕ) → getD row i 0 ≤ 1
+  row-bit i = elim (decLt i (length row)) [
+    | yes y ↦ leb-true _ 1 (unless-passes _ Fault.Contact (each-passes (λ j. unless (leb (getD row j 0) 1) Fault.Contact) (length row) i (both .1) y))
+    | no n ↦ rw (List·getD-eq-default row 0 {n = i} (omega arith)) (omega arith)
+  ]
+
+pub table-bit : (t a b : ℕ) → tableBit t a b ≤ 1
+unfolding tableBit
+table-bit t a b = omega arith
+
+-- one entry more, and all are bits
+more-bits : (xs : List ℕ) (x : ℕ) → ((i : ℕ) → getD xs i 0 ≤ 1) → x ≤ 1 → (i : ℕ) → getD (xs ++ (x ∷ [])) i 0 ≤ 1
+more-bits [] x hs hx zero = hx
+more-bits [] x hs hx (suc i) = omega arith
+more-bits (y ∷ ys) x hs hx zero = hs 0
+more-bits (y ∷ ys) x hs hx (suc i) = more-bits ys x (λ j. hs (suc j)) hx i
+
+pub wire-bit : (p : Plan) (row : List ℕ) → ((i : ℕ) → getD row i 0 ≤ 1) → (n i : ℕ) → getD (planWires 0 gateBit p row n) i 0 ≤ 1
+unfolding planWires
+wire-bit p row h zero i = h i
+wire-bit p row h (suc n) i = more-bits (planWires 0 gateBit p row n) _ (wire-bit p row h n) (table-bit _ _ _) i
+
+-- where gate i of an accepted plan and its operands stand
+pub record GateRoom (p : Plan) (i : ℕ) : Type 0 where
+  pub place : i < maxGates
+  pub within : GateWithin (gateWire (p .inputs) i) (gateAt p i)
+  pub own : p .inputs + i < maxWires
+  pub upTo : gateWire (p .inputs) i ≤ maxWires
+
+-- where output j of an accepted plan and its wire stand
+pub record OutputRoom (p : Plan) (j : ℕ) : Type 0 where
+  pub place : j < maxOutputs
+  pub someWire : 1 ≤ outputAt p j .0
+  pub upTo : outputAt p j .0 ≤ maxWires
+
+pub output-room : (p : Plan) → Accepted p → (j : ℕ) → j < p .«output_count» → OutputRoom p j
+output-room p accepted j h =
+    let c = accepted-counts p accepted in
+    let o = accepted-output p accepted j h in
+    record { place = omega arith; someWire = omega arith; upTo = omega arith }
+
+pub length-listOf : {A : Type 0} (n : ℕ) (f : ℕ → A) → length (listOf n f) ≡ n
+unfolding listOf
+length-listOf zero f = refl
+length-listOf (suc n) f = length-append (listOf n f) _ ∙ omega (arith, length-listOf n f)
+
+-- one entry more of a list that is written from the front of a buffer
+pub listOf-over : {A : Type 0} (n : ℕ) (f : ℕ → A) (old : List A) → n < length old → set (over (listOf n f) old) n (f n) ≡ over (listOf (n + 1) f) old
+unfolding listOf
+listOf-over n f old h =
+    let l = length-listOf n f in
+    rw (add-one n) (ap (λ m. set (over (listOf n f) old) m (f n)) (sym l) ∙ over-more (listOf n f) old (f n) (omega arith))
+
+module _ (p : Plan) (row : List ℕ) (e : Evaluable p row) where
+  pub row-room : length row ≤ maxWires
+  row-room =
+      let c = accepted-counts p (e .accepted) in
+      let l = row-length (p .inputs) row (e .contacts) in
+      omega arith
+
+  pub gate-room : (i : ℕ) → i < p .«gate_count» → GateRoom p i
+  gate-room i h =
+      let c = accepted-counts p (e .accepted) in
+      record { place = omega arith; within = accepted-gate p (e .accepted) i h; own = omega arith; upTo = omega arith }
+
+  pub held-bit : (wires : List ℕ) (i n : ℕ) → wires ≡ places maxWires 0 (planWires 0 gateBit p row i) → getD wires n 0 ≤ 1
+  held-bit wires i n h =
+      rw (h, getD-places maxWires 0 (planWires 0 gateBit p row i) n)
+      (wire-bit p row (row-bit (p .inputs) row (e .contacts)) i n)
+
+  -- gate i's bit r goes to its own wire
+  pub gate-held : (wires : List ℕ) (i r : ℕ) → i < p .«gate_count» → wires ≡ places maxWires 0 (planWires 0 gateBit p row i)
+      → r ≡ tableBit (gateAt p i .table) (valueOn 0 wires (gateAt p i .first)) (valueOn 0 wires (gateAt p i .second))
+      → set wires (p .inputs + i) r ≡ places maxWires 0 (planWires 0 gateBit p row (i + 1))
+  unfolding planWires
+  gate-held wires i r h held er =
+      let ws = planWires 0 gateBit p row i in
+      let g = gate-room i h in
+      let l = row-length (p .inputs) row (e .contacts) in
+      let lw : length ws ≡ p .inputs + i = length-planWires 0 gateBit p row i ∙ ap (λ n. n + i) l in
+      rw (add-one i, er, held, getD-places maxWires 0 ws (gateAt p i .first .0 - 1), getD-places maxWires 0 ws (gateAt p i .second .0 - 1))
+      (places-more maxWires 0 ws _ (p .inputs + i) lw (g .own))
+
+-- what the checks of evaluation give where none fails
+pub record EvaluationPasses (p : Plan) (row : List ℕ) (n : ℕ) : Type 0 where
+  pub evaluable : Evaluable p row
+  pub room : p .«output_count» ≤ n
+
+pub evaluation-passes : (p : Plan) (row : List ℕ) (n : ℕ) → evaluateFault p row n ≡ 0 → EvaluationPasses p row n
+unfolding shortFault
+evaluation-passes p row n e =
+    let a = both-pass (planFault p) _ e in
+    let b = both-pass (contactFault (p .inputs) row) _ (a .1) in
+    record {
+      evaluable = record { accepted = a .0; contacts = b .0 };
+      room = leb-true (p .«output_count») n (unless-passes _ Fault.Short (b .1))
+    }
+
+-- unused places of the wires' array do not show in the outputs
+pub named-places : (p : Plan) (ws : List ℕ) (n m : ℕ) → namedBy 0 p (places n 0 ws) m ≡ namedBy 0 p ws m
+named-places p ws n m = ap (listOf m) (fun-ext (λ j. getD-places n 0 ws (outputAt p j .0 - 1)))

@@ -1,0 +1,131 @@
+// Plan evaluation: what an accepted plan gives on a row of inputs. Checks come first and touch no buffer.
+ghost use mathlib.Core.Path.{_≡_};
+ghost use Prim.Native.Nat.{_-_, _≤_};
+ghost use lib.ListN.{length};
+ghost use Rattle.fault.specs.Number.{answerNumber};
+ghost use Rattle.fault.specs.Buffers.{over};
+ghost use Rattle.plan.specs.Record.{places};
+ghost use Rattle.plan.specs.Faults.{Accepted};
+ghost use Rattle.plan.specs.Evaluation.{tableBit, gateBit, planWires, namedBy, contactFault, evaluateFault, evaluateResult};
+ghost use Rattle.plan.specs.EvaluationLaws.{maxWires, Evaluable};
+use crate::faults::plan_fault;
+use crate::record::Plan;
+use crate::record::PlanWire;
+use fault::Answer;
+use fault::Fault;
+
+// The wires of the largest plan.
+const MAX_WIRES: usize = Plan::MAX_INPUTS + Plan::MAX_GATES;
+
+// The plan's outputs on a row of inputs, each 0 or 1, into the first entries of the result.
+pub fn evaluate(plan: Plan, row: &[u8], result: &mut [u8]) -> Answer
+    ensures answered { λ r. ⌜ answerNumber r ≡ evaluateFault plan (now (row .entry)) (length (now (result .entry))) ⌝ }
+    ensures written { λ _. ⌜ now (result .exit) ≡ evaluateResult plan (now (row .entry)) (now (result .entry)) ⌝ }
+{
+    match check_evaluate(plan, row, result.len()) {
+        Answer::Refused(f) => Answer::Refused(f),
+        Answer::Done => {
+            write_outputs(plan, gate_wires(plan, row), result);
+            Answer::Done
+        }
+    }
+}
+
+// The checks of evaluation: plan faults, 12, 11.
+fn check_evaluate(plan: Plan, row: &[u8], room: usize) -> Answer
+    ensures { λ r. ⌜ answerNumber r ≡ evaluateFault plan (now (row .entry)) room ⌝ }
+{
+    match plan_fault(plan) {
+        Answer::Refused(f) => Answer::Refused(f),
+        Answer::Done => match contact_fault(plan.inputs as usize, row) {
+            Answer::Refused(f) => Answer::Refused(f),
+            Answer::Done => {
+                if room < plan.output_count as usize {
+                    return Answer::Refused(Fault::Short);
+                }
+                Answer::Done
+            }
+        },
+    }
+}
+
+// Whether a row has one entry for each input, each 0 or 1.
+fn contact_fault(inputs: usize, row: &[u8]) -> Answer
+    ensures { λ r. ⌜ answerNumber r ≡ contactFault inputs (now (row .entry)) ⌝ }
+{
+    if row.len() != inputs {
+        return Answer::Refused(Fault::Contact);
+    }
+    let mut i: usize = 0;
+    while i < row.len() {
+        if 1 < row[i] {
+            return Answer::Refused(Fault::Contact);
+        }
+        i += 1;
+    }
+    Answer::Done
+}
+
+// The bit that a gate's table gives for its operands' bits.
+fn gate_bit(table: u8, a: u8, b: u8) -> u8
+    requires { ⌜ (a ≤ 1) × (b ≤ 1) ⌝ }
+    ensures { λ r. ⌜ (r ≡ tableBit table a b) × (r ≤ 1) ⌝ }
+{
+    (table >> (2 * a + b)) & 1
+}
+
+// The inputs' bits on their wires, the other wires 0. Wire w stands at place w - 1.
+fn input_wires(row: &[u8]) -> [u8; MAX_WIRES]
+    requires { ⌜ length (now row) ≤ maxWires ⌝ }
+    ensures { λ r. ⌜ r ≡ places maxWires 0 (now (row .entry)) ⌝ }
+{
+    let mut wires = [0u8; MAX_WIRES];
+    let mut i: usize = 0;
+    while i < row.len() {
+        wires[i] = row[i];
+        i += 1;
+    }
+    wires
+}
+
+// The place of a wire's bit.
+fn place_of(wire: PlanWire) -> usize
+    requires { ⌜ 1 ≤ wire .0 ⌝ }
+    ensures { λ r. ⌜ r ≡ wire .0 - 1 ⌝ }
+{
+    wire.0 as usize - 1
+}
+
+// The bits on all wires of the plan.
+fn gate_wires(plan: Plan, row: &[u8]) -> [u8; MAX_WIRES]
+    requires { ⌜ Evaluable plan (now row) ⌝ }
+    ensures { λ r. ⌜ r ≡ places maxWires 0 (planWires 0 gateBit plan (now (row .entry)) (plan .«gate_count»)) ⌝ }
+{
+    let inputs = plan.inputs as usize;
+    let count = plan.gate_count as usize;
+    let mut wires = input_wires(row);
+    let mut i: usize = 0;
+    while i < count {
+        let gate = plan.gates[i];
+        let a = wires[place_of(gate.first)];
+        let b = wires[place_of(gate.second)];
+        wires[inputs + i] = gate_bit(gate.table, a, b);
+        i += 1;
+    }
+    wires
+}
+
+// The bits on the wires that the outputs name, into the first entries of the result.
+fn write_outputs(plan: Plan, wires: [u8; MAX_WIRES], result: &mut [u8])
+    requires { ⌜ Accepted plan ⌝ }
+    requires { ⌜ plan .«output_count» ≤ length (now result) ⌝ }
+    ensures { λ _. ⌜ now (result .exit) ≡ over (namedBy 0 plan wires (plan .«output_count»)) (now (result .entry)) ⌝ }
+{
+    let count = plan.output_count as usize;
+    let mut i: usize = 0;
+    while i < count {
+        let wire = plan.outputs[i];
+        result[i] = wires[place_of(wire)];
+        i += 1;
+    }
+}
