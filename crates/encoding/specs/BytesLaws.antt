@@ -12,7 +12,8 @@ use Rattle.plan.specs.Rules.{operandAllowed}
 use Rattle.plan.specs.PlanFile.{mapBit}
 use Rattle.plan.specs.Faults.{Accepted}
 use Rattle.encoding.specs.Encoding.{byte, word, whereStanding, encodeGate, joined, encode, LeavesOutDefaults, Choice, OfBytes}
-use Rattle.encoding.specs.AcceptedLaws.{AllowedGate, accepted-allowed, count-bounds, map-bound, operand-bound, table-bound, source-bound}
+use Rattle.plan.specs.RulesLaws.{count-bounds, map-bound, operand-bounds, table-bound, source-bounds}
+use Rattle.plan.specs.FaultsLaws.{AllowedGate, accepted-allowed}
 
 -- numbers written in one and two bytes
 byte-bytes : (n : ℕ) → n < 256 → OfBytes (byte n)
@@ -41,7 +42,7 @@ joined-bytes f (suc n) h = append-bytes (joined n f) (f n) (joined-bytes f n (λ
 
 -- an operand of the gate whose own wire is `own`
 operand-bytes : (stands : Bool) (own w : ℕ) → own < 65536 → operandAllowed own w ≡ true → OfBytes (whereStanding stands (word w))
-operand-bytes stands own w h allowed = standing-bytes stands (word w) (word-bytes w (omega (arith, operand-bound own w allowed)))
+operand-bytes stands own w h allowed = standing-bytes stands (word w) (word-bytes w (omega (arith, operand-bounds own w allowed .1)))
 
 -- a gate
 gate-bytes : (own m : ℕ) (g : Gate) → own < 65536 → AllowedGate own g → LeavesOutDefaults own m g → OfBytes (encodeGate m g)
@@ -72,4 +73,4 @@ encode-bytes maps p ok choice =
     (append-bytes (word v) (gs ++ os) (word-bytes v (omega arith))
     (append-bytes gs os
     (joined-bytes _ k (λ i l. gate-bytes (gateWire u i) (maps i) (gateAt p i) (omega arith) (allowed .gate i l) (choice i l)))
-    (joined-bytes _ v (λ j l. word-bytes (outputAt p j .0) (omega (arith, source-bound u k (outputAt p j .0) (allowed .output j l))))))))
+    (joined-bytes _ v (λ j l. word-bytes (outputAt p j .0) (omega (arith, source-bounds u k (outputAt p j .0) (allowed .output j l) .1)))))))

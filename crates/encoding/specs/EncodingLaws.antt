@@ -14,16 +14,18 @@ use Rattle.plan.specs.declared.record.Gate.{Gate}
 use Rattle.plan.specs.declared.record.Plan.{Plan}
 use Rattle.plan.specs.declared.record.PlanWire.{PlanWire}
 use Rattle.plan.specs.Record.{maxInputs, maxGates, maxOutputs, wire, zeroGate, planOf, gateAt, outputAt, gateWire}
+use Rattle.plan.specs.RecordLaws.{getD-places}
 use Rattle.plan.specs.Rules.{countAllowed, mapAllowed, operandAllowed, tableAllowed, sourceAllowed}
 use Rattle.plan.specs.Parsing.{Parsed, got}
 use Rattle.plan.specs.PlanFile.{mapBit, gateStep, outputStep, notStub, atEnd, planFile, outcome, planRead}
 use Rattle.plan.specs.Faults.{Accepted}
 use Rattle.encoding.specs.Encoding.{byte, word, whereStanding, encodeGate, joined, encode, LeavesOutDefaults, Choice, used, OfBytes, Encoded}
-use Rattle.encoding.specs.ListLaws.{joined-length, joined-shorter, places-at, used-places}
+use Rattle.encoding.specs.ListLaws.{joined-length, joined-shorter, used-places}
 use Rattle.encoding.specs.ReadingLaws.{Stands, stands-append, stands-split, nothing-stands, whole-stands, stands-to-end, stands-length}
 use Rattle.encoding.specs.ReadingLaws.{byte-coded, word-coded, field-reads, standing-reads, in-order-reads}
 use Rattle.encoding.specs.ReadingLaws.{Gives, gives, refuses, gives-then, by-test, field-gives, standing-gives, Items, in-order-gives}
-use Rattle.encoding.specs.AcceptedLaws.{AllowedGate, AllowedPlan, accepted-allowed, count-bounds, default-allowed}
+use Rattle.plan.specs.RulesLaws.{count-bounds, default-allowed}
+use Rattle.plan.specs.FaultsLaws.{AllowedGate, AllowedPlan, accepted-allowed}
 
 -- a gate is read where its bytes stand
 gate-reads : (s : List ℕ) (own m : ℕ) (g : Gate) (at next : ℕ) → AllowedGate own g → LeavesOutDefaults own m g
@@ -93,15 +95,15 @@ encoded s u k v gs os a b c d e inputs gates outputs each-gate each-output end =
     inputs = inputs .0;
     gates = gates .0;
     outputs = outputs .0;
-    gate = λ i l. rw places-at (each-gate .each i l .1);
-    output = λ j l. rw places-at (each-output .each j l);
+    gate = λ i l. rw getD-places (each-gate .each i l .1);
+    output = λ j l. rw getD-places (each-output .each j l);
   });
   zeroed = ap₂ (planOf u k v) (used-places maxGates zeroGate gs k (each-gate .count)) (used-places maxOutputs (wire 0) os v (each-output .count));
   maps = λ i. getD (each-gate .choices) i 0;
-  choice = λ i l. rw places-at (each-gate .each i l .0);
+  choice = λ i l. rw getD-places (each-gate .each i l .0);
   file =
       let items = stands-append (each-gate .stands) (each-output .stands) in
-      simp places-at (stands-to-end (stands-append (inputs .1) (stands-append (gates .1) (stands-append (outputs .1) items))) end);
+      simp getD-places (stands-to-end (stands-append (inputs .1) (stands-append (gates .1) (stands-append (outputs .1) items))) end);
 }
 
 -- what each step gives: a gate, if its default operand is allowed
@@ -241,8 +243,8 @@ largest-accepted = accepted-allowed largest .1 (record {
   outputs = refl;
   gate = λ i l.
       let below : ltb 1 (gateWire 1 i) ≡ true = lt-ltb 1 (gateWire 1 i) (omega arith) in
-      rw (places-at, getD-replicate) (record { first = below; second = below; table = refl });
-  output = λ j l. rw (places-at, getD-replicate);
+      rw (getD-places, getD-replicate) (record { first = below; second = below; table = refl });
+  output = λ j l. rw (getD-places, getD-replicate);
 })
 
 -- the bound is met: with every field standing, that plan's file has 1670 bytes

@@ -5,8 +5,6 @@ pub mod Encoding
 pub mod ListLaws
 -- what reading steps read, and what they give
 pub mod ReadingLaws
--- a plan is accepted exactly if each part of it is allowed
-pub mod AcceptedLaws
 -- a plan's files are of bytes
 pub mod BytesLaws
 -- reading a plan's file gives the plan, what is read is such a file, and how long a file can be

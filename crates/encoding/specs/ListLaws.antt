@@ -6,6 +6,7 @@ use mathlib.Core.List.{List, [], _∷_, _++_}
 use lib.ListN.{length, getD, take, replicate, length-append}
 use lib.Seq.{take-suc, take-length}
 use Rattle.plan.specs.Record.{places}
+use Rattle.plan.specs.RecordLaws.{getD-places}
 use Rattle.plan.specs.Evaluation.{listOf}
 use Rattle.encoding.specs.Encoding.{joined}
 
@@ -27,19 +28,6 @@ unfolding joined
 joined-shorter f g zero h = omega arith
 joined-shorter f g (suc n) h = simp length-append (omega (arith, joined-shorter f g n h, h n))
 
--- values followed by `none`: at any place what is found in the values
-padded : {A : Type 0} (none : A) (xs : List A) (m i : ℕ) → getD (xs ++ replicate m none) i none ≡ getD xs i none
-padded none [] zero i = refl
-padded none [] (suc m) zero = refl
-padded none [] (suc m) (suc i) = padded none [] m i
-padded none (x ∷ xs) m zero = refl
-padded none (x ∷ xs) m (suc i) = padded none xs m i
-
--- what stands at a place, also past the values
-pub places-at : {A : Type 0} (n : ℕ) (none : A) (xs : List A) (i : ℕ) → getD (places n none xs) i none ≡ getD xs i none
-unfolding places
-places-at n none xs i = padded none xs (n - length xs) i
-
 -- the first n values, listed
 listed : {A : Type 0} (none : A) (xs : List A) (n : ℕ) → n ≤ length xs → listOf n (λ i. getD xs i none) ≡ take n xs
 unfolding listOf
@@ -49,4 +37,4 @@ listed none xs (suc n) h = cc (listed none xs n (omega arith), take-suc xs n non
 -- the used places, listed, are the values
 pub used-places : {A : Type 0} (m : ℕ) (none : A) (xs : List A) (n : ℕ) → length xs ≡ n
     → listOf n (λ i. getD (places m none xs) i none) ≡ xs
-used-places m none xs n h = simp places-at (listed none xs n (omega arith) ∙ rw (← h, take-length xs))
+used-places m none xs n h = simp getD-places (listed none xs n (omega arith) ∙ rw (← h, take-length xs))

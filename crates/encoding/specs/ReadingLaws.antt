@@ -13,8 +13,7 @@ use lib.ListN.{length, getD, drop, length-append, length-drop, drop-of-length-le
 use lib.Seq.{drop-length, drop-drop, drop-append-seam, drop-cons, getD-drop, getD-at}
 use borrow.Author.Tests.{ltb-false, le-ltb}
 use Rattle.fault.specs.declared.Fault.{Fault}
-use Rattle.fault.specs.declared.Fault.the-variants.{Stub, Inputs, Gates, Outputs, Cut, Map, Operand, Table, Source, Tail, Short, Contact, Fabric, Program}
-use Rattle.fault.specs.Number.{faultNumber}
+use Rattle.fault.specs.ChecksLaws.{number-positive}
 use Rattle.plan.specs.Parsing.{Parsed, got, refused, Step, followed, field, wordAt, byteAt, standing, inOrder}
 use Rattle.plan.specs.Evaluation.{listOf}
 use Rattle.encoding.specs.ListLaws.{joined-same}
@@ -64,25 +63,6 @@ module _ {s : List ℕ} where
   -- a byte of what stands
   pub stands-at : {e : List ℕ} {a c : ℕ} (i : ℕ) → Stands s a e c → i < length e → getD s (a + i) 0 ≡ getD e i 0
   stands-at {e} {a} {c} i x h = cc (getD-drop a s i 0, List·getD-append e (drop c s) 0 i h)
-
--- no fault has the number 0
-pub fault-positive : (f : Fault) → 1 ≤ faultNumber f
-fault-positive = elim [
-  | Stub ↦ lit≤ tt
-  | Inputs ↦ lit≤ tt
-  | Gates ↦ lit≤ tt
-  | Outputs ↦ lit≤ tt
-  | Cut ↦ lit≤ tt
-  | Map ↦ lit≤ tt
-  | Operand ↦ lit≤ tt
-  | Table ↦ lit≤ tt
-  | Source ↦ lit≤ tt
-  | Tail ↦ lit≤ tt
-  | Short ↦ lit≤ tt
-  | Contact ↦ lit≤ tt
-  | Fabric ↦ lit≤ tt
-  | Program ↦ lit≤ tt
-]
 
 -- what reading gave: P holds of the value and the next cursor, or the refusal's number is not 0
 pub data Gives {A : Type 0} (P : A → ℕ → Type 0) : Parsed A → Type 0 where
@@ -147,7 +127,7 @@ module _
       (λ cut. rw cut (refuses (lit≤ tt)))
       (λ enough. rw enough (by-test (allowed (value s at))
       (λ h. rw h (gives (h, c .writes s at small (ltb-false (length s - at) width enough))))
-      (λ h. rw h (refuses (fault-positive f)))))
+      (λ h. rw h (refuses (number-positive f)))))
 
   -- a field that stands, or is left out and equals its default, is read
   pub standing-reads : (stands : Bool) (default at next w : ℕ) → Stands s at (whereStanding stands (bytes w)) next

@@ -1,6 +1,8 @@
 -- Laws of checks in order: a check that failed stays the answer, and where none fails each of them passes.
 use mathlib.Core.Path.{_≡_, refl, sym, ap, _∙_}
-use mathlib.Core.Bool.{Bool, true, false}
+use mathlib.Core.Bool.{Bool, true, false, false≢true}
+use mathlib.Core.Logic.{_↔_}
+use lib.Dec.{lit≤}
 use Prim.Native.Nat.{ℕ, zero, suc, _<_, _≤_}
 use native.Mathlib.Omega.{arith}
 use native.Mathlib.Decide.{ℕ-discrete}
@@ -11,24 +13,43 @@ use Rattle.fault.specs.Checks.{unless, andThen, firstOf}
 
 -- no word has the number 0
 pub number-positive : (f : Fault) → 1 ≤ faultNumber f
-number-positive Stub = omega arith
-number-positive Inputs = omega arith
-number-positive Gates = omega arith
-number-positive Outputs = omega arith
-number-positive Cut = omega arith
-number-positive Map = omega arith
-number-positive Operand = omega arith
-number-positive Table = omega arith
-number-positive Source = omega arith
-number-positive Tail = omega arith
-number-positive Short = omega arith
-number-positive Contact = omega arith
-number-positive Fabric = omega arith
-number-positive Program = omega arith
+number-positive = elim [
+  | Stub ↦ lit≤ tt
+  | Inputs ↦ lit≤ tt
+  | Gates ↦ lit≤ tt
+  | Outputs ↦ lit≤ tt
+  | Cut ↦ lit≤ tt
+  | Map ↦ lit≤ tt
+  | Operand ↦ lit≤ tt
+  | Table ↦ lit≤ tt
+  | Source ↦ lit≤ tt
+  | Tail ↦ lit≤ tt
+  | Short ↦ lit≤ tt
+  | Contact ↦ lit≤ tt
+  | Fabric ↦ lit≤ tt
+  | Program ↦ lit≤ tt
+]
 
-pub unless-passes : (t : Bool) (f : Fault) → unless t f ≡ 0 → t ≡ true
-unless-passes true f e = refl
-unless-passes false f e = absurd (omega (arith, number-positive f))
+-- a test gives no fault exactly if it holds
+pub unless-zero : (test : Bool) (f : Fault) → (unless test f ≡ 0) ↔ (test ≡ true)
+unless-zero true f = (λ _. refl, λ _. refl)
+unless-zero false f = (λ e. absurd (omega (arith, number-positive f)), λ e. absurd (false≢true e))
+
+-- two checks pass exactly if each does
+pub and-then-zero : (a b : ℕ) → (andThen a b ≡ 0) ↔ ((a ≡ 0) × (b ≡ 0))
+and-then-zero zero b = (λ h. (refl, h), λ h. h .1)
+and-then-zero (suc a) b = (λ h. absurd (omega arith), λ h. absurd (omega arith))
+
+-- n checks pass exactly if each does
+pub first-of-zero : (check : ℕ → ℕ) (n : ℕ) → (firstOf check n ≡ 0) ↔ ((i : ℕ) → i < n → check i ≡ 0)
+unfolding firstOf
+first-of-zero check zero = (λ h i l. absurd (omega arith), λ h. refl)
+first-of-zero check (suc n) =
+    let (each, first) = first-of-zero check n in
+    let (both, then) = and-then-zero (firstOf check n) (check n) in (
+      λ h i l. elim (ℕ-discrete i n) [ yes e ↦ rw e (both h .1) | no d ↦ each (both h .0) i (omega arith) ],
+      λ h. then (first (λ i l. h i (omega arith)), h n (omega arith)),
+    )
 
 -- a failing check decides
 pub fails : (a b : ℕ) → 1 ≤ a → andThen a b ≡ a
@@ -41,11 +62,6 @@ first-refuses f a b e = e ∙ sym (fails a b (rw e at (number-positive f)))
 
 pub second-answers : (m a b : ℕ) → 0 ≡ a → m ≡ b → m ≡ andThen a b
 second-answers m a b z e = rw (← z) e
-
--- where both pass, each does
-pub both-pass : (a b : ℕ) → andThen a b ≡ 0 → (a ≡ 0) × (b ≡ 0)
-both-pass zero b e = (refl, e)
-both-pass (suc a) b e = absurd (omega arith)
 
 module _ (check : ℕ → ℕ) where
   pub first-passes : (n : ℕ) → firstOf check n ≡ 0 → check n ≡ 0 → firstOf check (suc n) ≡ 0
@@ -69,21 +85,3 @@ module _ (check : ℕ → ℕ) where
   first-fails k n m h z e p =
       let one : firstOf check (suc n) ≡ check n = rw z in
       e ∙ sym one ∙ sym (still-first k (suc n) h (rw one (rw e at p)))
-
-  -- where none fails, each passes
-  pub each-passes : (n i : ℕ) → firstOf check n ≡ 0 → i < n → check i ≡ 0
-  unfolding firstOf
-  each-passes zero i e h = absurd (omega arith)
-  each-passes (suc n) i e h =
-      let b = both-pass (firstOf check n) (check n) e in
-      let ih = each-passes n i (b .0) in
-      elim (ℕ-discrete i n) [
-        | yes y ↦ rw y (b .1)
-        | no d ↦ ih (omega arith)
-      ]
-
-  -- where each passes, none fails
-  pub none-fails : (n : ℕ) → ((i : ℕ) → i < n → check i ≡ 0) → firstOf check n ≡ 0
-  unfolding firstOf
-  none-fails zero h = refl
-  none-fails (suc n) h = rw (none-fails n (λ i l. h i (omega arith))) (h n (omega arith))

@@ -1,5 +1,6 @@
 -- Laws of evaluation: how many wires there are, that bits stay bits, and that unused places of the wires' array do not show.
 use mathlib.Core.Path.{_≡_, refl, sym, ap, _∙_, fun-ext}
+use mathlib.Core.Bool.{true}
 use mathlib.Core.List.{List, [], _∷_, _++_}
 use Prim.Native.Nat.{ℕ, zero, suc, _+_, _-_, _*_, _/_, _%_, _^_, _<_, _≤_}
 use native.Mathlib.Omega.{arith}
@@ -8,11 +9,9 @@ use native.Mathlib.Decide.{decLt, ℕ-discrete}
 use borrow.Author.Tests.{leb-true, eqb-true}
 use lib.Dec.{leb, eqb}
 use lib.ListN.{length, getD, set, length-append, List·getD-eq-default}
-use Rattle.fault.specs.declared.Fault.{Fault}
 use Rattle.fault.specs.Buffers.{over}
 use Rattle.fault.specs.BuffersLaws.{over-more}
-use Rattle.fault.specs.Checks.{unless, firstOf}
-use Rattle.fault.specs.ChecksLaws.{unless-passes, both-pass, each-passes}
+use Rattle.fault.specs.ChecksLaws.{unless-zero, and-then-zero, first-of-zero}
 use Rattle.plan.specs.declared.record.Plan.{Plan}
 use Rattle.plan.specs.declared.record.PlanWire.{PlanWire}
 use Rattle.plan.specs.Record.{maxInputs, maxGates, maxOutputs, places, gateAt, outputAt, gateWire}
@@ -38,16 +37,16 @@ module _ {A : Type 0} (none : A) (act : ℕ → ℕ → A → A → A) (p : Plan
 
 -- a row that passes its check: one entry for each input, each 0 or 1
 module _ (u : ℕ) (row : List ℕ) (contacts : contactFault u row ≡ 0) where
-  both : (unless (eqb (length row) u) Fault.Contact ≡ 0) × (firstOf (λ i. unless (leb (getD row i 0) 1) Fault.Contact) (length row) ≡ 0)
+  passed : (eqb (length row) u ≡ true) × ((i : ℕ) → i < length row → leb (getD row i 0) 1 ≡ true)
   unfolding contactFault
-  both = both-pass (unless (eqb (length row) u) Fault.Contact) _ contacts
+  passed = simp (and-then-zero, first-of-zero, unless-zero) at contacts
 
   pub row-length : length row ≡ u
-  row-length = eqb-true (length row) u (unless-passes _ Fault.Contact (both .0))
+  row-length = eqb-true (length row) u (passed .0)
 
   pub row-bit : (i : ℕ) → getD row i 0 ≤ 1
   row-bit i = elim (decLt i (length row)) [
-    | yes y ↦ leb-true _ 1 (unless-passes _ Fault.Contact (each-passes (λ j. unless (leb (getD row j 0) 1) Fault.Contact) (length row) i (both .1) y))
+    | yes y ↦ leb-true _ 1 (passed .1 i y)
     | no n ↦ rw (List·getD-eq-default row 0 {n = i} (omega arith)) (omega arith)
   ]
 
@@ -136,12 +135,8 @@ pub record EvaluationPasses (p : Plan) (row : List ℕ) (n : ℕ) : Type 0 where
 pub evaluation-passes : (p : Plan) (row : List ℕ) (n : ℕ) → evaluateFault p row n ≡ 0 → EvaluationPasses p row n
 unfolding shortFault
 evaluation-passes p row n e =
-    let a = both-pass (planFault p) _ e in
-    let b = both-pass (contactFault (p .inputs) row) _ (a .1) in
-    record {
-      evaluable = record { accepted = a .0; contacts = b .0 };
-      room = leb-true (p .«output_count») n (unless-passes _ Fault.Short (b .1))
-    }
+    let h = simp (and-then-zero, unless-zero) at e in
+    record { evaluable = record { accepted = h .0; contacts = h .1 .0 }; room = leb-true (p .«output_count») n (h .1 .1) }
 
 -- unused places of the wires' array do not show in the outputs
 pub named-places : (p : Plan) (ws : List ℕ) (n m : ℕ) → namedBy 0 p (places n 0 ws) m ≡ namedBy 0 p ws m

@@ -1,14 +1,11 @@
 -- Laws of the parts. A loop that reads n items to their places has, after i of them, read the first i items and holds them with the other
 -- places zero; the header, then the body, is the whole file.
 use mathlib.Core.Path.{_≡_, refl, sym, ap, _∙_}
-use mathlib.Core.Bool.{true, false, and-eq-true-iff}
 use mathlib.Core.List.{List, [], _∷_, _++_}
 use Prim.Native.Nat.{ℕ, suc, _+_, _<_, _≤_}
 use native.Mathlib.Omega.{arith}
 use native.Mathlib.Numerals.{add-one}
 use lib.ListN.{length, set, length-append}
-use lib.Dec.{leb}
-use borrow.Author.Tests.{leb-true}
 use Rattle.fault.specs.declared.Fault.{Fault}
 use Rattle.plan.specs.declared.record.Gate.{Gate}
 use Rattle.plan.specs.declared.record.Plan.{Plan}
@@ -16,6 +13,7 @@ use Rattle.plan.specs.declared.record.PlanWire.{PlanWire}
 use Rattle.plan.specs.Record.{maxInputs, maxGates, maxOutputs, wire, zeroGate, places, planOf, zeroPlan}
 use Rattle.plan.specs.RecordLaws.{places-more}
 use Rattle.plan.specs.Rules.{countAllowed}
+use Rattle.plan.specs.RulesLaws.{count-bounds}
 use Rattle.plan.specs.Parsing.{Parsed, got, refused, Step, followed, _>>=_, pure, wordAt, inOrder}
 use Rattle.plan.specs.ParsingLaws.{field-allowed, item-got, item-refused, still-refused}
 use Rattle.plan.specs.PlanFile.{countField, planFile}
@@ -86,9 +84,7 @@ zero-blank = blank-of 0 0 0 (omega arith) (omega arith) (omega arith)
 
 -- a count that was read is within its limit
 pub count-within : (limit : ℕ) (f : Fault) (s : List ℕ) (at n next : ℕ) → got n next ≡ countField limit f s at → n ≤ limit
-unfolding countAllowed
-count-within limit f s at n next e =
-    leb-true n limit (and-eq-true-iff (leb 1 n) (leb n limit) .0 (field-allowed 2 wordAt (countAllowed limit) f s at n next e) .1)
+count-within limit f s at n next e = count-bounds limit n (field-allowed 2 wordAt (countAllowed limit) f s at n next e) .1
 
 -- steps may be grouped either way
 assoc : {A B C : Type 0} (f : A → Step B) (g : B → Step C) (s : List ℕ) (x : Parsed A)

@@ -1,11 +1,10 @@
 -- Laws of places that begin with given values, the others zero.
 use mathlib.Core.Path.{_≡_, refl}
 use mathlib.Core.List.{List, [], _∷_, _++_, append-assoc}
-use Prim.Native.Nat.{ℕ, suc, _+_, _-_, _<_}
+use Prim.Native.Nat.{ℕ, zero, suc, _-_, _<_}
 use native.Mathlib.Omega.{arith}
-use native.Mathlib.Decide.{decLt}
-use lib.ListN.{length, getD, set, replicate, length-append, List·getD-append, List·getD-eq-default, length-replicate, getD-replicate}
-use lib.Seq.{set-at, getD-append-add}
+use lib.ListN.{length, getD, set, replicate, length-append}
+use lib.Seq.{set-at}
 use Rattle.plan.specs.Record.{places}
 
 -- one place more is filled
@@ -16,19 +15,15 @@ places-more n none xs x i e h =
     let more : n - length xs ≡ suc (n - length (xs ++ (x ∷ []))) = omega (arith, length-append xs (x ∷ [])) in
     rw (more, append-assoc xs (x ∷ [])) (set-at xs none _ x i e)
 
--- a place past the values holds the default
+-- values followed by `none`: at any place what is found in the values
+padded : {A : Type 0} (none : A) (xs : List A) (m i : ℕ) → getD (xs ++ replicate m none) i none ≡ getD xs i none
+padded none [] zero i = refl
+padded none [] (suc m) zero = refl
+padded none [] (suc m) (suc i) = padded none [] m i
+padded none (x ∷ xs) m zero = refl
+padded none (x ∷ xs) m (suc i) = padded none xs m i
+
+-- what stands at a place, also past the values
 pub getD-places : {A : Type 0} (n : ℕ) (none : A) (xs : List A) (i : ℕ) → getD (places n none xs) i none ≡ getD xs i none
 unfolding places
-getD-places n none xs i = elim (decLt i (length xs)) [
-  | yes y ↦ List·getD-append xs (replicate (n - length xs) none) none i y
-  | no o ↦
-      let e : i ≡ length xs + (i - length xs) = omega arith in
-      rw (List·getD-eq-default xs none {n = i} (omega arith), e, getD-append-add xs (replicate (n - length xs) none) (i - length xs) none)
-      (all-none (n - length xs) (i - length xs))
-]
-  where
-    all-none : (m j : ℕ) → getD (replicate m none) j none ≡ none
-    all-none m j = elim (decLt j m) [
-      | yes y ↦ getD-replicate m j none none y
-      | no o ↦ List·getD-eq-default (replicate m none) none {n = j} (omega (arith, length-replicate m none))
-    ]
+getD-places n none xs i = padded none xs (n - length xs) i
