@@ -1,0 +1,2 @@
+-- what the exports' structs say
+pub mod Exports

@@ -1,0 +1,60 @@
+// The exports for C and Rust, declared in include/mukdalis.h. Each is thin: it calls a library function and gives its answer as a number,
+// 0 where it was done. A slice is a pointer and a length there. A refusal writes through no pointer.
+ghost use mathlib.Core.Path.{_≡_};
+ghost use lib.ListN.{length};
+ghost use Rattle.plan.specs.PlanFile.{planRead};
+ghost use Rattle.plan.specs.Faults.{planFault};
+ghost use Rattle.plan.specs.Evaluation.{evaluateFault, evaluateResult};
+ghost use Rattle.capi.specs.Exports.{outcomeOf};
+use plan::Plan;
+use plan::ReadAnswer;
+
+// The header's struct mkd_read: number and offset 0 where a plan was read, the plan all zero where not.
+#[repr(C)]
+pub struct Read {
+    pub number: u32,
+    pub at: u64,
+    pub plan: Plan,
+}
+
+// Reads the plan that a file holds.
+#[no_mangle]
+pub extern "C" fn mkd_plan_read(file: &[u8]) -> Read
+    ensures { λ r. ⌜ outcomeOf r ≡ planRead (now (file .entry)) ⌝ }
+{
+    let read = plan::read_plan(file);
+    let answer = read.answer;
+    let record = read.plan;
+    match answer {
+        ReadAnswer::Accepted => Read {
+            number: 0,
+            at: 0,
+            plan: record,
+        },
+        ReadAnswer::Refused(x) => {
+            let fault = x.fault;
+            Read {
+                number: fault.number(),
+                at: x.at as u64,
+                plan: record,
+            }
+        }
+    }
+}
+
+// The first fault of a plan in memory.
+#[no_mangle]
+pub extern "C" fn mkd_plan_fault(plan: Plan) -> u32
+    ensures { λ r. ⌜ r ≡ planFault plan ⌝ }
+{
+    plan::plan_fault(plan).number()
+}
+
+// The plan's outputs on a row of inputs.
+#[no_mangle]
+pub extern "C" fn mkd_plan_evaluate(plan: Plan, row: &[u8], result: &mut [u8]) -> u32
+    ensures answered { λ r. ⌜ r ≡ evaluateFault plan (now (row .entry)) (length (now (result .entry))) ⌝ }
+    ensures written { λ _. ⌜ now (result .exit) ≡ evaluateResult plan (now (row .entry)) (now (result .entry)) ⌝ }
+{
+    plan::evaluate(plan, row, result).number()
+}

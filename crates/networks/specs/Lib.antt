@@ -1,0 +1,38 @@
+-- The definitions, in document 01's order. Read alone they give every table and program of P.
+-- lists given place by place
+pub mod Lists
+-- "Elements and their table": rows X, Y and G, their entries, and their run over values of any type
+pub mod Rows
+-- "Program bits follow the rows": where bit p lies, storing bits, packing
+pub mod Bits
+-- "Blocks", P(N): its rows and output wires, its program bits, and which input reaches which output
+pub mod Permutation
+-- P's programming: the rule for the loops of pairs, by itself
+pub mod SideRule
+-- the mapping of a list of wanted inputs
+pub mod Wanted
+-- The laws of the definitions.
+-- lists given place by place
+pub mod ListsLaws
+-- running r ++ s; earlier wires keep their values; decoding undoes `flat`
+pub mod RowsLaws
+-- a stored bit reads back and changes no other; packing and unpacking
+pub mod BitsLaws
+-- the pigeonhole principle, and that orbits close
+pub mod Orbits
+-- the side is the same along a walk, and partners have different sides
+pub mod Loops
+-- the mappings that are left to P's two halves
+pub mod Halves
+-- which input reaches which output: one to one for any bits, and as programmed
+pub mod Routing
+-- P's counts: rows, wires, bits
+pub mod PermutationLaws
+-- what a run of X rows does
+pub mod XRun
+-- P's promises: what its run delivers
+pub mod PermutationRun
+-- the side of a programmed P follows the rule for the loops, and nothing else does
+pub mod SideRuleLaws
+-- a list of distinct wanted inputs is a one-to-one mapping, and P delivers it
+pub mod WantedLaws

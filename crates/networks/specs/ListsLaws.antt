@@ -1,0 +1,87 @@
+-- The length of `listOf n f`, its elements, and when two such lists are equal.
+use mathlib.Core.Path.{_≡_, refl, sym, _∙_}
+use mathlib.Core.Logic.{_⊎_, inl, inr}
+use mathlib.Core.List.{List, [], _∷_, _++_}
+use Prim.Native.Nat.{ℕ, zero, suc, _+_, _-_, _<_, _≤_}
+use native.Mathlib.Nat.{le-refl, le-step, eq-or-lt-of-le, le-of-suc-le-suc, not-suc-le-zero}
+use native.Mathlib.Omega.{arith}
+use native.Mathlib.Decide.{decLt}
+use lib.ListN.{length, getD, length-append, List·getD-append, List·getD-eq-default}
+use lib.Seq.{getD-at, getD-append-add, ext-getD}
+use Rattle.networks.specs.Lists.{listOf, Below, Every, every-none, every-more}
+
+-- an element of a list does not depend on the default
+pub getD-any : {A : Type 0} (l : List A) (i : ℕ) (d e : A) → i < length l → getD l i d ≡ getD l i e
+getD-any [] i d e h = absurd (not-suc-le-zero h)
+getD-any (x ∷ l) zero d e h = refl
+getD-any (x ∷ l) (suc i) d e h = getD-any l i d e (le-of-suc-le-suc h)
+
+module _ {A : Type 0} where
+  pub length-listOf : (n : ℕ) (f : ℕ → A) → length (listOf n f) ≡ n
+  unfolding listOf
+  length-listOf zero f = refl
+  length-listOf (suc n) f = simp length-append (omega (arith, length-listOf n f))
+
+  pub getD-listOf : (n : ℕ) (f : ℕ → A) (i : ℕ) (d : A) → i < n → getD (listOf n f) i d ≡ f i
+  unfolding listOf
+  getD-listOf zero f i d h = absurd (not-suc-le-zero h)
+  getD-listOf (suc n) f i d h = go (getD-listOf n f i d) (eq-or-lt-of-le (le-of-suc-le-suc h))
+    where
+      go : (i < n → getD (listOf n f) i d ≡ f i) → (i ≡ n) ⊎ (i < n) → getD (listOf n f ++ (f n ∷ [])) i d ≡ f i
+      go rec (inl e) = rw e (getD-at (listOf n f) (f n) [] d n (length-listOf n f))
+      go rec (inr l) = List·getD-append (listOf n f) _ d i (rw (length-listOf n f) l) ∙ rec l
+
+  -- past the end too, where f gives the default there
+  pub getD-listOf-all : (n : ℕ) (f : ℕ → A) (i : ℕ) (d : A) → (n ≤ i → f i ≡ d) → getD (listOf n f) i d ≡ f i
+  getD-listOf-all n f i d past = go (decLt i n)
+    where
+      go : Dec (i < n) → getD (listOf n f) i d ≡ f i
+      go (yes l) = getD-listOf n f i d l
+      go (no l) = List·getD-eq-default (listOf n f) d (rw (length-listOf n f) (omega arith)) ∙ sym (past (omega arith))
+
+  pub listOf-ext : (n : ℕ) (f g : ℕ → A) → ((i : ℕ) → i < n → f i ≡ g i) → listOf n f ≡ listOf n g
+  unfolding listOf
+  listOf-ext zero f g e = refl
+  listOf-ext (suc n) f g e = rw (listOf-ext n f g (λ i h. e i (le-step h)), e n (le-refl (suc n)))
+
+  -- a list is the list of its elements
+  pub listOf-getD : (l : List A) (d : A) → listOf (length l) (λ i. getD l i d) ≡ l
+  listOf-getD l d =
+      ext-getD d _ l (length-listOf (length l) _) (λ i h. getD-listOf (length l) _ i d (rw (length-listOf (length l) (λ i. getD l i d)) at h))
+
+-- ---- lists whose elements are all of a kind
+
+module _ {A : Type 0} {P : A → Type 0} where
+  pub every-append : {a b : List A} → Every P a → Every P b → Every P (a ++ b)
+  every-append every-none t = t
+  every-append (every-more p s) t = every-more p (every-append s t)
+
+  pub every-listOf : (n : ℕ) (f : ℕ → A) → ((i : ℕ) → i < n → P (f i)) → Every P (listOf n f)
+  unfolding listOf
+  every-listOf zero f h = every-none
+  every-listOf (suc n) f h = every-append (every-listOf n f (λ i l. h i (le-step l))) (every-more (h n (le-refl (suc n))) every-none)
+
+-- ---- lists of numbers below a limit
+
+pub below-listOf : (limit n : ℕ) (f : ℕ → ℕ) → ((i : ℕ) → i < n → f i < limit) → Below limit (listOf n f)
+below-listOf limit n f h = record { each = λ i l. let m = rw (length-listOf n f) at l in rw (getD-listOf n f i 0 m) (h i m) }
+
+pub below-append : {limit : ℕ} {a b : List ℕ} → Below limit a → Below limit b → Below limit (a ++ b)
+below-append {limit} {a} {b} ha hb = record { each = λ i l. go i l (decLt i (length a)) }
+  where
+    go : (i : ℕ) → i < length (a ++ b) → Dec (i < length a) → getD (a ++ b) i 0 < limit
+    go i l (yes m) = rw (List·getD-append a b 0 i m) (ha .each i m)
+    go i l (no m) =
+        let e : i ≡ length a + (i - length a) = omega arith in
+        rw (e, getD-append-add a b (i - length a) 0) (hb .each (i - length a) (omega (arith, length-append a b)))
+
+pub below-pair : {limit a b : ℕ} → a < limit → b < limit → Below limit (a ∷ b ∷ [])
+below-pair {limit} {a} {b} la lb = record { each = at }
+  where
+    at : (i : ℕ) → i < 2 → getD (a ∷ b ∷ []) i 0 < limit
+    at zero l = la
+    at (suc zero) l = lb
+    at (suc (suc i)) l = absurd (omega arith)
+
+pub below-more : {limit : ℕ} {l : List ℕ} (m : ℕ) → Below limit l → limit ≤ m → Below m l
+below-more m h le = record { each = λ i l. omega (arith, h .each i l) }

@@ -1,0 +1,174 @@
+-- Two laws carry the rest: running r ++ s is running r, then s; and a run keeps the wires that are there.
+-- Then what a run leaves (wires, bits, gate number), and that decoding undoes `flat`.
+use mathlib.Core.Path.{_≡_, refl, sym, ap, _∙_}
+use mathlib.Core.List.{List, [], _∷_, _++_, append-assoc, append-nil}
+use Prim.Native.Nat.{ℕ, zero, suc, _+_, _*_, _^_, _<_}
+use native.Mathlib.Nat.{le-refl, le-step, add-zero, add-assoc, zero-add, le-of-suc-le-suc, not-suc-le-zero}
+use native.Mathlib.Omega.{arith}
+use lib.ListN.{length, getD, drop, length-append, List·getD-append}
+use lib.Seq.{drop-drop}
+use Rattle.networks.specs.Lists.{listOf, Every, every-none, every-more}
+use Rattle.networks.specs.ListsLaws.{length-listOf, every-listOf, below-pair}
+use Rattle.networks.specs.Rows.{Row, X, Y, Gate, inputsOf, makes, takes, gatesIn, total, IsX, is-X, MadeBefore, made-none, made-more}
+use Rattle.networks.specs.Rows.{stride, gateBits, entries, flat, rowOf, decode, InFamily, State, outputs, step, run}
+
+-- ---- lists of rows
+
+pub total-append : (f : Row → ℕ) (r s : List Row) → total f (r ++ s) ≡ total f r + total f s
+unfolding total
+total-append f [] s = sym (zero-add _)
+total-append f (row ∷ r) s = omega (arith, total-append f r s)
+
+pub flat-append : (r s : List Row) → flat (r ++ s) ≡ flat r ++ flat s
+unfolding flat
+flat-append [] s = refl
+flat-append (row ∷ r) s = rw (flat-append r s, append-assoc)
+
+-- rows, then rows whose first wire is the next that those leave unmade
+pub madeBefore-append : {next m : ℕ} {r s : List Row} → MadeBefore next r → next + total makes r ≡ m → MadeBefore m s → MadeBefore next (r ++ s)
+unfolding total
+madeBefore-append {next} {s = s} made-none e g = rw (sym e ∙ add-zero next) at g
+madeBefore-append (made-more f fs) e g = made-more f (madeBefore-append fs (add-assoc _ _ _ ∙ e) g)
+
+-- ---- X rows: two wires and one bit each
+
+pub record XTotals (rows : List Row) (n : ℕ) : Type 0 where
+  pub wires : total makes rows ≡ 2 * n
+  pub bits : total takes rows ≡ n
+  pub gates : total gatesIn rows ≡ 0
+  pub family : Every InFamily rows
+
+pub x-totals : {rows : List Row} → Every IsX rows → XTotals rows (length rows)
+unfolding total makes takes gatesIn inputsOf
+x-totals every-none = record { wires = refl; bits = refl; gates = refl; family = every-none }
+x-totals (every-more is-X f) =
+    let t = x-totals f in
+    record { wires = omega arith; bits = omega arith; gates = omega arith; family = every-more refl (t .family) }
+
+pub x-list : (n : ℕ) (f g : ℕ → ℕ) → XTotals (listOf n (λ i. X (f i) (g i))) n
+x-list n f g =
+    let t = x-totals (every-listOf n (λ i. X (f i) (g i)) (λ i l. is-X)) in
+    let e = length-listOf n (λ i. X (f i) (g i)) in
+    record { wires = omega arith; bits = omega arith; gates = t .gates; family = t .family }
+
+pub madeBefore-listOf : (next n : ℕ) (f g : ℕ → ℕ) → ((i : ℕ) → i < n → f i < next) → ((i : ℕ) → i < n → g i < next)
+    → MadeBefore next (listOf n (λ i. X (f i) (g i)))
+unfolding listOf inputsOf
+madeBefore-listOf next zero f g hf hg = made-none
+madeBefore-listOf next (suc n) f g hf hg =
+    madeBefore-append (madeBefore-listOf next n f g (λ i l. hf i (le-step l)) (λ i l. hg i (le-step l))) refl
+    (made-more (below-pair (omega (arith, hf n (le-refl (suc n)))) (omega (arith, hg n (le-refl (suc n))))) made-none)
+
+-- ---- the table's entries
+
+pub takes-gate : (ws : List ℕ) → InFamily (Gate ws) → takes (Gate ws) ≡ gateBits
+unfolding inputsOf takes
+takes-gate ws e = ap (λ k. 2 ^ k) e
+
+entries-length : (row : Row) → InFamily row → length (entries row) ≡ stride
+unfolding inputsOf entries
+entries-length (X l r) e = refl
+entries-length (Y l r) e = refl
+entries-length (Gate ws) e = ap suc e
+
+pub length-flat : {rows : List Row} → Every InFamily rows → length (flat rows) ≡ stride * length rows
+unfolding flat
+length-flat every-none = refl
+length-flat (every-more {a = row} {l = rows} f fs) =
+    rw (length-append (entries row) (flat rows)) (omega (arith, entries-length row f, length-flat fs))
+
+decode-entries : (row : Row) (es : List ℕ) → InFamily row → decode (entries row ++ es) ≡ row ∷ decode es
+unfolding inputsOf entries decode rowOf
+decode-entries (X l r) es e = refl
+decode-entries (Y l r) es e = refl
+decode-entries (Gate []) es e = absurd (omega arith)
+decode-entries (Gate (a ∷ [])) es e = absurd (omega arith)
+decode-entries (Gate (a ∷ b ∷ [])) es e = refl
+decode-entries (Gate (a ∷ b ∷ c ∷ ws)) es e = absurd (omega arith)
+
+pub decode-flat : {rows : List Row} → Every InFamily rows → decode (flat rows) ≡ rows
+unfolding flat decode
+decode-flat every-none = refl
+decode-flat (every-more {a = row} {l = rows} f fs) = rw (decode-entries row (flat rows) f, decode-flat fs)
+
+-- n rows of entries, then others
+pub decode-append : (n : ℕ) (es fs : List ℕ) → length es ≡ stride * n → decode (es ++ fs) ≡ decode es ++ decode fs
+unfolding decode
+decode-append n [] fs e = refl
+decode-append n (k ∷ []) fs e = absurd (omega arith)
+decode-append n (k ∷ l ∷ []) fs e = absurd (omega arith)
+decode-append zero (k ∷ l ∷ r ∷ es) fs e = absurd (omega arith)
+decode-append (suc n) (k ∷ l ∷ r ∷ es) fs e = rw (decode-append n es fs (omega arith))
+
+pub length-decode : (n : ℕ) (es : List ℕ) → length es ≡ stride * n → length (decode es) ≡ n
+unfolding decode
+length-decode zero [] e = refl
+length-decode (suc n) [] e = absurd (omega arith)
+length-decode n (k ∷ []) e = absurd (omega arith)
+length-decode n (k ∷ l ∷ []) e = absurd (omega arith)
+length-decode zero (k ∷ l ∷ r ∷ es) e = absurd (omega arith)
+length-decode (suc n) (k ∷ l ∷ r ∷ es) e = ap suc (length-decode n es (omega arith))
+
+-- row i stands at the entries from stride * i on
+pub decode-at : (es : List ℕ) (i : ℕ) (d : Row) → i < length (decode es)
+    → getD (decode es) i d ≡ rowOf (getD es (stride * i) 0) (getD es (stride * i + 1) 0) (getD es (stride * i + 2) 0)
+unfolding decode
+decode-at [] i d h = absurd (not-suc-le-zero h)
+decode-at (k ∷ []) i d h = absurd (not-suc-le-zero h)
+decode-at (k ∷ l ∷ []) i d h = absurd (not-suc-le-zero h)
+decode-at (k ∷ l ∷ r ∷ es) zero d h = refl
+decode-at (k ∷ l ∷ r ∷ es) (suc i) d h =
+    decode-at es i d (le-of-suc-le-suc h) ∙ sym (rw (
+      past (stride * suc i) (stride * i) (omega arith),
+      past (stride * suc i + 1) (stride * i + 1) (omega arith),
+      past (stride * suc i + 2) (stride * i + 2) (omega arith),
+    ))
+  where
+    past : (p q : ℕ) → p ≡ suc (suc (suc q)) → getD (k ∷ l ∷ r ∷ es) p 0 ≡ getD es q 0
+    past p q e = rw e
+
+-- ---- the run
+
+module _ {A : Type 0} (none : A) (gate : ℕ → List ℕ → List A → A) where
+  pub run-append : (r s : List Row) (st : State A) → run none gate (r ++ s) st ≡ run none gate s (run none gate r st)
+  unfolding run
+  run-append [] s st = refl
+  run-append (row ∷ r) s st = run-append r s (step none gate row st)
+
+  -- the wires that were there stay in front
+  pub run-extends : (rows : List Row) (st : State A) → (new : List A) × (run none gate rows st .wires ≡ st .wires ++ new)
+  unfolding run step
+  run-extends [] st = ([], sym (append-nil _))
+  run-extends (row ∷ rows) st =
+      let t = run-extends rows (step none gate row st) in
+      (outputs none gate row st ++ t .0, t .1 ∙ append-assoc (st .wires) _ _)
+
+  -- earlier wires keep their values
+  pub run-keeps : (rows : List Row) (st : State A) (w : ℕ) (d : A) → w < length (st .wires)
+      → getD (run none gate rows st .wires) w d ≡ getD (st .wires) w d
+  run-keeps rows st w d h =
+      let t = run-extends rows st in
+      rw (t .1) (List·getD-append (st .wires) (t .0) d w h)
+
+  length-outputs : (row : Row) (st : State A) → length (outputs none gate row st) ≡ makes row
+  unfolding outputs makes
+  length-outputs (X l r) st = refl
+  length-outputs (Y l r) st = refl
+  length-outputs (Gate ws) st = refl
+
+  pub run-wires : (rows : List Row) (st : State A) → length (run none gate rows st .wires) ≡ length (st .wires) + total makes rows
+  unfolding run step total
+  run-wires [] st = sym (add-zero _)
+  run-wires (row ∷ rows) st =
+      run-wires rows (step none gate row st)
+      ∙ rw (length-append (st .wires) (outputs none gate row st), length-outputs row st, add-assoc)
+
+  pub run-bits : (rows : List Row) (st : State A) → run none gate rows st .bits ≡ drop (total takes rows) (st .bits)
+  unfolding run step total
+  run-bits [] st = refl
+  run-bits (row ∷ rows) st = run-bits rows (step none gate row st) ∙ drop-drop (total takes rows) (takes row) (st .bits)
+
+  pub run-gates : (rows : List Row) (st : State A) → run none gate rows st .gates ≡ st .gates + total gatesIn rows
+  unfolding run step total
+  run-gates [] st = sym (add-zero _)
+  run-gates (row ∷ rows) st = run-gates rows (step none gate row st) ∙ add-assoc _ _ _
