@@ -10,7 +10,7 @@ use Rattle.plan.specs.Record.{gateAt, outputAt, gateWire, planOf}
 use Rattle.plan.specs.Rules.{mapAllowed}
 use Rattle.plan.specs.PlanFile.{mapBit}
 use Rattle.plan.specs.Faults.{Accepted}
-use Rattle.plan.specs.Evaluation.{listOf}
+use Rattle.lists.specs.Lists.{listOf}
 
 -- a one-byte number
 abbrev pub byte : ℕ → List ℕ

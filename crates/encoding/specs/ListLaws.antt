@@ -7,7 +7,7 @@ use lib.ListN.{length, getD, take, replicate, length-append}
 use lib.Seq.{take-suc, take-length}
 use Rattle.plan.specs.Record.{places}
 use Rattle.plan.specs.RecordLaws.{getD-places}
-use Rattle.plan.specs.Evaluation.{listOf}
+use Rattle.lists.specs.Lists.{listOf}
 use Rattle.encoding.specs.Encoding.{joined}
 
 -- equal bytes of each item

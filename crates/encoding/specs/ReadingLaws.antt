@@ -15,7 +15,7 @@ use borrow.Author.Tests.{ltb-false, le-ltb}
 use Rattle.fault.specs.declared.Fault.{Fault}
 use Rattle.fault.specs.ChecksLaws.{number-positive}
 use Rattle.plan.specs.Parsing.{Parsed, got, refused, Step, followed, field, wordAt, byteAt, standing, inOrder}
-use Rattle.plan.specs.Evaluation.{listOf}
+use Rattle.lists.specs.Lists.{listOf}
 use Rattle.encoding.specs.ListLaws.{joined-same}
 use Rattle.encoding.specs.Encoding.{byte, word, joined, whereStanding, OfBytes}
 

@@ -6,6 +6,8 @@ use native.Mathlib.Omega.{arith}
 use native.Mathlib.Numerals.{add-one}
 use lib.ListN.{length, getD, set, drop, length-append}
 use lib.Seq.{set-at, drop-cons}
+use Rattle.lists.specs.Lists.{listOf}
+use Rattle.lists.specs.ListsLaws.{length-listOf}
 use Rattle.fault.specs.declared.Fault.{Fault}
 use Rattle.fault.specs.Number.{faultNumber}
 use Rattle.fault.specs.ChecksLaws.{number-positive}
@@ -20,6 +22,14 @@ pub over-more : {A : Type 0} (new old : List A) (x : A) → length new < length 
 over-more new old x h =
     rw (length-append new (x ∷ []), append-assoc new (x ∷ []), add-one (length new), drop-cons old (length new) x h)
     (set-at new (getD old (length new) x) (drop (suc (length new)) old) x (length new) refl)
+
+-- one entry more of a list that is given place by place
+pub listOf-over : {A : Type 0} (n : ℕ) (f : ℕ → A) (old : List A) → n < length old
+    → set (over (listOf n f) old) n (f n) ≡ over (listOf (n + 1) f) old
+unfolding listOf
+listOf-over n f old h =
+    let l = length-listOf n f in
+    rw (add-one n) (ap (λ m. set (over (listOf n f) old) m (f n)) (sym l) ∙ over-more (listOf n f) old (f n) (omega arith))
 
 -- on a refusal the buffer is as it was
 pub filled-refused : {A : Type 0} (f : Fault) (n : ℕ) (new old : List A) → faultNumber f ≡ n → old ≡ filled n new old

@@ -3,7 +3,7 @@
 use Prim.Native.Nat.{ℕ, suc, _+_, _*_, _/_, _%_, _^_, _<_}
 use mathlib.Core.List.{List, [], _∷_}
 use lib.ListN.{length, getD, set, replicate}
-use Rattle.networks.specs.Lists.{listOf}
+use Rattle.lists.specs.Lists.{listOf}
 
 -- the byte in which bit p lies
 abbrev pub byteOf : ℕ → ℕ

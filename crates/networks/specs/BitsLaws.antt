@@ -14,8 +14,8 @@ use lib.Seq.{getD-set-same, getD-set-other, ext-getD, set-out, getD-append-add}
 use lib.Pow.{pow-pos, pow-add, shr-shr, shr-lt, high, split, ones-lt}
 use lib.Arith.{digits-lt}
 use lib.Bits.{bitAnd, bitOr, and-mask, and-high, and-block, or-block, or-shifted, or-zero-r}
-use Rattle.networks.specs.Lists.{listOf}
-use Rattle.networks.specs.ListsLaws.{length-listOf, getD-listOf}
+use Rattle.lists.specs.Lists.{listOf}
+use Rattle.lists.specs.ListsLaws.{length-listOf, getD-listOf}
 use Rattle.networks.specs.Bits.{byteOf, placeOf, bytesFor, bitOf, withBit, bitAt, setBit, storeBits, zeroBytes, pack, unpack, AreBits, AreBytes}
 
 -- ---- one number

@@ -1,6 +1,4 @@
 -- The definitions, in document 01's order. Read alone they give every table and program of P.
--- lists given place by place
-pub mod Lists
 -- "Elements and their table": rows X, Y and G, their entries, and their run over values of any type
 pub mod Rows
 -- "Program bits follow the rows": where bit p lies, storing bits, packing
@@ -12,8 +10,6 @@ pub mod SideRule
 -- the mapping of a list of wanted inputs
 pub mod Wanted
 -- The laws of the definitions.
--- lists given place by place
-pub mod ListsLaws
 -- running r ++ s; earlier wires keep their values; decoding undoes `flat`
 pub mod RowsLaws
 -- a stored bit reads back and changes no other; packing and unpacking

@@ -17,7 +17,7 @@ pub partner-partner : (x : ℕ) → partner (partner x) ≡ x
 unfolding partner
 partner-partner x = omega arith
 
-partner-ne : (x : ℕ) → partner x ≢ x
+pub partner-ne : (x : ℕ) → partner x ≢ x
 unfolding partner
 partner-ne x e = omega arith
 
@@ -84,7 +84,7 @@ key-at h x = go (ℕ-discrete (suc (x / 2)) h)
     go (yes e) = in-last e (key-last h x e)
     go (no n) = elsewhere n (key-other h x n)
 
-key-parity : (h x : ℕ) → key h x % 2 ≡ x % 2
+pub key-parity : (h x : ℕ) → key h x % 2 ≡ x % 2
 key-parity h x = go (key-at h x)
   where
     go : KeyAt h x → key h x % 2 ≡ x % 2
@@ -92,7 +92,7 @@ key-parity h x = go (key-at h x)
     go (elsewhere n k) = omega arith
 
 -- ranks of partners are partners
-key-partner : (h x : ℕ) → key h (partner x) ≡ partner (key h x)
+pub key-partner : (h x : ℕ) → key h (partner x) ≡ partner (key h x)
 key-partner h x = go (key-at h x)
   where
     go : KeyAt h x → key h (partner x) ≡ partner (key h x)
@@ -135,7 +135,7 @@ module _ (h : ℕ) {π ρ : ℕ → ℕ} (P : Perm (2 * h) π ρ) where
   walk-inj x y e = perm-inj P x y (partner-inj _ _ (perm-inj (flipped P) _ _ (partner-inj _ _ e)))
 
   -- the partner of where a step ends steps to the partner of where it began
-  walk-turns : (x : ℕ) → walk π ρ (partner (walk π ρ x)) ≡ partner x
+  pub walk-turns : (x : ℕ) → walk π ρ (partner (walk π ρ x)) ≡ partner x
   unfolding walk
   walk-turns x = simp (partner-partner, P .fro, P .to)
 
@@ -143,7 +143,7 @@ module _ (h : ℕ) {π ρ : ℕ → ℕ} (P : Perm (2 * h) π ρ) where
   unfolding walk
   walk-apart x e = partner-ne (π x) (sym (P .fro (partner (π x))) ∙ ap π (partner-inj _ _ e))
 
-  walk-past : (x : ℕ) → 2 * h ≤ x → walk π ρ x ≡ x
+  pub walk-past : (x : ℕ) → 2 * h ≤ x → walk π ρ x ≡ x
   unfolding walk
   walk-past x l = simp (P .past x l, flipped P .past (partner x) (partner-past h x l), partner-partner)
 
@@ -200,7 +200,7 @@ module _ (h : ℕ) {π ρ : ℕ → ℕ} (P : Perm (2 * h) π ρ) where
   settle a b u w ne = omega arith
 
   -- the walks of partners have least ranks that are partners
-  lowest-partner : (x : ℕ) → (lowest h π ρ x % 2 + lowest h π ρ (partner x) % 2 ≡ 1) × (lowest h π ρ x / 2 ≡ lowest h π ρ (partner x) / 2)
+  pub lowest-partner : (x : ℕ) → (lowest h π ρ x % 2 + lowest h π ρ (partner x) % 2 ≡ 1) × (lowest h π ρ x / 2 ≡ lowest h π ρ (partner x) / 2)
   lowest-partner x =
       let s = lowest-at x in
       let t = lowest-at (partner x) in

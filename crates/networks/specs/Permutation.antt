@@ -6,7 +6,7 @@ use mathlib.Core.Bool.{cond}
 use mathlib.Core.List.{List, [], _∷_, _++_}
 use lib.Dec.{eqb}
 use lib.ListN.{getD, take, drop}
-use Rattle.networks.specs.Lists.{listOf}
+use Rattle.lists.specs.Lists.{listOf}
 use Rattle.networks.specs.Rows.{Row, X, choose}
 
 -- ---- rows

@@ -7,8 +7,8 @@ use native.Mathlib.Nat.{pow-succ', suc-mul, mul-left-comm}
 use native.Mathlib.Omega.{arith}
 use lib.ListN.{length, getD, length-append}
 use lib.Pow.{pow-pos}
-use Rattle.networks.specs.Lists.{listOf, Below, Every, every-none}
-use Rattle.networks.specs.ListsLaws.{length-listOf, below-listOf, below-append, below-pair, below-more, every-append, every-listOf}
+use Rattle.lists.specs.Lists.{listOf, Below, Every, every-none}
+use Rattle.lists.specs.ListsLaws.{length-listOf, below-listOf, below-append, below-pair, below-more, every-append, every-listOf}
 use Rattle.networks.specs.Rows.{Row, X, IsX, is-X, MadeBefore, made-none}
 use Rattle.networks.specs.RowsLaws.{XTotals, x-totals, madeBefore-append, madeBefore-listOf}
 use Rattle.networks.specs.Permutation.{permutationCount, inputRows, outputRows, firsts, seconds, upperNext, lowerNext, outputNext}
@@ -74,11 +74,11 @@ unfolding permutationOuts
 length-permutationOuts zero ins next e = e
 length-permutationOuts (suc n) ins next e = simp (length-append, length-listOf) (omega (arith, pow-succ' 2 n, pow-pos n))
 
-length-firsts : (h next : ℕ) → length (firsts h next) ≡ h
+pub length-firsts : (h next : ℕ) → length (firsts h next) ≡ h
 unfolding firsts
 length-firsts h next = length-listOf h _
 
-length-seconds : (h next : ℕ) → length (seconds h next) ≡ h
+pub length-seconds : (h next : ℕ) → length (seconds h next) ≡ h
 unfolding seconds
 length-seconds h next = length-listOf h _
 

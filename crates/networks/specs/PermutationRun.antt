@@ -10,8 +10,8 @@ use native.Mathlib.Omega.{arith}
 use lib.ListN.{length, getD, take, drop, length-take, List·getD-append}
 use lib.Pow.{pow-pos}
 use lib.Seq.{getD-append-add, getD-take, drop-at}
-use Rattle.networks.specs.Lists.{listOf, Below}
-use Rattle.networks.specs.ListsLaws.{length-listOf, getD-listOf}
+use Rattle.lists.specs.Lists.{listOf, Below}
+use Rattle.lists.specs.ListsLaws.{length-listOf, getD-listOf}
 use Rattle.networks.specs.Rows.{Row, choose, State, on, run, Delivered}
 use Rattle.networks.specs.RowsLaws.{run-append, run-keeps, run-wires, run-bits, run-gates}
 use Rattle.networks.specs.Permutation.{permutationCount, inputRows, outputRows, firsts, seconds, upperNext, lowerNext, outputNext}
@@ -23,11 +23,11 @@ use Rattle.networks.specs.XRun.{runX, runX-made, runX-left, runX-keeps, 
 use Rattle.networks.specs.PermutationLaws.{permutation-totals, half-wires}
 use Rattle.networks.specs.Routing.{cross-half, cross-past, source-perm, source-programmed, length-permutationBits}
 
-getD-firsts : (h next i : ℕ) → i < h → getD (firsts h next) i 0 ≡ next + 2 * i
+pub getD-firsts : (h next i : ℕ) → i < h → getD (firsts h next) i 0 ≡ next + 2 * i
 unfolding firsts
 getD-firsts h next i l = getD-listOf h _ i 0 l
 
-getD-seconds : (h next i : ℕ) → i < h → getD (seconds h next) i 0 ≡ next + 2 * i + 1
+pub getD-seconds : (h next i : ℕ) → i < h → getD (seconds h next) i 0 ≡ next + 2 * i + 1
 unfolding seconds
 getD-seconds h next i l = getD-listOf h _ i 0 l
 

@@ -9,8 +9,8 @@ use native.Mathlib.Omega.{arith}
 use native.Mathlib.Decide.{decLt}
 use lib.ListN.{length, getD, take, drop, length-take, length-append, List·getD-eq-default}
 use lib.Seq.{take-at, drop-at}
-use Rattle.networks.specs.Lists.{listOf}
-use Rattle.networks.specs.ListsLaws.{length-listOf, getD-listOf-all}
+use Rattle.lists.specs.Lists.{listOf}
+use Rattle.lists.specs.ListsLaws.{length-listOf, getD-listOf-all}
 use Rattle.networks.specs.Rows.{choose}
 use Rattle.networks.specs.Bits.{AreBits}
 use Rattle.networks.specs.BitsLaws.{bits-append, bits-listOf}

@@ -4,7 +4,7 @@ use Prim.Native.Nat.{ℕ, zero, suc, _+_, _*_, _^_, _<_}
 use mathlib.Core.Path.{_≡_}
 use mathlib.Core.List.{List, [], _∷_, _++_, map}
 use lib.ListN.{length, getD, take, drop}
-use Rattle.networks.specs.Lists.{Below}
+use Rattle.lists.specs.Lists.{Below}
 
 -- an element with its input wires: X and Y have a left and a right one, a gate (document 01: G) has a list of operand wires
 pub data Row : Type 0 where

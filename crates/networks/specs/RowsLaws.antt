@@ -7,8 +7,8 @@ use native.Mathlib.Nat.{le-refl, le-step, add-zero, add-assoc, zero-add, le-of-s
 use native.Mathlib.Omega.{arith}
 use lib.ListN.{length, getD, drop, length-append, List·getD-append}
 use lib.Seq.{drop-drop}
-use Rattle.networks.specs.Lists.{listOf, Every, every-none, every-more}
-use Rattle.networks.specs.ListsLaws.{length-listOf, every-listOf, below-pair}
+use Rattle.lists.specs.Lists.{listOf, Every, every-none, every-more}
+use Rattle.lists.specs.ListsLaws.{length-listOf, every-listOf, below-pair}
 use Rattle.networks.specs.Rows.{Row, X, Y, Gate, inputsOf, makes, takes, gatesIn, total, IsX, is-X, MadeBefore, made-none, made-more}
 use Rattle.networks.specs.Rows.{stride, gateBits, entries, flat, rowOf, decode, InFamily, State, outputs, step, run}
 

@@ -5,7 +5,7 @@ use mathlib.Core.Path.{_≡_}
 use mathlib.Core.Logic.{_≢_}
 use mathlib.Core.List.{List, [], _++_}
 use Prim.Native.Nat.{ℕ, suc, _+_, _-_, _*_, _/_, _^_, _≤_, _<_}
-use Rattle.networks.specs.Lists.{listOf}
+use Rattle.lists.specs.Lists.{listOf}
 use Rattle.networks.specs.Permutation.{partner, inHalf}
 
 pub data Pair : Type 0 where

@@ -7,7 +7,7 @@ use Prim.Native.Nat.{ℕ, zero, suc, _+_, _-_, _*_, _/_, _%_, _^_, _≤_, _<_}
 use native.Mathlib.Nat.{pow-succ'}
 use native.Mathlib.Decide.{decLt}
 use native.Mathlib.Omega.{arith}
-use Rattle.networks.specs.ListsLaws.{listOf-ext}
+use Rattle.lists.specs.ListsLaws.{listOf-ext}
 use Rattle.networks.specs.Permutation.{Perm, partner, iterate, walk, key, lowest, side, pick, inHalf, permutationBits}
 use Rattle.networks.specs.Orbits.{Reach, reach-trans, reach-one}
 use Rattle.networks.specs.Loops.{partner-partner, partner-half, partner-even, partner-lt, parity, same-pair, flipped, perm-inj, perm-lt}

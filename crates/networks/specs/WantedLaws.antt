@@ -11,8 +11,8 @@ use native.Mathlib.Omega.{arith}
 use borrow.Author.Tests.{eq-eqb, ne-eqb, lt-ltb, le-ltb}
 use lib.Dec.{eqb, ltb}
 use lib.ListN.{length, getD, List·getD-eq-default}
-use Rattle.networks.specs.Lists.{Below}
-use Rattle.networks.specs.ListsLaws.{getD-any}
+use Rattle.lists.specs.Lists.{Below}
+use Rattle.lists.specs.ListsLaws.{getD-any}
 use Rattle.networks.specs.Bits.{AreBits, pack, unpack}
 use Rattle.networks.specs.BitsLaws.{unpack-pack}
 use Rattle.networks.specs.Rows.{Row, State, on, run, flat, decode}

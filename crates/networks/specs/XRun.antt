@@ -8,7 +8,7 @@ use native.Mathlib.Decide.{decLt}
 use native.Mathlib.Omega.{arith}
 use lib.ListN.{length, getD, drop}
 use lib.Seq.{getD-append-add, getD-drop}
-use Rattle.networks.specs.Lists.{listOf}
+use Rattle.lists.specs.Lists.{listOf}
 use Rattle.networks.specs.Rows.{X, choose, State, on, outputs, step, run}
 use Rattle.networks.specs.RowsLaws.{x-list, run-append, run-keeps, run-wires, run-bits}
 use Rattle.networks.specs.Permutation.{partner, cross}

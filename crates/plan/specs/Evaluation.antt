@@ -4,6 +4,7 @@ use Prim.Native.Nat.{ℕ, zero, suc, _+_, _-_, _*_, _/_, _%_, _^_}
 use mathlib.Core.List.{List, [], _∷_, _++_}
 use lib.Dec.{leb, ltb, eqb}
 use lib.ListN.{length, getD}
+use Rattle.lists.specs.Lists.{listOf}
 use Rattle.fault.specs.declared.Fault.{Fault}
 use Rattle.fault.specs.Checks.{unless, andThen, firstOf}
 use Rattle.fault.specs.Buffers.{filled}
@@ -11,11 +12,6 @@ use Rattle.plan.specs.declared.record.Plan.{Plan}
 use Rattle.plan.specs.declared.record.PlanWire.{PlanWire}
 use Rattle.plan.specs.Record.{gateAt, outputAt}
 use Rattle.plan.specs.Faults.{planFault}
-
--- f 0 to f (n - 1)
-unfoldable pub listOf : {A : Type 0} → ℕ → (ℕ → A) → List A
-listOf zero f = []
-listOf (suc n) f = listOf n f ++ (f n ∷ [])
 
 -- the value on a wire: wire w stands at place w - 1
 abbrev pub valueOn : {A : Type 0} → A → List A → PlanWire → A

@@ -9,8 +9,7 @@ use native.Mathlib.Decide.{decLt, ℕ-discrete}
 use borrow.Author.Tests.{leb-true, eqb-true}
 use lib.Dec.{leb, eqb}
 use lib.ListN.{length, getD, set, length-append, List·getD-eq-default}
-use Rattle.fault.specs.Buffers.{over}
-use Rattle.fault.specs.BuffersLaws.{over-more}
+use Rattle.lists.specs.Lists.{listOf}
 use Rattle.fault.specs.ChecksLaws.{unless-zero, and-then-zero, first-of-zero}
 use Rattle.plan.specs.declared.record.Plan.{Plan}
 use Rattle.plan.specs.declared.record.PlanWire.{PlanWire}
@@ -18,7 +17,7 @@ use Rattle.plan.specs.Record.{maxInputs, maxGates, maxOutputs, places, g
 use Rattle.plan.specs.RecordLaws.{places-more, getD-places}
 use Rattle.plan.specs.Faults.{planFault, Accepted}
 use Rattle.plan.specs.FaultsLaws.{GateWithin, accepted-counts, accepted-gate, accepted-output}
-use Rattle.plan.specs.Evaluation.{listOf, valueOn, planWires, namedBy, tableBit, gateBit, contactFault, shortFault, evaluateFault}
+use Rattle.plan.specs.Evaluation.{valueOn, planWires, namedBy, tableBit, gateBit, contactFault, shortFault, evaluateFault}
 
 -- the wires of the largest plan
 abbrev pub maxWires : ℕ
@@ -84,18 +83,6 @@ output-room p accepted j h =
     let c = accepted-counts p accepted in
     let o = accepted-output p accepted j h in
     record { place = omega arith; someWire = omega arith; upTo = omega arith }
-
-pub length-listOf : {A : Type 0} (n : ℕ) (f : ℕ → A) → length (listOf n f) ≡ n
-unfolding listOf
-length-listOf zero f = refl
-length-listOf (suc n) f = length-append (listOf n f) _ ∙ omega (arith, length-listOf n f)
-
--- one entry more of a list that is written from the front of a buffer
-pub listOf-over : {A : Type 0} (n : ℕ) (f : ℕ → A) (old : List A) → n < length old → set (over (listOf n f) old) n (f n) ≡ over (listOf (n + 1) f) old
-unfolding listOf
-listOf-over n f old h =
-    let l = length-listOf n f in
-    rw (add-one n) (ap (λ m. set (over (listOf n f) old) m (f n)) (sym l) ∙ over-more (listOf n f) old (f n) (omega arith))
 
 module _ (p : Plan) (row : List ℕ) (e : Evaluable p row) where
   pub row-room : length row ≤ maxWires

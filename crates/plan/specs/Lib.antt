@@ -21,3 +21,5 @@ pub mod FaultsLaws
 -- what a plan gives on a row of inputs
 pub mod Evaluation
 pub mod EvaluationLaws
+-- unused places never matter
+pub mod AgreeLaws

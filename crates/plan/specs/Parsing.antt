@@ -26,7 +26,6 @@ followed f s (got a at) = f a s at
 followed f s (refused n at) = refused n at
 
 infixl 20 _>>=_
-
 -- a step and then the next, from the cursor it hands back
 abbrev pub _>>=_ : {A B : Type 0} → Step A → (A → Step B) → Step B
 (step >>= f) s at = followed f s (step s at)

@@ -19,7 +19,7 @@ withGates p gs = record {
   «gate_count» = p .«gate_count»;
   «output_count» = p .«output_count»;
   gates = places maxGates zeroGate gs;
-  outputs = p .outputs
+  outputs = p .outputs;
 }
 
 -- the record with these outputs, its other output places zero
@@ -29,7 +29,7 @@ withOutputs p os = record {
   «gate_count» = p .«gate_count»;
   «output_count» = p .«output_count»;
   gates = p .gates;
-  outputs = places maxOutputs (wire 0) os
+  outputs = places maxOutputs (wire 0) os;
 }
 
 -- the three counts, every place zero

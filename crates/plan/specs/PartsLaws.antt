@@ -37,7 +37,7 @@ module _ {A : Type 0} (item : ℕ → Step A) (s : List ℕ) (start n : ℕ) (no
     items = r .items ++ (x ∷ []);
     count = length-append (r .items) (x ∷ []) ∙ ap (λ m. m + 1) (r .count);
     parsed = rw (add-one i) (item-got item s start i (r .items) x at next (r .parsed) (sym e));
-    placed = ap (λ l. set l i x) (r .placed) ∙ places-more n none (r .items) x i (r .count) h
+    placed = ap (λ l. set l i x) (r .placed) ∙ places-more n none (r .items) x i (r .count) h;
   }
 
   pub one-refused : (k i : ℕ) (held : List A) (at m o : ℕ) → i < k
@@ -62,7 +62,7 @@ gates-held p q gs c e o = λ i. record {
   «gate_count» = c .gates i;
   «output_count» = c .outputs i;
   gates = e i;
-  outputs = o i
+  outputs = o i;
 }
 
 pub outputs-held : (p q : Plan) (os : List PlanWire) → SameCounts q p → q .gates ≡ p .gates → q .outputs ≡ places maxOutputs (wire 0) os
@@ -72,7 +72,7 @@ outputs-held p q os c e o = λ i. record {
   «gate_count» = c .gates i;
   «output_count» = c .outputs i;
   gates = e i;
-  outputs = o i
+  outputs = o i;
 }
 
 -- counts within the limits, every place zero

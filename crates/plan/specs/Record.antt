@@ -33,7 +33,7 @@ planOf u k v gs os = record {
   «gate_count» = k;
   «output_count» = v;
   gates = places maxGates zeroGate gs;
-  outputs = places maxOutputs (wire 0) os
+  outputs = places maxOutputs (wire 0) os;
 }
 
 -- every count and every place zero

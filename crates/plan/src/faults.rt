@@ -18,7 +18,11 @@ use fault::Fault;
 pub fn plan_fault(plan: Plan) -> Answer
     ensures { λ r. ⌜ answerNumber r ≡ planFault plan ⌝ }
 {
-    match counts_fault(plan.inputs as u32, plan.gate_count as u32, plan.output_count as u32) {
+    match counts_fault(
+        plan.inputs as u32,
+        plan.gate_count as u32,
+        plan.output_count as u32,
+    ) {
         Answer::Refused(f) => Answer::Refused(f),
         Answer::Done => match gates_fault(plan) {
             Answer::Refused(f) => Answer::Refused(f),

@@ -2,12 +2,12 @@
 // For any bytes the reader says, with proof, whether they are a plan, which fault they have and where; for any record in memory
 // `plan_fault` says whether it is an accepted plan, and `evaluate` what it gives.
 // Nothing here knows of fabrics.
+mod cursor;
+mod evaluation;
+mod faults;
+mod reading;
 mod record;
 mod rules;
-mod cursor;
-mod reading;
-mod faults;
-mod evaluation;
 
 pub use cursor::Cursor;
 pub use cursor::MapStep;
@@ -16,9 +16,9 @@ pub use cursor::OutputStep;
 pub use cursor::TableStep;
 pub use evaluation::evaluate;
 pub use faults::plan_fault;
-pub use reading::read_plan;
 pub use reading::PlanRead;
 pub use reading::ReadAnswer;
+pub use reading::read_plan;
 pub use record::Gate;
 pub use record::Plan;
 pub use record::PlanWire;

@@ -152,7 +152,12 @@ fn read_counts(file: &[u8], c: Cursor) -> PartRead
         CountStep::Refused(x) => refused_part(x),
         CountStep::Count(u, c1) => match read_count(file, c1, Plan::MAX_GATES, Fault::Gates) {
             CountStep::Refused(x) => refused_part(x),
-            CountStep::Count(k, c2) => match read_count(file, c2, Plan::MAX_OUTPUTS, Fault::Outputs) {
+            CountStep::Count(k, c2) => match read_count(
+                file,
+                c2,
+                Plan::MAX_OUTPUTS,
+                Fault::Outputs,
+            ) {
                 CountStep::Refused(x) => refused_part(x),
                 CountStep::Count(v, c3) => PartRead {
                     progress: Progress::Next(c3),
@@ -304,7 +309,14 @@ fn map_bit(map: u8, place: u8) -> bool
 }
 
 // An operand if its map bit stands, its default if not.
-fn standing_operand(file: &[u8], c: Cursor, map: u8, place: u8, own: PlanWire, default: PlanWire) -> OperandStep
+fn standing_operand(
+    file: &[u8],
+    c: Cursor,
+    map: u8,
+    place: u8,
+    own: PlanWire,
+    default: PlanWire,
+) -> OperandStep
     requires { ⌜ place < 8 ⌝ }
     ensures { λ r. ⌜ operandAnswer r ≡ standing (mapBit map place) (operandField (own .0)) (default .0) (now (file .entry)) (c .at) ⌝ }
 {

@@ -26,7 +26,9 @@ pub struct Plan {
 
 impl Plan {
     pub const MAX_INPUTS: usize = 64;
+
     pub const MAX_GATES: usize = 256;
+
     pub const MAX_OUTPUTS: usize = 64;
 
     // The record with every count and every place zero.

@@ -33,9 +33,9 @@ done c =
     let a = told .before .before .before .before .before .args in
     let old = a .result .now in
     let written =
-        c .before .before .write-outputs .ensures
-        ∙ ap (λ ws. over (namedBy 0 (a .plan) ws (a .plan .«output_count»)) old) (c .before .before .before .before .gate-wires .ensures)
-        ∙ ap (λ new. over new old) (named-places (a .plan) _ _ (a .plan .«output_count»)) in
+    c .before .before .write-outputs .ensures
+    ∙ ap (λ ws. over (namedBy 0 (a .plan) ws (a .plan .«output_count»)) old) (c .before .before .before .before .gate-wires .ensures)
+    ∙ ap (λ new. over new old) (named-places (a .plan) _ _ (a .plan .«output_count»)) in
     (none told, written ∙ filled-done _ _ _ (none told))
 
 pub evaluate-spec : {M : Type 1} → statement M

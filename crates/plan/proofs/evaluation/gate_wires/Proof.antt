@@ -60,9 +60,9 @@ again c =
     let at = c .before .before .before .before .before in
     let start = at .before .before .before in
     let bit =
-        c .gate-bit .ensures .0
-        ∙ ap₂ (λ a b. tableBit (gateAt (start .args .t1) (at .loop .i) .table) (getD (at .loop .wires) a 0) (getD (at .loop .wires) b 0))
-        (c .before .before .place-of .ensures) (c .before .place-of2 .ensures) in
+    c .gate-bit .ensures .0
+    ∙ ap₂ (λ a b. tableBit (gateAt (start .args .t1) (at .loop .i) .table) (getD (at .loop .wires) a 0) (getD (at .loop .wires) b 0))
+    (c .before .before .place-of .ensures) (c .before .place-of2 .ensures) in
     (omega arith, gate-held _ _ (start .pre) _ _ _ (omega arith) (at .loop .inv .1) bit)
 
 all : tie.Need-returns Inv-loop μ-loop

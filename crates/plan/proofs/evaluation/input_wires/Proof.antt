@@ -26,11 +26,10 @@ holds c = (omega arith, refl)
 again : tie.Need-loop-again Inv-loop μ-loop
 again c =
     let loop = c .before .before .loop in
-    let row = c .before .before .before .args .row .now in
-    (
+    let row = c .before .before .before .args .row .now in (
       omega arith,
       rw (add-one (loop .i), take-suc row (loop .i) 0 (omega arith), loop .inv .1)
-      (places-more _ _ _ _ _ (length-take-le (loop .i) row (omega arith)) (omega arith))
+          (places-more _ _ _ _ _ (length-take-le (loop .i) row (omega arith)) (omega arith)),
     )
 
 all : tie.Need-returns Inv-loop μ-loop

@@ -6,9 +6,11 @@ use Prim.Native.Nat.{_≤_, _-_}
 use borrow.Author.Needs.{needs}
 use lib.ListN.{length, getD, set, length-set}
 use Rattle.fault.specs.Buffers.{over}
+use Rattle.fault.specs.BuffersLaws.{listOf-over}
 use Rattle.plan.specs.Record.{outputAt}
-use Rattle.plan.specs.Evaluation.{listOf, valueOn, namedBy}
-use Rattle.plan.specs.EvaluationLaws.{maxWires, OutputRoom, output-room, listOf-over}
+use Rattle.lists.specs.Lists.{listOf}
+use Rattle.plan.specs.Evaluation.{valueOn, namedBy}
+use Rattle.plan.specs.EvaluationLaws.{maxWires, OutputRoom, output-room}
 use Rattle.plan.proofs.evaluation.write_outputs.Statement.{statement}
 use Rattle.plan.proofs.evaluation.write_outputs.Tie as tie
 
@@ -41,9 +43,9 @@ again c =
     let at = c .before .before .before in
     let start = at .before .before .args in
     let written =
-        ap (λ n. set (at .loop .result) (at .loop .i) (getD (start .t2) n 0)) (c .place-of .ensures)
-        ∙ ap (λ l. set l (at .loop .i) (valueOn 0 (start .t2) (outputAt (start .t1) (at .loop .i)))) (at .loop .inv .2)
-        ∙ listOf-over (at .loop .i) (λ j. valueOn 0 (start .t2) (outputAt (start .t1) j)) (start .result .now) (omega arith) in
+    ap (λ n. set (at .loop .result) (at .loop .i) (getD (start .t2) n 0)) (c .place-of .ensures)
+    ∙ ap (λ l. set l (at .loop .i) (valueOn 0 (start .t2) (outputAt (start .t1) (at .loop .i)))) (at .loop .inv .2)
+    ∙ listOf-over (at .loop .i) (λ j. valueOn 0 (start .t2) (outputAt (start .t1) j)) (start .result .now) (omega arith) in
     (omega arith, simp length-set (at .loop .inv .1), written)
 
 all : tie.Need-returns Inv-loop μ-loop

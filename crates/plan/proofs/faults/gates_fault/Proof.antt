@@ -28,8 +28,8 @@ found c =
     let loop = met .before .before .before .before .loop in
     let p = met .before .before .before .before .before .args .t1 in
     let e =
-        ap answerNumber (sym (c .before .f .given .1)) ∙ met .gate-fault .ensures
-        ∙ ap (λ w. gateFault w (gateAt p (loop .i))) (met .before .gate-wire .ensures) in
+    ap answerNumber (sym (c .before .f .given .1)) ∙ met .gate-fault .ensures
+    ∙ ap (λ w. gateFault w (gateAt p (loop .i))) (met .before .gate-wire .ensures) in
     first-fails _ _ (loop .i) _ (omega arith) (loop .inv .1) e (number-positive (c .before .f .given .0 .0))
 
 again : tie.Need-loop-again Inv-loop μ-loop
@@ -38,8 +38,8 @@ again c =
     let loop = met .before .before .before .before .loop in
     let p = met .before .before .before .before .before .args .t1 in
     let e =
-        ap answerNumber (sym (c .enum-told .given .1)) ∙ met .gate-fault .ensures
-        ∙ ap (λ w. gateFault w (gateAt p (loop .i))) (met .before .gate-wire .ensures) in
+    ap answerNumber (sym (c .enum-told .given .1)) ∙ met .gate-fault .ensures
+    ∙ ap (λ w. gateFault w (gateAt p (loop .i))) (met .before .gate-wire .ensures) in
     (omega arith, rw (add-one (loop .i)) (first-passes _ (loop .i) (loop .inv .1) (sym e)))
 
 none : tie.Need-returns-2 Inv-loop μ-loop

@@ -22,8 +22,8 @@ no-outputs c =
     let gates = after .before .before .before .read-gates in
     let e₁ = ap (reached (gates .result .plan)) (sym (after .after-gates2 .given .1)) ∙ gates .ensures .parsed in
     let e₂ =
-        ap (reached (outputs .read-outputs .result .plan)) (sym (c .before .before .after-outputs .given .1))
-        ∙ outputs .read-outputs .ensures in
+    ap (reached (outputs .read-outputs .result .plan)) (sym (c .before .before .after-outputs .given .1))
+    ∙ outputs .read-outputs .ensures in
     rw (c .refused-part2 .ensures) (ap (followed _ _) e₂ ∙ ap (followed _ _) e₁)
 
 end : tie.Need-returns-3
@@ -34,8 +34,8 @@ end c =
     let gates = after .before .before .before .read-gates in
     let e₁ = ap (reached (gates .result .plan)) (sym (after .after-gates2 .given .1)) ∙ gates .ensures .parsed in
     let e₂ =
-        ap (reached (outputs .read-outputs .result .plan)) (sym (c .before .before .after-outputs2 .given .1))
-        ∙ outputs .read-outputs .ensures in
+    ap (reached (outputs .read-outputs .result .plan)) (sym (c .before .before .after-outputs2 .given .1))
+    ∙ outputs .read-outputs .ensures in
     c .read-end .ensures ∙ ap (followed _ _) e₂ ∙ ap (followed _ _) e₁
 
 pub read-body-spec : {M : Type 1} → statement M

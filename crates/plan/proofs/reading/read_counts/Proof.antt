@@ -45,7 +45,7 @@ counts c =
     let e₃ = ap countAnswer (sym (v .v .given .1)) ∙ v .before .before .read-count3 .ensures in
     rw (c .blank-plan .ensures) (record {
       parsed = ap (followed _ _) e₃ ∙ ap (followed _ _) e₂ ∙ ap (followed _ _) e₁;
-      blank = blank-of _ _ _ (count-within _ _ _ _ _ _ e₁) (count-within _ _ _ _ _ _ e₂) (count-within _ _ _ _ _ _ e₃)
+      blank = blank-of _ _ _ (count-within _ _ _ _ _ _ e₁) (count-within _ _ _ _ _ _ e₂) (count-within _ _ _ _ _ _ e₃);
     })
 
 pub read-counts-spec : {M : Type 1} → statement M

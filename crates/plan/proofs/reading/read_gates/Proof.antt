@@ -26,7 +26,7 @@ holds c = (
   omega arith,
   record { inputs = refl; gates = refl; outputs = refl },
   refl,
-  none-read _ _ _ _ _ _ (c .before .before .pre .noGates)
+  none-read _ _ _ _ _ _ (c .before .before .pre .noGates),
 )
 
 refused : tie.Need-returns Inv-loop μ-loop
@@ -36,12 +36,12 @@ refused c =
     let turn = met .before .before .before in
     let start = turn .before .before .before in
     let e =
-        ap gateAnswer (sym (c .before .before .x .given .1)) ∙ met .read-gate .ensures
-        ∙ ap (λ w. gateStep w (start .args .file .now) (turn .loop .at .at)) (met .before .gate-wire .ensures) in
+    ap gateAnswer (sym (c .before .before .x .given .1)) ∙ met .read-gate .ensures
+    ∙ ap (λ w. gateStep w (start .args .file .now) (turn .loop .at .at)) (met .before .gate-wire .ensures) in
     rw (c .refused-part .ensures) (record {
       parsed = ap (followed _ _) (one-refused _ _ _ _ _ _ _ _ _ _ _ (omega arith) (turn .loop .inv .3) e);
       limited = record { inputs = omega arith; gates = omega arith; outputs = omega arith };
-      noOutputs = refl
+      noOutputs = refl;
     })
 
 again : tie.Need-loop-again Inv-loop μ-loop
@@ -50,14 +50,13 @@ again c =
     let turn = met .before .before .before in
     let start = turn .before .before .before in
     let e =
-        ap gateAnswer (sym (c .before .gate .given .1)) ∙ met .read-gate .ensures
-        ∙ ap (λ w. gateStep w (start .args .file .now) (turn .loop .at .at)) (met .before .gate-wire .ensures) in
-    let same = turn .loop .inv .1 in
-    (
+    ap gateAnswer (sym (c .before .gate .given .1)) ∙ met .read-gate .ensures
+    ∙ ap (λ w. gateStep w (start .args .file .now) (turn .loop .at .at)) (met .before .gate-wire .ensures) in
+    let same = turn .loop .inv .1 in (
       omega arith,
       record { inputs = same .inputs; gates = same .gates; outputs = same .outputs },
       turn .loop .inv .2,
-      one-more _ _ _ _ _ _ _ _ _ _ (omega arith) (turn .loop .inv .3) e
+      one-more _ _ _ _ _ _ _ _ _ _ (omega arith) (turn .loop .inv .3) e,
     )
 
 read : tie.Need-returns-2 Inv-loop μ-loop
@@ -70,7 +69,7 @@ read c =
     record {
       parsed = ap (λ q. got q (loop .at .at)) held ∙ ap (followed _ _) (all-read _ _ _ _ _ _ _ _ _ all (loop .inv .3));
       limited = record { inputs = omega arith; gates = omega arith; outputs = omega arith };
-      noOutputs = loop .inv .2 ∙ c .before .before .before .before .pre .noOutputs
+      noOutputs = loop .inv .2 ∙ c .before .before .before .before .pre .noOutputs;
     }
 
 pub read-gates-spec : {M : Type 1} → statement M

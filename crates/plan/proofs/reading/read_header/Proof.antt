@@ -16,7 +16,7 @@ counts : tie.Need-returns-2
 unfolding headerPart notStub
 counts c = record {
   parsed = rw (le-ltb _ _ (c .before .if1 .left)) (c .read-counts .ensures .parsed);
-  blank = c .read-counts .ensures .blank
+  blank = c .read-counts .ensures .blank;
 }
 
 pub read-header-spec : {M : Type 1} → statement M

@@ -26,7 +26,7 @@ holds c = (
   omega arith,
   record { inputs = refl; gates = refl; outputs = refl },
   refl,
-  none-read _ _ _ _ _ _ (c .before .before .pre .1)
+  none-read _ _ _ _ _ _ (c .before .before .pre .1),
 )
 
 refused : tie.Need-returns Inv-loop μ-loop
@@ -43,12 +43,11 @@ again c =
     let met = c .before .before .before in
     let loop = met .before .before .loop in
     let e = ap (followed _ _) (ap outputAnswer (sym (c .before .wire .given .1)) ∙ met .output .ensures) in
-    let same = loop .inv .1 in
-    (
+    let same = loop .inv .1 in (
       omega arith,
       record { inputs = same .inputs; gates = same .gates; outputs = same .outputs },
       loop .inv .2,
-      one-more _ _ _ _ _ _ _ _ _ _ (omega arith) (loop .inv .3) e
+      one-more _ _ _ _ _ _ _ _ _ _ (omega arith) (loop .inv .3) e,
     )
 
 read : tie.Need-returns-2 Inv-loop μ-loop

@@ -8,7 +8,7 @@ use native.Mathlib.Omega.{arith}
 use native.Mathlib.Decide.{decLt}
 use lib.ListN.{length, getD, length-append, List·getD-append, List·getD-eq-default}
 use lib.Seq.{getD-at, getD-append-add, ext-getD}
-use Rattle.networks.specs.Lists.{listOf, Below, Every, every-none, every-more}
+use Rattle.lists.specs.Lists.{listOf, Below, Every, every-none, every-more}
 
 -- an element of a list does not depend on the default
 pub getD-any : {A : Type 0} (l : List A) (i : ℕ) (d e : A) → i < length l → getD l i d ≡ getD l i e

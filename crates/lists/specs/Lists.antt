@@ -1,4 +1,4 @@
--- Lists given place by place. Positions count from 0 in all of this crate; document 01 counts from 1.
+-- Lists given place by place. Positions count from 0; document 01 counts from 1.
 use Prim.Native.Nat.{ℕ, zero, suc, _<_}
 use mathlib.Core.List.{List, [], _∷_, _++_}
 use lib.ListN.{length, getD}

@@ -1,0 +1,63 @@
+-- The starred figures of document 01's bench sheet, each entry by the definition that a public call's contract cites.
+use Prim.Native.Nat.{ℕ}
+use mathlib.Core.Path.{_≡_, refl}
+use mathlib.Core.List.{List, [], _∷_, _++_}
+use Rattle.plan.specs.declared.record.Gate.{Gate}
+use Rattle.plan.specs.declared.record.PlanWire.{PlanWire}
+use Rattle.plan.specs.declared.record.Plan.{Plan}
+use Rattle.plan.specs.Record.{places, zeroPlan}
+use Rattle.plan.specs.Rules.{countAllowed, mapAllowed, operandAllowed, tableAllowed, sourceAllowed}
+use Rattle.plan.specs.Parsing.{field, inOrder}
+use Rattle.plan.specs.PlanFile.{gateStep, notStub, atEnd, planFile, ReadOutcome, planRead}
+use Rattle.figures.specs.Figure.{Figure, Holds, passes, passes-holds}
+
+-- a record as a row of numbers: the counts, every gate's place, every output's place
+gateNumbers : List Gate → List ℕ
+gateNumbers [] = []
+gateNumbers (g ∷ gs) = g .first .0 ∷ g .second .0 ∷ g .table ∷ gateNumbers gs
+
+wireNumbers : List PlanWire → List ℕ
+wireNumbers [] = []
+wireNumbers (w ∷ ws) = w .0 ∷ wireNumbers ws
+
+planNumbers : Plan → List ℕ
+unfolding gateNumbers wireNumbers
+planNumbers p = p .inputs ∷ p .«gate_count» ∷ p .«output_count» ∷ (gateNumbers (p .gates) ++ wireNumbers (p .outputs))
+
+outcomeNumbers : ReadOutcome → List ℕ
+unfolding planNumbers
+outcomeNumbers o = o .number ∷ o .at ∷ planNumbers (o .plan)
+
+-- reading the file refuses with this number at this offset, and the record is all zero
+unfoldable pub refuses : List ℕ → ℕ → ℕ → Figure
+unfolding outcomeNumbers
+refuses file number at = record {
+  computed = outcomeNumbers (planRead file);
+  stated = outcomeNumbers (record { number = number; at = at; plan = zeroPlan });
+}
+
+-- a header that passes leaves a file of six bytes cut before its first map byte, and a map byte 7 one of seven bytes cut before its
+-- first operand
+unfoldable pub benchSheet : List Figure
+benchSheet =
+    -- u 0: refusal 2 at 0; u 64 passes, 65 is 2
+    refuses (0 ∷ 0 ∷ 1 ∷ 0 ∷ 1 ∷ 0 ∷ []) 2 0
+    ∷ refuses (64 ∷ 0 ∷ 1 ∷ 0 ∷ 1 ∷ 0 ∷ []) 5 6
+    ∷ refuses (65 ∷ 0 ∷ 1 ∷ 0 ∷ 1 ∷ 0 ∷ []) 2 0
+    -- k 256 passes, 257 is 3 at 2
+    ∷ refuses (1 ∷ 0 ∷ 0 ∷ 1 ∷ 1 ∷ 0 ∷ []) 5 6
+    ∷ refuses (1 ∷ 0 ∷ 1 ∷ 1 ∷ 1 ∷ 0 ∷ []) 3 2
+    -- v 64 passes, 65 is 4 at 4
+    ∷ refuses (1 ∷ 0 ∷ 1 ∷ 0 ∷ 64 ∷ 0 ∷ []) 5 6
+    ∷ refuses (1 ∷ 0 ∷ 1 ∷ 0 ∷ 65 ∷ 0 ∷ []) 4 4
+    -- 5 bytes: 1
+    ∷ refuses (1 ∷ 0 ∷ 1 ∷ 0 ∷ 1 ∷ []) 1 0
+    -- map 7 passes, 8 is 6
+    ∷ refuses (1 ∷ 0 ∷ 1 ∷ 0 ∷ 1 ∷ 0 ∷ 7 ∷ []) 5 7
+    ∷ refuses (1 ∷ 0 ∷ 1 ∷ 0 ∷ 1 ∷ 0 ∷ 8 ∷ []) 6 6
+    ∷ []
+
+-- the claim
+pub bench-sheet : Holds benchSheet
+unfolding benchSheet refuses planRead planFile notStub atEnd gateStep field inOrder places countAllowed mapAllowed operandAllowed tableAllowed sourceAllowed passes
+bench-sheet = passes-holds benchSheet refl

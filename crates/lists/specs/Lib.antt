@@ -1,0 +1,3 @@
+-- lists given place by place
+pub mod Lists
+pub mod ListsLaws

@@ -1,0 +1,57 @@
+-- Unused places never matter: plans that agree on the counts and the used places have the same faults and the same evaluation.
+use mathlib.Core.Path.{_≡_, refl, sym, ap, ap₂, _∙_}
+use mathlib.Core.List.{List}
+use Prim.Native.Nat.{ℕ, zero, suc, _<_, _≤_}
+use native.Mathlib.Omega.{arith}
+use lib.ListN.{length}
+use Rattle.lists.specs.ListsLaws.{listOf-ext}
+use Rattle.fault.specs.Checks.{andThen, firstOf}
+use Rattle.fault.specs.Buffers.{filled}
+use Rattle.plan.specs.declared.record.Plan.{Plan}
+use Rattle.plan.specs.Record.{gateAt, outputAt, gateWire}
+use Rattle.plan.specs.Faults.{countsFault, gateFault, outputFault, gatesFault, outputsFault, planFault}
+use Rattle.plan.specs.Evaluation.{valueOn, withGate, planWires, namedBy, planOutputs, gateBit, evaluateFault, evaluateResult}
+
+-- the same counts, and the same in every used place
+pub record Agree (p q : Plan) : Type 0 where
+  pub inputs : p .inputs ≡ q .inputs
+  pub gates : p .«gate_count» ≡ q .«gate_count»
+  pub outputs : p .«output_count» ≡ q .«output_count»
+  pub gate : (i : ℕ) → i < p .«gate_count» → gateAt p i ≡ gateAt q i
+  pub output : (j : ℕ) → j < p .«output_count» → outputAt p j ≡ outputAt q j
+
+firstOf-same : (f g : ℕ → ℕ) (n : ℕ) → ((i : ℕ) → i < n → f i ≡ g i) → firstOf f n ≡ firstOf g n
+unfolding firstOf
+firstOf-same f g zero h = refl
+firstOf-same f g (suc n) h = ap₂ andThen (firstOf-same f g n (λ i l. h i (omega arith))) (h n (omega arith))
+
+module _ (p q : Plan) (same : Agree p q) where
+  pub same-fault : planFault p ≡ planFault q
+  unfolding planFault
+  same-fault =
+      let gates : gatesFault p (p .«gate_count») ≡ gatesFault q (p .«gate_count») =
+      firstOf-same _ _ (p .«gate_count») (λ i l. ap₂ (λ u g. gateFault (gateWire u i) g) (same .inputs) (same .gate i l)) in
+      let outputs : outputsFault p (p .«output_count») ≡ outputsFault q (p .«output_count») =
+      firstOf-same _ _ (p .«output_count») (λ j l. cc (same .output j l)) in
+      cc
+
+  -- over values of any type
+  pub same-wires : {A : Type 0} (none : A) (act : ℕ → ℕ → A → A → A) (row : List A) (n : ℕ) → n ≤ p .«gate_count»
+      → planWires none act p row n ≡ planWires none act q row n
+  unfolding planWires
+  same-wires none act row zero h = refl
+  same-wires none act row (suc n) h = cc (same-wires none act row n (omega arith), same .gate n h)
+
+  pub same-outputs : {A : Type 0} (none : A) (act : ℕ → ℕ → A → A → A) (row : List A) → planOutputs none act p row ≡ planOutputs none act q row
+  same-outputs none act row =
+      let wires = same-wires none act row (p .«gate_count») (omega arith) in
+      let named = listOf-ext (p .«output_count») (λ j. valueOn none (planWires none act p row (p .«gate_count»)) (outputAt p j))
+      (λ j. valueOn none (planWires none act q row (p .«gate_count»)) (outputAt q j))
+      (λ j l. cc (same .output j l)) in
+      named ∙ ap₂ (λ k v. namedBy none q (planWires none act q row k) v) (same .gates) (same .outputs)
+
+  pub same-evaluation : (row result : List ℕ)
+      → (evaluateFault p row (length result) ≡ evaluateFault q row (length result)) × (evaluateResult p row result ≡ evaluateResult q row result)
+  same-evaluation row result =
+      let fault : evaluateFault p row (length result) ≡ evaluateFault q row (length result) = cc same-fault in
+      (fault, cc (same-outputs 0 gateBit row))
