@@ -2,6 +2,7 @@
 //!
 //! `exports` calls the library under test. `reference` does the same work in plain Rust, written
 //! from document 01 alone. `comparison` runs both on many cases and stops at the first difference.
+//! `contracts` checks the crates' public contracts.
 
 pub mod fault;
 pub mod plan;
@@ -12,3 +13,5 @@ pub mod reference;
 pub mod comparison;
 pub mod random;
 pub mod samples;
+
+pub mod contracts;

@@ -1,9 +1,9 @@
 -- Lists of items: their bytes one after another, the values listed, and the values in places of which the others hold `none`.
-use Prim.Native.Nat.{ℕ, zero, suc, _-_, _*_, _≤_, _<_}
+use Prim.Native.Nat.{ℕ, zero, suc, _*_, _≤_, _<_}
 use native.Mathlib.Omega.{arith}
 use mathlib.Core.Path.{_≡_, refl, _∙_}
-use mathlib.Core.List.{List, [], _∷_, _++_}
-use lib.ListN.{length, getD, take, replicate, length-append}
+use mathlib.Core.List.{List}
+use lib.ListN.{length, getD, take, length-append}
 use lib.Seq.{take-suc, take-length}
 use Rattle.plan.specs.Record.{places}
 use Rattle.plan.specs.RecordLaws.{getD-places}

@@ -1,5 +1,5 @@
 -- Laws of checks in order: a check that failed stays the answer, and where none fails each of them passes.
-use mathlib.Core.Path.{_≡_, refl, sym, ap, _∙_}
+use mathlib.Core.Path.{_≡_, refl, sym, _∙_}
 use mathlib.Core.Bool.{Bool, true, false, false≢true}
 use mathlib.Core.Logic.{_↔_}
 use lib.Dec.{lit≤}

@@ -1,6 +1,6 @@
 -- The starred figures of document 01's bench sheet, each entry by the definition that a public call's contract cites.
 use Prim.Native.Nat.{ℕ}
-use mathlib.Core.Path.{_≡_, refl}
+use mathlib.Core.Path.{refl}
 use mathlib.Core.List.{List, [], _∷_, _++_}
 use Rattle.plan.specs.declared.record.Gate.{Gate}
 use Rattle.plan.specs.declared.record.PlanWire.{PlanWire}

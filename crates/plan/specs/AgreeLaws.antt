@@ -1,16 +1,15 @@
 -- Unused places never matter: plans that agree on the counts and the used places have the same faults and the same evaluation.
-use mathlib.Core.Path.{_≡_, refl, sym, ap, ap₂, _∙_}
+use mathlib.Core.Path.{_≡_, refl, ap₂, _∙_}
 use mathlib.Core.List.{List}
 use Prim.Native.Nat.{ℕ, zero, suc, _<_, _≤_}
 use native.Mathlib.Omega.{arith}
 use lib.ListN.{length}
 use Rattle.lists.specs.ListsLaws.{listOf-ext}
 use Rattle.fault.specs.Checks.{andThen, firstOf}
-use Rattle.fault.specs.Buffers.{filled}
 use Rattle.plan.specs.declared.record.Plan.{Plan}
 use Rattle.plan.specs.Record.{gateAt, outputAt, gateWire}
-use Rattle.plan.specs.Faults.{countsFault, gateFault, outputFault, gatesFault, outputsFault, planFault}
-use Rattle.plan.specs.Evaluation.{valueOn, withGate, planWires, namedBy, planOutputs, gateBit, evaluateFault, evaluateResult}
+use Rattle.plan.specs.Faults.{gateFault, gatesFault, outputsFault, planFault}
+use Rattle.plan.specs.Evaluation.{valueOn, planWires, namedBy, planOutputs, gateBit, evaluateFault, evaluateResult}
 
 -- the same counts, and the same in every used place
 pub record Agree (p q : Plan) : Type 0 where

@@ -1,21 +1,20 @@
 -- Laws of evaluation: how many wires there are, that bits stay bits, and that unused places of the wires' array do not show.
-use mathlib.Core.Path.{_≡_, refl, sym, ap, _∙_, fun-ext}
+use mathlib.Core.Path.{_≡_, ap, _∙_, fun-ext}
 use mathlib.Core.Bool.{true}
 use mathlib.Core.List.{List, [], _∷_, _++_}
-use Prim.Native.Nat.{ℕ, zero, suc, _+_, _-_, _*_, _/_, _%_, _^_, _<_, _≤_}
+use Prim.Native.Nat.{ℕ, zero, suc, _+_, _-_, _<_, _≤_}
 use native.Mathlib.Omega.{arith}
 use native.Mathlib.Numerals.{add-one}
-use native.Mathlib.Decide.{decLt, ℕ-discrete}
+use native.Mathlib.Decide.{decLt}
 use borrow.Author.Tests.{leb-true, eqb-true}
 use lib.Dec.{leb, eqb}
 use lib.ListN.{length, getD, set, length-append, List·getD-eq-default}
 use Rattle.lists.specs.Lists.{listOf}
 use Rattle.fault.specs.ChecksLaws.{unless-zero, and-then-zero, first-of-zero}
 use Rattle.plan.specs.declared.record.Plan.{Plan}
-use Rattle.plan.specs.declared.record.PlanWire.{PlanWire}
 use Rattle.plan.specs.Record.{maxInputs, maxGates, maxOutputs, places, gateAt, outputAt, gateWire}
 use Rattle.plan.specs.RecordLaws.{places-more, getD-places}
-use Rattle.plan.specs.Faults.{planFault, Accepted}
+use Rattle.plan.specs.Faults.{Accepted}
 use Rattle.plan.specs.FaultsLaws.{GateWithin, accepted-counts, accepted-gate, accepted-output}
 use Rattle.plan.specs.Evaluation.{valueOn, planWires, namedBy, tableBit, gateBit, contactFault, shortFault, evaluateFault}
 

@@ -1,5 +1,5 @@
 -- What a field gives in each of its three cases, and reading n items by one more item at a time: a refusal stays the answer.
-use mathlib.Core.Path.{_≡_, refl, sym, ap, _∙_}
+use mathlib.Core.Path.{_≡_, refl}
 use mathlib.Core.Bool.{Bool, true, false, cond}
 use mathlib.Core.List.{List, [], _∷_, _++_}
 use Prim.Native.Nat.{ℕ, zero, suc, _+_, _-_, _<_, _≤_}
@@ -9,7 +9,7 @@ use borrow.Author.Tests.{lt-ltb, le-ltb}
 use lib.Dec.{ltb}
 use lib.ListN.{length}
 use Rattle.fault.specs.declared.Fault.{Fault}
-use Rattle.plan.specs.Parsing.{Parsed, got, refused, refuse, Step, followed, _>>=_, pure, field, inOrder}
+use Rattle.plan.specs.Parsing.{got, refused, refuse, Step, field, inOrder}
 
 -- v is the field's value, and r says whether it is allowed
 module _ (width : ℕ) (value : List ℕ → ℕ → ℕ) (allowed : ℕ → Bool) (f : Fault) (s : List ℕ) (at : ℕ) where

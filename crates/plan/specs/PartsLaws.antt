@@ -14,10 +14,10 @@ use Rattle.plan.specs.Record.{maxInputs, maxGates, maxOutputs, wire, zer
 use Rattle.plan.specs.RecordLaws.{places-more}
 use Rattle.plan.specs.Rules.{countAllowed}
 use Rattle.plan.specs.RulesLaws.{count-bounds}
-use Rattle.plan.specs.Parsing.{Parsed, got, refused, Step, followed, _>>=_, pure, wordAt, inOrder}
+use Rattle.plan.specs.Parsing.{Parsed, got, refused, Step, followed, _>>=_, wordAt, inOrder}
 use Rattle.plan.specs.ParsingLaws.{field-allowed, item-got, item-refused, still-refused}
 use Rattle.plan.specs.PlanFile.{countField, planFile}
-use Rattle.plan.specs.Parts.{withGates, withOutputs, countsPart, headerPart, gatesPart, outputsPart, endPart, bodyPart, Limited, Blank}
+use Rattle.plan.specs.Parts.{withGates, withOutputs, countsPart, headerPart, gatesPart, outputsPart, endPart, bodyPart, Blank}
 
 -- i items are read, from the cursor `start` up to `at`, and stand in their places
 pub record ReadSoFar {A : Type 0} (item : ℕ → Step A) (s : List ℕ) (start n : ℕ) (none : A) (i : ℕ) (held : List A) (at : ℕ) : Type 0 where

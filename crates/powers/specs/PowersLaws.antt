@@ -1,13 +1,11 @@
 -- `ceilPower k` is not below k, and no smaller power of two is. The search stops at the first exponent that fits, and an exponent that
 -- fits stands within k tries.
-use mathlib.Core.Path.{_≡_, refl, sym, ap, _∙_}
-use mathlib.Core.Bool.{cond}
+use mathlib.Core.Path.{_≡_, refl}
 use Prim.Native.Nat.{ℕ, zero, suc, _+_, _*_, _^_, _<_, _≤_}
 use native.Mathlib.Nat.{pow-suc}
 use native.Mathlib.Omega.{arith}
 use native.Mathlib.Decide.{ℕ-discrete, decLe}
 use lib.Pow.{pow-mono}
-use lib.Dec.{leb}
 use borrow.Author.Tests.{le-leb, lt-leb}
 use Rattle.powers.specs.Powers.{firstFit, ceilLog, ceilPower}
 

@@ -5,7 +5,7 @@ use Prim.Native.Nat.{_^_, _≤_}
 use native.Mathlib.Nat.{one-mul}
 use lib.Pow.{shl-exact}
 use lib.Dec.{lit<}
-use Rattle.powers.specs.Powers.{ceilLog, ceilPower}
+use Rattle.powers.specs.Powers.{ceilPower}
 use Rattle.powers.specs.PowersLaws.{ceilLog-least}
 use borrow.Author.Needs.{needs}
 use Rattle.powers.proofs.ceil_power.Statement.{statement}

@@ -1,6 +1,6 @@
 -- `plan::evaluation::contact_fault` meets its contract. The loop's invariant: the first i entries pass. Assumes nothing.
 use native.Mathlib.Omega.{arith}
-use mathlib.Core.Path.{_≡_, refl, sym, ap, _∙_}
+use mathlib.Core.Path.{_≡_, refl, sym, ap}
 use Prim.Native.Nat.{_≤_, _-_}
 use native.Mathlib.Numerals.{add-one}
 use borrow.Author.Needs.{needs}

@@ -6,7 +6,7 @@ use Rattle.fault.specs.Number.{answerNumber}
 use Rattle.fault.specs.Buffers.{over}
 use Rattle.fault.specs.BuffersLaws.{filled-refused, filled-done}
 use Rattle.plan.specs.Evaluation.{evaluateFault, namedBy}
-use Rattle.plan.specs.EvaluationLaws.{EvaluationPasses, evaluation-passes, named-places}
+use Rattle.plan.specs.EvaluationLaws.{evaluation-passes, named-places}
 use Rattle.plan.proofs.evaluation.evaluate.Statement.{statement}
 use Rattle.plan.proofs.evaluation.evaluate.Tie as tie
 

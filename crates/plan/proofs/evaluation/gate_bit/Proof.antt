@@ -1,11 +1,9 @@
 -- `plan::evaluation::gate_bit` meets its contract: a shift and a mask of one bit. Assumes nothing.
-use mathlib.Core.Path.{_≡_, sym, _∙_}
 use Prim.Native.Nat.{_+_, _*_, _/_, _^_}
 use native.Mathlib.Omega.{arith}
 use borrow.Author.Needs.{needs}
 use lib.Bits.{and-mask}
 use Rattle.plan.specs.Evaluation.{tableBit}
-use Rattle.plan.specs.EvaluationLaws.{table-bit}
 use Rattle.plan.proofs.evaluation.gate_bit.Statement.{statement}
 use Rattle.plan.proofs.evaluation.gate_bit.Tie as tie
 

@@ -1,7 +1,7 @@
 -- `plan::evaluation::gate_wires` meets its contract. The loop's invariant: the inputs' and the first i gates' bits stand in their places.
 -- Assumes nothing.
 use native.Mathlib.Omega.{arith}
-use mathlib.Core.Path.{_≡_, refl, sym, ap, ap₂, _∙_}
+use mathlib.Core.Path.{_≡_, ap, ap₂, _∙_}
 use Prim.Native.Nat.{_≤_, _-_}
 use borrow.Author.Needs.{needs}
 use lib.ListN.{getD}

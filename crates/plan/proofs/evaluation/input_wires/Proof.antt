@@ -1,11 +1,11 @@
 -- `plan::evaluation::input_wires` meets its contract. The loop's invariant: the first i entries of the row stand in their places.
 -- Assumes nothing.
 use native.Mathlib.Omega.{arith}
-use mathlib.Core.Path.{_≡_, refl, sym, ap, _∙_}
+use mathlib.Core.Path.{_≡_, refl, ap, _∙_}
 use Prim.Native.Nat.{_≤_, _-_}
 use native.Mathlib.Numerals.{add-one}
 use borrow.Author.Needs.{needs}
-use lib.ListN.{length, take, getD, set}
+use lib.ListN.{length, take}
 use lib.Seq.{take-suc, take-length, length-take-le}
 use Rattle.plan.specs.Record.{places}
 use Rattle.plan.specs.RecordLaws.{places-more}

@@ -1,7 +1,7 @@
 -- `plan::evaluation::write_outputs` meets its contract. The loop's invariant: the first i entries are the values on the wires that the first
 -- i outputs name. Assumes nothing.
 use native.Mathlib.Omega.{arith}
-use mathlib.Core.Path.{_≡_, refl, sym, ap, _∙_}
+use mathlib.Core.Path.{_≡_, refl, ap, _∙_}
 use Prim.Native.Nat.{_≤_, _-_}
 use borrow.Author.Needs.{needs}
 use lib.ListN.{length, getD, set, length-set}
@@ -10,7 +10,7 @@ use Rattle.fault.specs.BuffersLaws.{listOf-over}
 use Rattle.plan.specs.Record.{outputAt}
 use Rattle.lists.specs.Lists.{listOf}
 use Rattle.plan.specs.Evaluation.{valueOn, namedBy}
-use Rattle.plan.specs.EvaluationLaws.{maxWires, OutputRoom, output-room}
+use Rattle.plan.specs.EvaluationLaws.{OutputRoom, output-room}
 use Rattle.plan.proofs.evaluation.write_outputs.Statement.{statement}
 use Rattle.plan.proofs.evaluation.write_outputs.Tie as tie
 

@@ -2,7 +2,7 @@
 use mathlib.Core.Path.{sym, ap, _∙_}
 use borrow.Author.Needs.{needs}
 use Rattle.plan.specs.Parsing.{followed}
-use Rattle.plan.specs.PlanFile.{gateFields, gateStep}
+use Rattle.plan.specs.PlanFile.{gateStep}
 use Rattle.plan.specs.Answers.{mapAnswer}
 use Rattle.plan.proofs.reading.read_gate.Statement.{statement}
 use Rattle.plan.proofs.reading.read_gate.Tie as tie

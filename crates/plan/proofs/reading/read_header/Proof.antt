@@ -1,5 +1,4 @@
 -- `plan::reading::read_header` meets its contract. Assumes nothing.
-use mathlib.Core.Path.{refl}
 use borrow.Author.Needs.{needs}
 use borrow.Author.Tests.{lt-ltb, le-ltb}
 use Rattle.plan.specs.PlanFile.{notStub}

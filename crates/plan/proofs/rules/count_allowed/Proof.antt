@@ -1,5 +1,5 @@
 -- `plan::rules::count_allowed` meets its contract. Assumes nothing.
-use borrow.Author.Tests.{lt-leb, le-leb}
+use borrow.Author.Tests.{le-leb}
 use native.Mathlib.Omega.{arith}
 use Rattle.plan.specs.Rules.{countAllowed}
 use Rattle.plan.proofs.rules.count_allowed.Statement.{statement}

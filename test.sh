@@ -1,0 +1,28 @@
+#!/usr/bin/env bash
+# All tests of the repository, from nothing: the Rust package, the comparison of the library with the Rust implementation, the check of
+# public contracts, then rt's own gate, whose last line is the verdict.
+set -euo pipefail
+cd "$(dirname "$0")"
+
+fail() {
+    echo "test: $*" >&2
+    exit 1
+}
+
+command -v rt >/dev/null || fail "the Rattle kit is absent: no command rt"
+command -v cargo >/dev/null || fail "the Rust toolchain is absent: no command cargo"
+command -v rustc >/dev/null || fail "the Rust toolchain is absent: no command rustc"
+command -v cc >/dev/null || fail "the C compiler is absent: no command cc"
+
+recorded=$(cat docs/KIT)
+kit=$(rt version)
+if [ "$kit" != "$recorded" ]; then
+    echo "test: this kit is '$kit'; the repository was proved with '$recorded'"
+fi
+
+rm -rf target host/target
+rt staticlib capi
+cargo test --quiet --release --manifest-path host/Cargo.toml
+cargo run --quiet --release --manifest-path host/Cargo.toml --bin compare
+cargo run --quiet --release --manifest-path host/Cargo.toml --bin check_contracts .
+rt ci
