@@ -14,26 +14,26 @@ use fault::Fault;
 use fault::Refusal;
 
 // A place in a file.
-pub struct Cursor {
+pub(crate) struct Cursor {
     pub at: usize,
 }
 
-pub enum MapStep {
+pub(crate) enum MapStep {
     Map(u8, Cursor),
     Refused(Refusal),
 }
 
-pub enum OperandStep {
+pub(crate) enum OperandStep {
     Operand(PlanWire, Cursor),
     Refused(Refusal),
 }
 
-pub enum TableStep {
+pub(crate) enum TableStep {
     Table(u8, Cursor),
     Refused(Refusal),
 }
 
-pub enum OutputStep {
+pub(crate) enum OutputStep {
     Output(PlanWire, Cursor),
     Refused(Refusal),
 }
@@ -65,7 +65,7 @@ pub(crate) fn word_at(file: &[u8], at: usize) -> u16
 
 impl Cursor {
     // The map byte of a gate.
-    pub fn map_byte(self, file: &[u8]) -> MapStep
+    pub(crate) fn map_byte(self, file: &[u8]) -> MapStep
         ensures { λ r. ⌜ mapAnswer r ≡ mapField (now (file .entry)) (self .at) ⌝ }
     {
         let at = self.at;
@@ -86,7 +86,7 @@ impl Cursor {
     }
 
     // An operand of the gate whose own wire is own.
-    pub fn operand(self, file: &[u8], own: PlanWire) -> OperandStep
+    pub(crate) fn operand(self, file: &[u8], own: PlanWire) -> OperandStep
         ensures { λ r. ⌜ operandAnswer r ≡ operandField (own .0) (now (file .entry)) (self .at) ⌝ }
     {
         let at = self.at;
@@ -107,7 +107,7 @@ impl Cursor {
     }
 
     // The table of a gate.
-    pub fn table(self, file: &[u8]) -> TableStep
+    pub(crate) fn table(self, file: &[u8]) -> TableStep
         ensures { λ r. ⌜ tableAnswer r ≡ tableField (now (file .entry)) (self .at) ⌝ }
     {
         let at = self.at;
@@ -128,7 +128,7 @@ impl Cursor {
     }
 
     // An output of a plan with so many inputs and gates.
-    pub fn output(self, file: &[u8], inputs: u16, gates: u16) -> OutputStep
+    pub(crate) fn output(self, file: &[u8], inputs: u16, gates: u16) -> OutputStep
         ensures { λ r. ⌜ outputAnswer r ≡ outputField inputs gates (now (file .entry)) (self .at) ⌝ }
     {
         let at = self.at;

@@ -9,11 +9,6 @@ mod reading;
 mod record;
 mod rules;
 
-pub use cursor::Cursor;
-pub use cursor::MapStep;
-pub use cursor::OperandStep;
-pub use cursor::OutputStep;
-pub use cursor::TableStep;
 pub use evaluation::evaluate;
 pub use faults::plan_fault;
 pub use reading::PlanRead;
