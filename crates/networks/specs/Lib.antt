@@ -1,4 +1,4 @@
--- The definitions, in document 01's order. Read alone they give every table and program of P.
+-- The definitions, in document 01's order. Read alone they give every table and program of P and S.
 -- "Elements and their table": rows X, Y and G, their entries, and their run over values of any type
 pub mod Rows
 -- "Program bits follow the rows": where bit p lies, storing bits, packing
@@ -9,6 +9,14 @@ pub mod Permutation
 pub mod SideRule
 -- the mapping of a list of wanted inputs
 pub mod Wanted
+-- counting the numbers that pass a test
+pub mod Counting
+-- a partial injection completed in rising order
+pub mod Completion
+-- "Blocks", S(m, n): its rows and output wires, its program bits, and which input reaches which output
+pub mod Selection
+-- S's programming: the rule by itself
+pub mod SelectionRule
 -- The laws of the definitions.
 -- running r ++ s; earlier wires keep their values; decoding undoes `flat`
 pub mod RowsLaws
@@ -32,3 +40,19 @@ pub mod PermutationRun
 pub mod SideRuleLaws
 -- a list of distinct wanted inputs is a one-to-one mapping, and P delivers it
 pub mod WantedLaws
+-- a mapping is fixed by what it does below N, and P programmed for it as for its list
+pub mod Mappings
+-- counts grow with the limit; the n-th number that passes
+pub mod CountingLaws
+-- a completed partial injection is one to one, and the rule fixes it
+pub mod CompletionLaws
+-- S's counts: rows, wires, bits
+pub mod SelectionLaws
+-- S's heads, and the mappings of its two networks
+pub mod Heads
+-- which input reaches which output of S: one of the N for any bits, and as programmed
+pub mod SelectionRouting
+-- S's promises: what its run delivers
+pub mod SelectionRun
+-- the bits of a programmed S follow the rule, and nothing else does
+pub mod SelectionRuleLaws

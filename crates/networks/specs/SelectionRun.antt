@@ -1,0 +1,211 @@
+-- The run of S's rows, over values of any type: for any bits output o carries what input `selectionSource m n bits o` of the N carried, and
+-- programmed for a wanted list it carries what the input that it wants carried. By the parts: P, the chain, P; a Y passes the value of
+-- the position before it on, or its own.
+use mathlib.Core.Path.{_≡_, refl, sym, ap, _∙_}
+use mathlib.Core.Logic.{_⊎_, inl, inr}
+use mathlib.Core.List.{List, [], _∷_, _++_, append-nil}
+use Prim.Native.Nat.{ℕ, zero, suc, _+_, _-_, _*_, _^_, _≤_, _<_}
+use native.Mathlib.Nat.{le-refl, le-step, add-zero, eq-or-lt-of-le, le-of-suc-le-suc}
+use native.Mathlib.Omega.{arith}
+use lib.ListN.{length, getD, drop}
+use lib.Seq.{getD-append-add, getD-drop, drop-at}
+use Rattle.lists.specs.Lists.{listOf, Below}
+use Rattle.networks.specs.Rows.{Row, Y, flat, decode, choose, State, on, outputs, step, run, Delivered}
+use Rattle.networks.specs.RowsLaws.{decode-flat, run-append, run-keeps, run-wires, run-bits, run-gates}
+use Rattle.networks.specs.Bits.{pack, unpack}
+use Rattle.networks.specs.Permutation.{permutationCount, permutationRows, source}
+use Rattle.networks.specs.Wanted.{mapping}
+use Rattle.networks.specs.Loops.{perm-lt}
+use Rattle.networks.specs.Routing.{source-perm}
+use Rattle.networks.specs.PermutationRun.{permutation-made, permutation-left, permutation-routes}
+use Rattle.networks.specs.Selection.{selectionLevel, padded, chainWire, chainRows, chainNext, secondNext, firstOuts, middleOuts}
+use Rattle.networks.specs.Selection.{wholeRows, wholeOuts, selectionRows, selectionOuts, selectionCount, selectionWires, Selected, selectionBits}
+use Rattle.networks.specs.Selection.{chainSource, chainBits, secondBits, wholeSource, selectionSource}
+use Rattle.networks.specs.SelectionLaws.{outputs-fit, getD-padded, chain-totals, chainWire-lt, getD-chainOuts, whole-wires}
+use Rattle.networks.specs.SelectionLaws.{selection-totals, getD-selectionOuts}
+use Rattle.networks.specs.SelectionRouting.{chainSource-le, selectionSource-lt, selection-programmed, length-selectionBits, unpack-selection}
+
+wire-after : (w : List ℕ) (next i : ℕ) → chainWire w next (suc i) ≡ next + i
+unfolding chainWire
+wire-after w next i = refl
+
+source-after : (bits : List ℕ) (i : ℕ) → chainSource bits (suc i) ≡ choose (getD bits i 0) (chainSource bits i) (suc i)
+unfolding chainSource
+source-after bits i = refl
+
+module _ {A : Type 0} (none : A) (gate : ℕ → List ℕ → List A → A) where
+  -- ---- the chain
+
+  chosen : (v : ℕ → A) (b x y : ℕ) → choose b (v x) (v y) ≡ v (choose b x y)
+  unfolding choose
+  chosen v zero x y = refl
+  chosen v (suc b) x y = refl
+
+  -- one Y row
+  last-y : (l r : ℕ) (t : State A) → on none (run none gate (Y l r ∷ []) t) (length (t .wires) + 0)
+      ≡ choose (getD (t .bits) 0 0) (on none t l) (on none t r)
+  unfolding run step outputs
+  last-y l r t = getD-append-add (t .wires) _ 0 none
+
+  chain-made : (k : ℕ) (w : List ℕ) (next : ℕ) (s : State A) → length (run none gate (chainRows k w next) s .wires) ≡ length (s .wires) + k
+  chain-made k w next s = run-wires none gate _ s ∙ ap (λ m. length (s .wires) + m) (chain-totals k w next .wires)
+
+  chain-left : (k : ℕ) (w : List ℕ) (next : ℕ) (s : State A) → run none gate (chainRows k w next) s .bits ≡ drop k (s .bits)
+  chain-left k w next s = run-bits none gate _ s ∙ ap (λ m. drop m (s .bits)) (chain-totals k w next .bits)
+
+  chain-more : (k : ℕ) (w : List ℕ) (next : ℕ) (s : State A) → run none gate (chainRows (suc k) w next) s
+      ≡ run none gate (Y (chainWire w next k) (getD w (suc k) 0) ∷ []) (run none gate (chainRows k w next) s)
+  unfolding chainRows listOf
+  chain-more k w next s = run-append none gate _ _ s
+
+  -- at position i the chain has what position `chainSource bits i` of the wires w carried
+  chain-carries : (k : ℕ) (w : List ℕ) (next : ℕ) (s : State A) → ((i : ℕ) → i ≤ k → getD w i 0 < next) → length (s .wires) ≡ next
+      → (i : ℕ) → i ≤ k → on none (run none gate (chainRows k w next) s) (chainWire w next i) ≡ on none s (getD w (chainSource (s .bits) i) 0)
+  chain-carries zero w next s h m zero l = unfold chainRows listOf run chainWire chainSource in refl
+  chain-carries zero w next s h m (suc i) l = absurd (omega arith)
+  chain-carries (suc k) w next s h m i l =
+      rw (chain-more k w next s) (go (chain-carries k w next s (λ j b. h j (le-step b)) m) (eq-or-lt-of-le l))
+    where
+      t : State A
+      t = run none gate (chainRows k w next) s
+
+      made : length (t .wires) ≡ next + k
+      made = chain-made k w next s ∙ ap (λ x. x + k) m
+
+      y : State A
+      y = run none gate (Y (chainWire w next k) (getD w (suc k) 0) ∷ []) t
+
+      value : ℕ → A
+      value p = on none s (getD w p 0)
+
+      bit : getD (t .bits) 0 0 ≡ getD (s .bits) k 0
+      bit = ap (λ (b : List ℕ). getD b 0 0) (chain-left k w next s) ∙ getD-drop k (s .bits) 0 0 ∙ ap (λ j. getD (s .bits) j 0) (add-zero k)
+
+      fed : on none t (getD w (suc k) 0) ≡ value (suc k)
+      fed = run-keeps none gate _ s _ none (rw m (h (suc k) (le-refl (suc k))))
+
+      go : ((j : ℕ) → j ≤ k → on none t (chainWire w next j) ≡ value (chainSource (s .bits) j)) → (i ≡ suc k) ⊎ (i < suc k)
+          → on none y (chainWire w next i) ≡ value (chainSource (s .bits) i)
+      go ih (inl e) =
+          ap (on none y) (ap (chainWire w next) e ∙ wire-after w next k ∙ sym made ∙ sym (add-zero _))
+          ∙ last-y (chainWire w next k) (getD w (suc k) 0) t
+          ∙ rw (bit, ih k (le-refl k), fed) (chosen value (getD (s .bits) k 0) (chainSource (s .bits) k) (suc k))
+          ∙ ap value (sym (source-after (s .bits) k) ∙ ap (chainSource (s .bits)) (sym e))
+      go ih (inr b) =
+          let j : i ≤ k = le-of-suc-le-suc b in
+          run-keeps none gate _ t _ none (rw made (omega (arith, chainWire-lt w next i (h 0 (omega arith))))) ∙ ih i j
+
+  -- ---- the whole block
+
+  module _ (level : ℕ) (ins : List ℕ) (next : ℕ) (s : State A) (zero-made : 0 < next) (b : Below next ins) (m : length (s .wires) ≡ next) where
+    after-first : State A
+    after-first = run none gate (permutationRows level (padded (2 ^ level) ins) next) s
+
+    after-chain : State A
+    after-chain = run none gate (chainRows (2 ^ level - 1) (firstOuts level ins next) (chainNext level next)) after-first
+
+    made-first : length (after-first .wires) ≡ chainNext level next
+    unfolding after-first
+    made-first = permutation-made none gate level _ next s ∙ ap (λ k. k + 2 * permutationCount level) m
+
+    made-chain : length (after-chain .wires) ≡ secondNext level next
+    unfolding after-chain
+    made-chain = chain-made (2 ^ level - 1) _ _ after-first ∙ ap (λ k. k + (2 ^ level - 1)) made-first
+
+    left-first : after-first .bits ≡ chainBits level (s .bits)
+    unfolding after-first
+    left-first = permutation-left none gate level _ next s
+
+    left-chain : after-chain .bits ≡ secondBits level (s .bits)
+    unfolding after-chain
+    left-chain = chain-left (2 ^ level - 1) _ _ after-first ∙ ap (drop (2 ^ level - 1)) left-first
+
+    first-carries : (p : ℕ) → p < 2 ^ level
+        → on none after-first (getD (firstOuts level ins next) p 0) ≡ on none s (getD ins (source level (s .bits) p) 0)
+    unfolding after-first
+    first-carries p l =
+        let w = whole-wires level ins next zero-made b in
+        permutation-routes none gate level _ next s (w .first-size) (w .first-fed) m p l
+        ∙ ap (on none s) (getD-padded (2 ^ level) ins _ (perm-lt (source-perm level (s .bits)) p l))
+
+    middle-carries : (p : ℕ) → p < 2 ^ level → on none after-chain (getD (middleOuts level ins next) p 0)
+        ≡ on none s (getD ins (source level (s .bits) (chainSource (chainBits level (s .bits)) p)) 0)
+    unfolding after-chain
+    middle-carries p l =
+        let w = whole-wires level ins next zero-made b in
+        let fed = firstOuts level ins next in
+        ap (on none after-chain) (getD-chainOuts (2 ^ level) fed (chainNext level next) p l)
+        ∙ chain-carries (2 ^ level - 1) fed (chainNext level next) after-first (λ i k. w .chain-fed i (omega arith)) made-first p (omega arith)
+        ∙ ap (λ (a : List ℕ). on none after-first (getD fed (chainSource a p) 0)) left-first
+        ∙ first-carries (chainSource (chainBits level (s .bits)) p) (omega (arith, chainSource-le (chainBits level (s .bits)) p))
+
+    -- for any bits output o carries what the input that it is joined to carried
+    whole-routes : (o : ℕ) → o < 2 ^ level → on none (run none gate (wholeRows level ins next) s) (getD (wholeOuts level ins next) o 0)
+        ≡ on none s (getD ins (wholeSource level (s .bits) o) 0)
+    unfolding wholeRows wholeOuts wholeSource after-first after-chain
+    whole-routes o l =
+        let w = whole-wires level ins next zero-made b in
+        let middle = middleOuts level ins next in
+        ap (λ (t : State A). on none t (getD (wholeOuts level ins next) o 0)) (run-append none gate _ _ s ∙ run-append none gate _ _ after-first)
+        ∙ permutation-routes none gate level middle (secondNext level next) after-chain (w .second-size) (w .second-fed) made-chain o l
+        ∙ ap (λ (a : List ℕ). on none after-chain (getD middle (source level a o) 0)) left-chain
+        ∙ middle-carries (source level (secondBits level (s .bits)) o) (perm-lt (source-perm level (secondBits level (s .bits))) o l)
+
+  -- ---- the promises
+
+  -- S(m, n), run from s, joins output o to input π o and leaves the bits `rest`. An input past the list is wire 0
+  abbrev pub SelectionDelivers : ℕ → ℕ → (ℕ → ℕ) → List ℕ → ℕ → State A → List ℕ → Type 0
+  SelectionDelivers m n π ins next s rest =
+      Delivered none n π ins (selectionOuts m n ins next) s (run none gate (selectionRows m n ins next) s) (selectionWires m n) rest
+
+  selection-routes : (m n : ℕ) (ins : List ℕ) (next : ℕ) (s : State A) → 0 < next → Below next ins → length (s .wires) ≡ next
+      → (o : ℕ) → o < n → on none (run none gate (selectionRows m n ins next) s) (getD (selectionOuts m n ins next) o 0)
+      ≡ on none s (getD ins (selectionSource m n (s .bits) o) 0)
+  unfolding selectionRows selectionSource
+  selection-routes m n ins next s z b e o l =
+      let level : ℕ = selectionLevel m n in
+      ap (on none (run none gate (wholeRows level ins next) s)) (getD-selectionOuts m n ins next o l)
+      ∙ whole-routes level ins next s z b e o (omega (arith, outputs-fit m n))
+
+  -- for any bits, even too few, each output carries what one of the N inputs carried, which the bits alone decide
+  pub selection-selects : (m n : ℕ) (ins : List ℕ) (next : ℕ) (s : State A) → 0 < next → Below next ins → length (s .wires) ≡ next
+      → ((o : ℕ) → o < n → selectionSource m n (s .bits) o < 2 ^ selectionLevel m n)
+      × (SelectionDelivers m n (selectionSource m n (s .bits)) ins next s (drop (selectionCount m n) (s .bits)))
+  selection-selects m n ins next s z b e =
+      let t = selection-totals m n ins next in (
+        λ o l. selectionSource-lt m n (s .bits) o l,
+        record {
+          carried = selection-routes m n ins next s z b e;
+          kept = λ w l. run-keeps none gate _ s w none l;
+          wires = run-wires none gate _ s ∙ ap (λ k. length (s .wires) + k) (t .wires);
+          bits = run-bits none gate _ s ∙ ap (λ k. drop k (s .bits)) (t .bits);
+          gates = run-gates none gate _ s ∙ rw (t .gates, add-zero);
+        },
+      )
+
+  -- programmed for the wanted inputs, output o carries what input `mapping wanted o` carried, counted from 0; the bits after the program
+  -- are untouched
+  pub selection-delivers : {m n : ℕ} {wanted : List ℕ} → Selected m n wanted → (ins : List ℕ) (next : ℕ) (s : State A) (rest : List ℕ)
+      → 0 < next → Below next ins → length (s .wires) ≡ next → s .bits ≡ selectionBits m n wanted ++ rest
+      → SelectionDelivers m n (mapping wanted) ins next s rest
+  selection-delivers {m} {n} {wanted} W ins next s rest z b e bits =
+      let d = selection-selects m n ins next s z b e .1 in
+      let same : (o : ℕ) → o < n → selectionSource m n (s .bits) o ≡ mapping wanted o = λ o l. rw bits (selection-programmed W rest o l) in
+      record {
+        carried = λ o l. d .carried o l ∙ ap (λ x. on none s (getD ins x 0)) (same o l);
+        kept = d .kept;
+        wires = d .wires;
+        bits = d .bits ∙ rw bits (drop-at (selectionBits m n wanted) rest (selectionCount m n) (length-selectionBits m n wanted));
+        gates = d .gates;
+      }
+
+  -- the same for packed bits and written entries: what is read back from them runs as S does
+  pub packed-selection-delivers : {m n : ℕ} {wanted : List ℕ} → Selected m n wanted → (ins : List ℕ) (next : ℕ) (values : List A)
+      → 0 < next → Below next ins → length values ≡ next → (o : ℕ) → o < n
+      → let bits : List ℕ = unpack (selectionCount m n) (pack (selectionBits m n wanted)) in
+      let rows : List Row = decode (flat (selectionRows m n ins next)) in
+      on none (run none gate rows (record { wires = values; bits = bits; gates = 0 })) (getD (selectionOuts m n ins next) o 0)
+      ≡ getD values (getD ins (mapping wanted o) 0) none
+  packed-selection-delivers {m} {n} {wanted} W ins next values z b e o l =
+      let bits = unpack-selection m n wanted ∙ sym (append-nil (selectionBits m n wanted)) in
+      rw (decode-flat (selection-totals m n ins next .family)) (selection-delivers W ins next _ [] z b e bits .carried o l)
