@@ -1,15 +1,19 @@
 /*
- * Mukdalis, the contact fabric library: plans, their faults and their evaluation.
+ * Mukdalis, the contact fabric library: plans, their faults and their evaluation; the permutation
+ * network P of the block library, its rows and its program.
  *
  * Every call takes all inputs and refuses bad ones. It answers a number: 0 for done, any other
  * the row of the refusal table below whose check failed first. A refusal writes through no
  * pointer. Where a buffer is longer than its stated length, the entries past it stay as they were.
  *
- * A pointer is never null, also where its length is 0; that many bytes behind it belong to the
+ * A pointer is never null, also where its length is 0; that many entries behind it belong to the
  * caller, and a buffer that is written overlaps no other. No call keeps a pointer.
  *
  * Wires of a plan: 1 to u are its inputs, u + g is gate g, where u, k and v are the plan's numbers
  * of inputs, gates and outputs. Gates and outputs count from 1 here and lie in arrays from 0.
+ *
+ * Wires of a fabric are others: 0 is constant zero, 1 to u the inputs, then each row's outputs in
+ * order. The highest is 65,535. A made wire is one below the next unmade wire.
  */
 #ifndef MUKDALIS_H
 #define MUKDALIS_H
@@ -26,7 +30,7 @@ extern "C" {
 #define MKD_MAX_GATES 256
 #define MKD_MAX_OUTPUTS 64
 
-/* The refusal table. */
+/* The refusal table. The block library reads some words otherwise: its calls say how. */
 enum mkd_fault {
     MKD_STUB = 1,     /* file below 6 bytes */
     MKD_INPUTS = 2,   /* u not 1 to 64 */
@@ -105,6 +109,47 @@ uint32_t mkd_plan_fault(struct mkd_plan plan);
  */
 uint32_t mkd_plan_evaluate(struct mkd_plan plan, const uint8_t *row, size_t row_len,
                            uint8_t *result, size_t result_len);
+
+/*
+ * Writes P(n), the permutation network of n inputs and outputs, as n log n - n + 1 rows, log to
+ * base 2. A row is three entries: kind 1 (X), left wire, right wire. It makes two wires, the next
+ * unmade ones, and has one program bit: at 0 they carry left and right, at 1 right and left.
+ *
+ * inputs are n made wires, next is the next unmade wire. Wire 0 and repeated wires are allowed.
+ * The entries of the rows become the first of rows, P's n output wires the first of outputs.
+ *
+ * P(1) is a wire. Otherwise the rows are, in order: n / 2 on the input pairs, whose first outputs
+ * feed the upper P(n / 2) and second the lower at the pair's place; the upper's; the lower's;
+ * n / 2 - 1 that join output i of upper and lower into outputs 2i - 1 and 2i. The last output pair
+ * has no row.
+ *
+ * Refusals, in this order: 2 if n is not a power of two from 1 to 512; 12 if inputs_len is not n;
+ * 13 if an input wire is not below next, or a wire that a row makes would pass 65,535 (P(1) has no
+ * row, so that next may then be any number above its input); 11 if rows_len is below three entries
+ * a row or outputs_len below n. A refusal leaves rows and outputs as they were.
+ */
+uint32_t mkd_permutation_write(uint32_t n, const uint16_t *inputs, size_t inputs_len,
+                               uint32_t next, uint16_t *rows, size_t rows_len,
+                               uint16_t *outputs, size_t outputs_len);
+
+/*
+ * Programs P(n): with this program output i + 1 of P(n) carries what input wanted[i] carries, i
+ * from 0, where wanted has each of 1 to n once.
+ *
+ * Input and output pairs joined by that mapping form loops. In the loop holding the last output
+ * pair, that pair is straight; in each other loop its lowest output pair is. This fixes every bit,
+ * for the upper and the lower P(n / 2) likewise.
+ *
+ * Program bits follow the rows, one a row. Bit p, from 0, lies in byte p / 8 at place p % 8, place
+ * 0 lowest; spare bits of the last byte are 0. The stated length is the bits divided by 8, rounded
+ * up: 0 for P(1).
+ *
+ * Refusals, in this order: 2 if n is not a power of two from 1 to 512; 12 if wanted_len is not n;
+ * 9 if a wanted input is not in 1 to n or comes twice; 11 if program_len is below the stated
+ * length. A refusal leaves program as it was.
+ */
+uint32_t mkd_permutation_program(uint32_t n, const uint16_t *wanted, size_t wanted_len,
+                                 uint8_t *program, size_t program_len);
 
 #ifdef __cplusplus
 }

@@ -5,36 +5,44 @@
 
 mod files;
 mod memory;
+mod permutation;
+
+mod buffer;
 mod show;
+mod tables;
 
 use std::fmt::{self, Write};
 use std::ops::Range;
 
+use self::buffer::GUARD;
 use self::show::{first_difference, hex, show_number, show_plan, show_read};
 use crate::fault::{Fault, Refusal};
 use crate::plan::Plan;
 use crate::random::Random;
 use crate::{exports, reference};
 
-/// Bytes kept on each side of a lent buffer, which no call may change.
-const GUARD: usize = 8;
-
 /// One place for each number of the refusal table, and place 0 for done.
 const NUMBERS: usize = Fault::TABLE.len() + 1;
 
-/// A call that is compared.
+/// A call that is compared, or the run of what two calls wrote.
 #[derive(Clone, Copy)]
 enum Call {
     Reading,
     Faults,
     Evaluation,
+    PermutationWriting,
+    PermutationProgramming,
+    PermutationDelivery,
 }
 
 /// Each call's name, and the numbers that it must have given at least once.
-const CALLS: [(&str, &[usize]); 3] = [
+const CALLS: [(&str, &[usize]); 6] = [
     ("reading", &[0, 1, 2, 3, 4, 5, 6, 7, 8, 9, 10]),
     ("plan faults", &[0, 2, 3, 4, 7, 8, 9]),
     ("evaluation", &[0, 2, 3, 4, 7, 8, 9, 11, 12]),
+    ("writing P", &[0, 2, 11, 12, 13]),
+    ("programming P", &[0, 2, 9, 11, 12]),
+    ("delivery by P", &[0]),
 ];
 
 /// What ends a comparison: a case with both answers, or a number that was never given.
@@ -57,6 +65,7 @@ impl Comparison {
         let mut random = Random::new(seed);
         files::compare(&mut comparison, &mut random)?;
         memory::compare(&mut comparison, &mut random)?;
+        permutation::compare(&mut comparison, &mut random)?;
         comparison.check_seen()?;
         Ok(comparison)
     }
@@ -162,56 +171,11 @@ impl Comparison {
         }
         Difference(text)
     }
-
-    fn cases(&self, call: Call) -> u64 {
-        self.seen[call as usize].iter().sum()
-    }
-}
-
-/// The tables of cases by kind and of answers by number, and the totals.
-impl fmt::Display for Comparison {
-    fn fmt(&self, out: &mut fmt::Formatter<'_>) -> fmt::Result {
-        let titles = CALLS.map(|(call, _)| call.to_string());
-        write_row(out, "cases compared", &titles)?;
-        for (kind, cases) in &self.kinds {
-            write_row(out, kind, &cases.map(or_dash))?;
-        }
-        writeln!(out)?;
-        write_row(out, "answers", &titles)?;
-        for number in 0..NUMBERS {
-            let answers = self.seen.map(|seen| seen[number]);
-            if answers.iter().any(|&cases| cases > 0) {
-                write_row(out, &show_number(number as u32), &answers.map(or_dash))?;
-            }
-        }
-        writeln!(out)?;
-        let total: u64 = self.seen.iter().flatten().sum();
-        let files = self.cases(Call::Reading);
-        writeln!(
-            out,
-            "compared {total} cases, {files} of them files: no difference"
-        )
-    }
 }
 
 impl fmt::Display for Difference {
     fn fmt(&self, out: &mut fmt::Formatter<'_>) -> fmt::Result {
         out.write_str(&self.0)
-    }
-}
-
-fn write_row(out: &mut fmt::Formatter<'_>, title: &str, cells: &[String]) -> fmt::Result {
-    write!(out, "{title:<40}")?;
-    for cell in cells {
-        write!(out, "{cell:>14}")?;
-    }
-    writeln!(out)
-}
-
-fn or_dash(cases: u64) -> String {
-    match cases {
-        0 => "-".to_string(),
-        _ => cases.to_string(),
     }
 }
 

@@ -3,7 +3,8 @@
 use std::error::Error;
 use std::fmt;
 
-/// A word of the refusal table. Its discriminant is the word's number.
+/// A word of the refusal table. Its discriminant is the word's number. The block library reads
+/// some words otherwise: `include/mukdalis.h` says how at its calls.
 #[derive(Clone, Copy, Debug, PartialEq, Eq)]
 pub enum Fault {
     /// The file is below 6 bytes.

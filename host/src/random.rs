@@ -34,6 +34,14 @@ impl Random {
         from[(self.word() % from.len() as u64) as usize]
     }
 
+    /// Puts the places in a random order.
+    pub fn shuffle<T>(&mut self, places: &mut [T]) {
+        for last in (1..places.len()).rev() {
+            let place = (self.word() % (last as u64 + 1)) as usize;
+            places.swap(place, last);
+        }
+    }
+
     pub fn bytes(&mut self, len: usize) -> Vec<u8> {
         (0..len).map(|_| self.byte()).collect()
     }

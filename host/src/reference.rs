@@ -1,3 +1,6 @@
 //! The second implementation, in plain safe Rust from document 01 alone: one module a subject.
 
 pub mod plan;
+
+pub mod elements;
+pub mod permutation;

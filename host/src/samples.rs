@@ -1,4 +1,7 @@
-//! Random accepted plans and their files, from which the comparison makes its cases.
+//! Random accepted plans and their files, and permutations, from which the comparison makes its
+//! cases.
+
+pub mod permutation;
 
 use crate::plan::{Gate, Plan};
 use crate::random::Random;

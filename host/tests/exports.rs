@@ -33,3 +33,33 @@ fn refusals_have_their_words() {
     plan.gates[0].table = 16;
     assert_eq!(exports::check(&plan), Err(Fault::Table));
 }
+
+/// P(4) on wires 1 to 4 with the bench sheet's program for outputs from inputs 3, 1, 2, 4.
+#[test]
+fn a_permutation_is_written_and_programmed() {
+    let (mut rows, mut outputs, mut program) = ([9; 16], [9; 5], [9; 2]);
+    let written = exports::write_permutation(4, &[1, 2, 3, 4], 5, &mut rows, &mut outputs);
+    assert_eq!(written, Ok(()));
+    assert_eq!(rows, [1, 1, 2, 1, 3, 4, 1, 5, 7, 1, 6, 8, 1, 9, 11, 9]);
+    assert_eq!(outputs, [13, 14, 10, 12, 9]);
+    let programmed = exports::program_permutation(4, &[3, 1, 2, 4], &mut program);
+    assert_eq!(programmed, Ok(()));
+    assert_eq!(program, [0b00101, 9]);
+}
+
+#[test]
+fn refused_permutations_have_their_words() {
+    let write = |n, inputs: &[u16], next, rows: &mut [u16]| {
+        exports::write_permutation(n, inputs, next, rows, &mut [0; 4])
+    };
+    assert_eq!(write(3, &[0; 3], 1, &mut [0; 99]), Err(Fault::Inputs));
+    assert_eq!(write(4, &[0; 3], 1, &mut [0; 99]), Err(Fault::Contact));
+    assert_eq!(write(4, &[1; 4], 1, &mut [0; 99]), Err(Fault::Fabric));
+    assert_eq!(write(4, &[0; 4], 1, &mut [0; 14]), Err(Fault::Short));
+
+    let program = |n, wanted: &[u16]| exports::program_permutation(n, wanted, &mut []);
+    assert_eq!(program(0, &[]), Err(Fault::Inputs));
+    assert_eq!(program(2, &[2]), Err(Fault::Contact));
+    assert_eq!(program(2, &[2, 2]), Err(Fault::Source));
+    assert_eq!(program(2, &[2, 1]), Err(Fault::Short));
+}

@@ -18,6 +18,10 @@ int main(void)
     struct mkd_read done = mkd_plan_read(not_plan, sizeof not_plan);
     const uint8_t row[1] = {0};
     uint8_t result[2] = {9, 9};
+    const uint16_t pair[2] = {2, 1};
+    uint16_t rows[4] = {9, 9, 9, 9};
+    uint16_t outputs[3] = {9, 9, 9};
+    uint8_t program[2] = {9, 9};
 
     if (refused.number != MKD_CUT || refused.at != 8 || refused.plan.inputs != 0)
         return fails("a cut file");
@@ -29,6 +33,22 @@ int main(void)
         return fails("a short result");
     if (mkd_plan_evaluate(done.plan, row, 1, result, 2) != 0 || result[0] != 1 || result[1] != 9)
         return fails("an evaluation");
+    if (mkd_permutation_write(2, pair, 2, 2, rows, 4, outputs, 3) != MKD_FABRIC || rows[0] != 9)
+        return fails("an unmade wire");
+    if (mkd_permutation_write(2, pair, 2, 3, rows, 4, outputs, 1) != MKD_SHORT || outputs[0] != 9)
+        return fails("short outputs");
+    if (mkd_permutation_write(2, pair, 2, 3, rows, 4, outputs, 3) != 0)
+        return fails("a writing");
+    if (rows[0] != 1 || rows[1] != 2 || rows[2] != 1 || rows[3] != 9)
+        return fails("the rows written");
+    if (outputs[0] != 3 || outputs[1] != 4 || outputs[2] != 9)
+        return fails("the outputs written");
+    if (mkd_permutation_program(2, pair, 1, program, 2) != MKD_CONTACT || program[0] != 9)
+        return fails("a list of another length");
+    if (mkd_permutation_program(2, pair, 2, program, 2) != 0)
+        return fails("a programming");
+    if (program[0] != 1 || program[1] != 9)
+        return fails("the program written");
 
     printf("%zu %zu %zu", sizeof(struct mkd_gate), offsetof(struct mkd_gate, second),
            offsetof(struct mkd_gate, table));

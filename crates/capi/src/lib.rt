@@ -5,7 +5,10 @@ ghost use lib.ListN.{length};
 ghost use Rattle.plan.specs.PlanFile.{planRead};
 ghost use Rattle.plan.specs.Faults.{planFault};
 ghost use Rattle.plan.specs.Evaluation.{evaluateFault, evaluateResult};
+ghost use Rattle.blocks.specs.WriteCalls.{writeFault, writtenRows, writtenOutputs};
+ghost use Rattle.blocks.specs.ProgramCalls.{programFault, programResult};
 ghost use Rattle.capi.specs.Exports.{outcomeOf};
+use blocks::FabricWire;
 use plan::Plan;
 use plan::ReadAnswer;
 
@@ -57,4 +60,23 @@ pub extern "C" fn mkd_plan_evaluate(plan: Plan, row: &[u8], result: &mut [u8]) -
     ensures written { λ _. ⌜ now (result .exit) ≡ evaluateResult plan (now (row .entry)) (now (result .entry)) ⌝ }
 {
     plan::evaluate(plan, row, result).number()
+}
+
+// Writes the permutation network P(n): its rows and its output wires.
+#[no_mangle]
+pub extern "C" fn mkd_permutation_write(n: u32, inputs: &[u16], next: u32, rows: &mut [u16], outputs: &mut [u16]) -> u32
+    ensures answered { λ r. ⌜ r ≡ writeFault n (now (inputs .entry)) next (length (now (rows .entry))) (length (now (outputs .entry))) ⌝ }
+    ensures rows { λ _. ⌜ now (rows .exit) ≡ writtenRows n (now (inputs .entry)) next (now (rows .entry)) (now (outputs .entry)) ⌝ }
+    ensures outputs { λ _. ⌜ now (outputs .exit) ≡ writtenOutputs n (now (inputs .entry)) next (now (rows .entry)) (now (outputs .entry)) ⌝ }
+{
+    blocks::write_permutation(n, inputs, FabricWire(next), rows, outputs).number()
+}
+
+// Programs P(n) for the wanted inputs.
+#[no_mangle]
+pub extern "C" fn mkd_permutation_program(n: u32, wanted: &[u16], program: &mut [u8]) -> u32
+    ensures answered { λ r. ⌜ r ≡ programFault n (now (wanted .entry)) (length (now (program .entry))) ⌝ }
+    ensures written { λ _. ⌜ now (program .exit) ≡ programResult n (now (wanted .entry)) (now (program .entry)) ⌝ }
+{
+    blocks::program_permutation(n, wanted, program).number()
 }

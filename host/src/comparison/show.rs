@@ -5,6 +5,7 @@ use std::fmt::Write;
 use crate::exports;
 use crate::fault::Fault;
 use crate::plan::{Gate, Plan};
+use crate::samples::permutation::{Programming, Writing};
 
 pub fn show_number(number: u32) -> String {
     match Fault::from_number(number) {
@@ -51,6 +52,19 @@ pub fn first_difference(expected: &Plan, found: &Plan) -> String {
         return format!("the plan's outputs[{j}]");
     }
     "the number or the offset".to_string()
+}
+
+pub fn show_writing(case: &Writing) -> String {
+    let Writing { n, next, .. } = case;
+    format!("n {n} next {next} inputs {}", show_list(&case.inputs))
+}
+
+pub fn show_programming(case: &Programming) -> String {
+    format!("n {} wanted {}", case.n, show_list(&case.wanted))
+}
+
+fn show_list(list: &[u16]) -> String {
+    format!("{} entries {list:?}", list.len())
 }
 
 pub fn hex(bytes: &[u8]) -> String {

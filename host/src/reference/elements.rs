@@ -1,0 +1,135 @@
+//! Rows of elements, their program bits, and the run of rows on wires that hold any values.
+//!
+//! Of the three kinds only X is there so far.
+
+/// Kind 1, X: two inputs, two outputs, one bit. Bit 0 straight, bit 1 crossed.
+const X: u16 = 1;
+
+/// Entries of a row in a table: kind, left wire, right wire.
+const ROW_ENTRIES: usize = 3;
+
+/// Bits of a program byte, the lowest first.
+const BYTE_BITS: usize = 8;
+
+/// The highest number of a fabric wire.
+pub const LAST_WIRE: u64 = 65_535;
+
+/// Rows in order, and the next unmade wire. Wires may pass the last one: whoever draws sees to it.
+pub struct Drawing {
+    rows: Vec<[u64; ROW_ENTRIES]>,
+    pub next: u64,
+}
+
+impl Drawing {
+    pub fn new(next: u64) -> Drawing {
+        let rows = Vec::new();
+        Drawing { rows, next }
+    }
+
+    /// Draws an X row and gives the two wires that it makes.
+    pub fn x(&mut self, left: u64, right: u64) -> [u64; 2] {
+        self.rows.push([X.into(), left, right]);
+        let first = self.next;
+        self.next += 2;
+        [first, first + 1]
+    }
+
+    /// The rows' entries in a table, of a drawing whose wires do not pass the last one.
+    pub fn entries(&self) -> Vec<u16> {
+        entries(self.rows.as_flattened())
+    }
+}
+
+/// Wires as 16-bit entries; none passes the last one.
+pub fn entries(wires: &[u64]) -> Vec<u16> {
+    let entry = |&wire| u16::try_from(wire).expect("a wire up to the last one");
+    wires.iter().map(entry).collect()
+}
+
+/// Program bits in bytes: bit p in byte p div 8 at place p mod 8, place 0 lowest; spare bits 0.
+pub fn pack(bits: &[bool]) -> Vec<u8> {
+    let mut bytes = vec![0; bits.len().div_ceil(BYTE_BITS)];
+    for (p, &bit) in bits.iter().enumerate() {
+        bytes[p / BYTE_BITS] |= u8::from(bit) << (p % BYTE_BITS);
+    }
+    bytes
+}
+
+/// Bit p of a program.
+fn bit(program: &[u8], p: usize) -> bool {
+    program[p / BYTE_BITS] >> (p % BYTE_BITS) & 1 == 1
+}
+
+/// Values of wires: those made before the rows, and those that the rows make.
+pub struct Wires<'a, T> {
+    before: &'a [T],
+    made: Vec<T>,
+}
+
+impl<'a, T: Copy> Wires<'a, T> {
+    /// Runs the X rows of a table part with a program's bits; `before` has the values of all wires
+    /// below the first one that the rows make.
+    pub fn run(rows: &[u16], program: &[u8], before: &'a [T]) -> Wires<'a, T> {
+        let made = Vec::new();
+        let mut wires = Wires { before, made };
+        for (p, row) in rows.chunks_exact(ROW_ENTRIES).enumerate() {
+            let [kind, left, right] = [row[0], row[1], row[2]];
+            assert_eq!(kind, X, "the kind of row {p}");
+            let straight = [wires.value(left), wires.value(right)];
+            let crossed = [straight[1], straight[0]];
+            let outputs = if bit(program, p) { crossed } else { straight };
+            wires.made.extend(outputs);
+        }
+        wires
+    }
+
+    pub fn value(&self, wire: u16) -> T {
+        let wire = usize::from(wire);
+        match wire.checked_sub(self.before.len()) {
+            Some(place) => self.made[place],
+            None => self.before[wire],
+        }
+    }
+}
+
+#[cfg(test)]
+mod tests {
+    use super::*;
+
+    #[test]
+    fn the_lowest_bit_of_a_byte_comes_first() {
+        let mut bits = [false; 10];
+        bits[0] = true;
+        bits[3] = true;
+        bits[8] = true;
+        assert_eq!(pack(&bits), [0x09, 0x01]);
+        assert_eq!(pack(&bits[..8]), [0x09]);
+        assert_eq!(pack(&[]), []);
+    }
+
+    #[test]
+    fn bits_are_read_where_they_were_packed() {
+        let bits: Vec<bool> = (0..21).map(|p| p * p % 5 == 1).collect();
+        let program = pack(&bits);
+        let read: Vec<bool> = (0..bits.len()).map(|p| bit(&program, p)).collect();
+        assert_eq!(read, bits);
+    }
+
+    /// The second row takes the first one's outputs, wires 3 and 4.
+    #[test]
+    fn a_row_is_straight_or_crossed_by_its_bit() {
+        let mut drawing = Drawing::new(3);
+        assert_eq!(drawing.x(1, 2), [3, 4]);
+        assert_eq!(drawing.x(4, 0), [5, 6]);
+        let rows = drawing.entries();
+        assert_eq!(rows, [1, 1, 2, 1, 4, 0]);
+        let values = |program: u8| {
+            let wires = Wires::run(&rows, &[program], &['z', 'a', 'b']);
+            [3, 4, 5, 6].map(|wire| wires.value(wire))
+        };
+        assert_eq!(values(0b00), ['a', 'b', 'b', 'z']);
+        assert_eq!(values(0b01), ['b', 'a', 'a', 'z']);
+        assert_eq!(values(0b10), ['a', 'b', 'z', 'b']);
+        assert_eq!(values(0b11), ['b', 'a', 'z', 'a']);
+    }
+}
