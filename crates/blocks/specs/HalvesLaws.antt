@@ -35,14 +35,15 @@ step-count (suc n) h = rw (sub-one (suc n))
 -- ---- wires
 
 -- the first outputs of the input rows are put in front, and behind them the second ones
-pub halves-fed : (half next second : ℕ) (L P F : List ℕ) → 2 * half ≤ length L → P ≡ over (listOf half (λ i. next + 2 * i)) L
-    → second ≡ next + 1 → F ≡ over (listOf half (λ i. second + 2 * i)) (partOf half P)
+pub halves-fed : (half next first second : ℕ) (L P F : List ℕ) → 2 * half ≤ length L → P ≡ over (listOf half (λ i. first + 2 * i)) L
+    → F ≡ over (listOf half (λ i. second + 2 * i)) (partOf half P) → first ≡ next → second ≡ next + 1
     → withPart half P F ≡ over (firsts half next ++ seconds half next) L
 unfolding firsts seconds
-halves-fed half next second L P F h before e part =
-    let same = listOf-ext half (λ i. second + 2 * i) (λ i. next + 2 * i + 1) (λ i l. omega arith) in
-    over-part (firsts half next) L P half (length-firsts half next) (omega arith) before (seconds half next) F
-    (omega (arith, length-seconds half next)) (rw same at part)
+halves-fed half next first second L P F h before part e₁ e₂ =
+    let same₁ = listOf-ext half (λ i. first + 2 * i) (λ i. next + 2 * i) (λ i l. omega arith) in
+    let same₂ = listOf-ext half (λ i. second + 2 * i) (λ i. next + 2 * i + 1) (λ i l. omega arith) in
+    over-part (firsts half next) L P half (length-firsts half next) (omega arith) (rw same₁ at before) (seconds half next) F
+    (omega (arith, length-seconds half next)) (rw same₂ at part)
 
 -- a list, then one entry more, and the entry behind it stays
 then-pair : (A W : List ℕ) (last v : ℕ) → length A ≡ last → suc (suc last) ≤ length W

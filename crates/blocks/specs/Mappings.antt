@@ -1,10 +1,10 @@
 -- The mapping of P's outputs to its inputs as the programming holds it: a list of places counted from 0, with its inverse beside it.
-use Prim.Native.Nat.{ℕ, zero, suc, _+_, _-_, _*_, _/_, _%_, _<_}
+use Prim.Native.Nat.{ℕ, _+_, _-_, _*_, _/_, _%_}
 use mathlib.Core.Path.{_≡_}
 use mathlib.Core.List.{List, _++_}
-use lib.ListN.{length, getD, set}
+use lib.ListN.{length, getD}
 use Rattle.lists.specs.Lists.{listOf}
-use Rattle.networks.specs.Permutation.{Perm, partner, walk, lowest, side, permutationBits}
+use Rattle.networks.specs.Permutation.{Perm, walk, side, permutationBits}
 use Rattle.networks.specs.Bits.{storeBits}
 use Rattle.networks.specs.Wanted.{takerOf}
 

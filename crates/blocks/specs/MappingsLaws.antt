@@ -2,15 +2,14 @@
 -- are those of its input rows, of the two halves' lists, and of its output rows.
 use mathlib.Core.Path.{_≡_, refl, sym, ap, _∙_, fun-ext}
 use mathlib.Core.List.{List, _++_}
-use Prim.Native.Nat.{ℕ, zero, suc, _+_, _-_, _*_, _/_, _%_, _^_, _≤_, _<_}
-use native.Mathlib.Nat.{not-suc-le-zero, ne-of-lt}
-use native.Mathlib.Numerals.{add-one}
+use Prim.Native.Nat.{ℕ, suc, _+_, _-_, _*_, _/_, _%_, _^_, _≤_, _<_}
+use native.Mathlib.Nat.{ne-of-lt}
 use native.Mathlib.Decide.{decLt}
 use native.Mathlib.Omega.{arith}
 use lib.ListN.{length, getD, set, length-set}
 use lib.Seq.{ext-getD, getD-set-same, getD-set-other}
 use Rattle.lists.specs.Lists.{listOf}
-use Rattle.lists.specs.ListsLaws.{getD-any, length-listOf, getD-listOf, getD-listOf-all, listOf-ext}
+use Rattle.lists.specs.ListsLaws.{length-listOf, getD-listOf, getD-listOf-all, listOf-ext}
 use Rattle.networks.specs.Permutation.{Perm, side, pick, inHalf, permutationCount, permutationBits}
 use Rattle.networks.specs.Bits.{AreBits, storeBits}
 use Rattle.networks.specs.BitsLaws.{bits-listOf}
@@ -19,7 +18,7 @@ use Rattle.networks.specs.Halves.{half-perm, side-lt, output-sides}
 use Rattle.networks.specs.Routing.{length-permutationBits, permutationBits-bits}
 use Rattle.networks.specs.Wanted.{takerOf}
 use Rattle.networks.specs.WantedLaws.{taker-perm}
-use Rattle.blocks.specs.Mappings.{mapOf, inverseOf, IsPerm, listBits, Paired, sideIn, inverseList, sideList, inputSides, outputSides, halfList, sidesOf, Levelled}
+use Rattle.blocks.specs.Mappings.{mapOf, inverseOf, IsPerm, listBits, Paired, sideIn, inverseList, inputSides, outputSides, halfList, sidesOf, Levelled}
 use Rattle.blocks.specs.ProgramLevels.{LevelRoom, SidesKnown}
 use Rattle.blocks.specs.MarkingLaws.{read-map}
 

@@ -1,11 +1,11 @@
 -- How the sides of the outputs are found: loop after loop is walked and marked, in the order of the pairs that lead them.
 -- Document 01: "In the loop holding the last output pair, that pair is straight. In each other loop its lowest output pair is straight."
-use Prim.Native.Nat.{ℕ, zero, suc, _+_, _-_, _*_, _/_, _%_, _≤_, _<_}
+use Prim.Native.Nat.{ℕ, zero, suc, _-_, _*_, _/_, _<_}
 use mathlib.Core.Path.{_≡_}
 use mathlib.Core.Logic.{_≢_}
 use mathlib.Core.List.{List}
 use lib.ListN.{length, getD, set}
-use Rattle.networks.specs.Permutation.{Perm, partner, iterate, walk, key, lowest, side}
+use Rattle.networks.specs.Permutation.{partner, lowest}
 use Rattle.blocks.specs.Mappings.{mapOf, sideIn}
 
 -- the mark of a place that no loop has reached yet

@@ -3,17 +3,16 @@
 use mathlib.Core.Path.{_≡_, refl, sym, ap, _∙_}
 use mathlib.Core.Logic.{_≢_, _⊎_, inl, inr}
 use mathlib.Core.List.{List, _++_, append-nil}
-use Prim.Native.Nat.{ℕ, zero, suc, _+_, _-_, _*_, _/_, _%_, _≤_, _<_, zero-le, suc-le-suc}
+use Prim.Native.Nat.{ℕ, zero, suc, _+_, _-_, _*_, _/_, _≤_, _<_, zero-le, suc-le-suc}
 use native.Mathlib.Nat.{not-suc-le-zero, le-suc-iff}
 use native.Mathlib.Numerals.{add-one}
 use native.Mathlib.Decide.{ℕ-discrete, decLt, decLe}
 use native.Mathlib.Omega.{arith}
 use lib.ListN.{length, getD, set, drop, replicate, length-set, length-replicate, getD-replicate}
 use lib.Seq.{getD-set-same, getD-set-other, ext-getD, drop-length}
-use Rattle.lists.specs.Lists.{listOf}
 use Rattle.lists.specs.ListsLaws.{getD-any, length-listOf, getD-listOf}
 use Rattle.networks.specs.Permutation.{Perm, partner, iterate, walk, key, lowest, side}
-use Rattle.networks.specs.Orbits.{Reach, reach-trans, reach-one, once-round, Closes, Attained}
+use Rattle.networks.specs.Orbits.{Reach, reach-trans, once-round, Attained}
 use Rattle.networks.specs.Loops.{partner-partner, partner-half, partner-lt, same-pair, key-at, key-inj, key-partner, key-last, key-other, KeyAt, in-last, elsewhere, flipped, perm-lt}
 use Rattle.networks.specs.Loops.{walk-lt, walk-closes, walk-sym, walk-mirror, lowest-at, lowest-low, lowest-same, lowest-partner, side-along, side-partner}
 use Rattle.networks.specs.Halves.{side-lt, output-sides}
@@ -252,8 +251,8 @@ start-lt h (suc k) l = omega arith
 -- the pairs are taken in the order of their ranks
 start-key : (h k : ℕ) → k < h → key h (startOf h k) ≡ 2 * k
 unfolding startOf
-start-key h zero l = key-last h (2 * (h - 1)) (omega arith) ∙ omega arith
-start-key h (suc k) l = key-other h (2 * k) (λ e. absurd (omega arith)) ∙ omega arith
+start-key h zero l = key-last h (startOf h zero) (omega arith) ∙ omega arith
+start-key h (suc k) l = key-other h (startOf h (suc k)) (λ e. absurd (omega arith)) ∙ omega arith
 
 key-lt : (h x : ℕ) → x < 2 * h → key h x < 2 * h
 key-lt h x l = go (key-at h x)

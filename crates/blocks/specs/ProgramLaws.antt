@@ -1,38 +1,36 @@
 -- The checks of programming pass exactly if the list names each input once and the bits have room. A program is stored as packed where
 -- its bytes are zero before, and from any bit on in the part of the buffer that begins with that bit's byte.
 use mathlib.Core.Path.{_≡_, refl, sym, ap, _∙_}
-use mathlib.Core.Logic.{_≢_, _↔_, _⊎_, inl, inr}
+use mathlib.Core.Logic.{_≢_, _↔_}
 use mathlib.Core.Bool.{Bool, true, false, cond, not, _&&_, and-eq-true-iff}
-use mathlib.Core.List.{List, [], _∷_, _++_, append-nil}
-use Prim.Native.Nat.{ℕ, zero, suc, _+_, _-_, _*_, _/_, _%_, _^_, _≤_, _<_}
-use native.Mathlib.Nat.{not-suc-le-zero, suc-add, add-suc}
+use mathlib.Core.List.{List}
+use Prim.Native.Nat.{ℕ, zero, suc, _+_, _-_, _*_, _^_, _≤_, _<_}
+use native.Mathlib.Nat.{not-suc-le-zero}
 use native.Mathlib.Numerals.{add-one}
 use native.Mathlib.Decide.{ℕ-discrete, decLt, decLe}
 use native.Mathlib.Omega.{arith}
-use borrow.Author.Tests.{leb-true, eqb-true, eqb-false, le-leb, lt-leb, eq-eqb, ne-eqb, not-true, not-false}
-use borrow.Rule.Slice.PartMut.{midOf, putMid, postOf}
+use borrow.Author.Tests.{leb-true, eqb-true, eqb-false, le-leb, lt-leb, eq-eqb, ne-eqb, not-true}
 use lib.Dec.{leb, eqb}
-use lib.ListN.{length, getD, set, take, drop, replicate, length-set, getD-replicate, length-append, length-take, length-drop, length-replicate, drop-of-length-le, List·getD-append}
-use lib.Seq.{getD-set-same, getD-set-other, set-append-left, getD-append-add, take-at}
+use lib.ListN.{length, getD, set, take, drop, replicate, length-set, getD-replicate, length-replicate}
+use lib.Seq.{getD-set-same, getD-set-other, take-at}
 use Rattle.lists.specs.Lists.{listOf}
 use Rattle.lists.specs.ListsLaws.{length-listOf}
 use Rattle.fault.specs.declared.Fault.{Fault}
 use Rattle.fault.specs.Number.{faultNumber}
 use Rattle.fault.specs.Checks.{unless, andThen, firstOf}
 use Rattle.fault.specs.ChecksLaws.{unless-zero, and-then-zero, first-of-zero, first-passes, first-fails, number-positive}
-use Rattle.fault.specs.Buffers.{over, filled}
-use Rattle.networks.specs.Bits.{byteOf, placeOf, bytesFor, withBit, setBit, storeBits, zeroBytes, pack}
-use Rattle.networks.specs.BitsLaws.{length-setBit, length-pack}
-use Rattle.networks.specs.Permutation.{permutationCount}
+use Rattle.fault.specs.Buffers.{over}
+use Rattle.fault.specs.BuffersLaws.{filled-done}
+use Rattle.networks.specs.Bits.{bytesFor, pack, storeBits}
 use Rattle.networks.specs.Wanted.{Wanted, mapping, wantedBits}
-use Rattle.networks.specs.WantedLaws.{wanted-perm, length-wantedBits}
+use Rattle.networks.specs.WantedLaws.{wanted-perm}
 use Rattle.blocks.specs.Sizes.{maxSize, sizeAllowed, levelOf}
 use Rattle.blocks.specs.SizesLaws.{SizeIs, size-is, power-allowed}
 use Rattle.blocks.specs.ProgramLevels.{Blank}
 use Rattle.blocks.specs.Mappings.{IsPerm, listBits}
 use Rattle.blocks.specs.MappingsLaws.{listed, bits-listed}
-use Rattle.blocks.specs.ProgramLevelsLaws.{RowCount, row-count}
-use Rattle.blocks.specs.ProgramCalls.{notAmong, sourceAllowed, sourceCheck, sourceFault, wantedFault, bitCount, programShort, programAtShort, programFault, programAtFault, storedAt}
+use Rattle.blocks.specs.ProgramLevelsLaws.{row-count}
+use Rattle.blocks.specs.ProgramCalls.{notAmong, sourceAllowed, sourceCheck, sourceFault, wantedFault, bitCount, programShort, programAtShort, programFault, programAtFault, programResult, storedAt, programAtResult}
 
 -- ---- check 9
 
@@ -229,3 +227,16 @@ stored-refused f (suc n) start bits old e = refl
 
 pub stored-done : (n start : ℕ) (bits old : List ℕ) → 0 ≡ n → storeBits old start bits ≡ storedAt n start bits old
 stored-done n start bits old e = rw (← e)
+
+-- where the checks pass, the program is the packed bits of a one-to-one mapping, followed by what stood past them
+pub program-packed : (N : ℕ) (wanted program : List ℕ) → programFault N wanted (length program) ≡ 0
+    → (Wanted (2 ^ levelOf N) wanted) × (programResult N wanted program ≡ over (pack (wantedBits (levelOf N) wanted)) program)
+program-packed N wanted program e =
+    let h = program-passes (fault-at N wanted (length program) ∙ e) in
+    (rw (h .size .power) (h .wantedOnce), sym (filled-done (programFault N wanted (length program)) (pack (wantedBits (levelOf N) wanted)) program (sym e)))
+
+pub program-stored : (N : ℕ) (wanted : List ℕ) (start : ℕ) (program : List ℕ) → programAtFault N wanted start (length program) ≡ 0
+    → (Wanted (2 ^ levelOf N) wanted) × (programAtResult N wanted start program ≡ storeBits program start (wantedBits (levelOf N) wanted))
+program-stored N wanted start program e =
+    let h = program-passes e in
+    (rw (h .size .power) (h .wantedOnce), sym (stored-done (programAtFault N wanted start (length program)) start (wantedBits (levelOf N) wanted) program (sym e)))

@@ -4,7 +4,7 @@ use mathlib.Core.List.{List, _++_}
 use Prim.Native.Nat.{ℕ, zero, suc, _+_, _-_, _*_, _/_, _^_, _≤_, _<_}
 use native.Mathlib.Nat.{not-suc-le-zero, le-of-suc-le-suc, pow-succ', mul-le-mul, mul-comm}
 use native.Mathlib.Omega.{arith}
-use lib.ListN.{length, take, drop, length-drop}
+use lib.ListN.{length, take, drop}
 use lib.Pow.{pow-mono, pow-pos}
 use lib.Seq.{take-at, drop-at, take-all}
 use borrow.Rule.Slice.PartMut.{midOf, mid-len}
@@ -13,7 +13,7 @@ use Rattle.networks.specs.Bits.{AreBits, AreBytes, storeBits}
 use Rattle.networks.specs.BitsLaws.{bits-listOf}
 use Rattle.networks.specs.Permutation.{permutationCount, permutationBits}
 use Rattle.networks.specs.PermutationLaws.{permutation-count}
-use Rattle.blocks.specs.Mappings.{IsPerm, inverseOf, listBits, inputSide, outputSide, inputSides, outputSides, halfList, inverseList, sidesOf, Levelled}
+use Rattle.blocks.specs.Mappings.{IsPerm, inverseOf, listBits, inputSides, outputSides, halfList, inverseList, sidesOf, Levelled}
 use Rattle.blocks.specs.MappingsLaws.{half-size, half-listed, level-bits, length-listBits, listBits-bits, sides-bits}
 use Rattle.blocks.specs.ProgramLevels.{LevelRoom, BlockRoom, HalfRoom}
 use Rattle.blocks.specs.StoreLaws.{store-level}

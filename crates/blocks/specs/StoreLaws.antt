@@ -2,18 +2,18 @@
 use mathlib.Core.Path.{_≡_, refl, sym, ap, _∙_}
 use mathlib.Core.Logic.{_≢_}
 use mathlib.Core.List.{List, [], _∷_, _++_, append-nil}
-use Prim.Native.Nat.{ℕ, zero, suc, _+_, _-_, _*_, _/_, _%_, _≤_, _<_}
+use Prim.Native.Nat.{ℕ, suc, _+_, _-_, _*_, _/_, _%_, _≤_, _<_}
 use native.Mathlib.Nat.{add-zero, zero-add, add-suc, suc-add, mod-eq-of-lt}
 use native.Mathlib.Numerals.{add-one}
 use native.Mathlib.Decide.{ℕ-discrete}
 use native.Mathlib.Omega.{arith}
 use borrow.Rule.Slice.PartMut.{midOf, postOf, putMid}
-use lib.ListN.{length, getD, set, take, drop, replicate, length-append, length-drop, length-replicate, drop-of-length-le, take-append-drop, List·getD-append}
+use lib.ListN.{length, set, take, drop, replicate, length-append, length-drop, length-replicate, drop-of-length-le, take-append-drop, List·getD-append}
 use lib.Seq.{sets, sets-eq, set-append-left, getD-append-add, take-all, length-take-le}
 use Rattle.lists.specs.Lists.{listOf}
 use Rattle.lists.specs.ListsLaws.{length-listOf}
 use Rattle.fault.specs.Buffers.{over}
-use Rattle.networks.specs.Bits.{byteOf, placeOf, bytesFor, withBit, bitAt, setBit, storeBits, zeroBytes, pack, AreBits, AreBytes}
+use Rattle.networks.specs.Bits.{bytesFor, bitAt, setBit, storeBits, zeroBytes, pack, AreBits, AreBytes}
 use Rattle.networks.specs.BitsLaws.{length-setBit, setBit-same, setBit-other, setBit-bytes, ext-bits, length-storeBits, storeBits-append, storeBits-bytes}
 
 -- ---- one more

@@ -5,7 +5,7 @@ use mathlib.Core.List.{List}
 use lib.Dec.{leb, ltb, eqb}
 use lib.ListN.{length, getD}
 use Rattle.fault.specs.declared.Fault.{Fault}
-use Rattle.fault.specs.Checks.{unless, andThen, firstOf}
+use Rattle.fault.specs.Checks.{unless, andThen, firstOf, roomFault}
 use Rattle.fault.specs.Buffers.{filled}
 use Rattle.networks.specs.Rows.{stride, flat}
 use Rattle.networks.specs.Permutation.{permutationCount, permutationOuts, permutationRows}
@@ -23,13 +23,9 @@ listFault m ins = unless (eqb (length ins) m) Fault.Contact
 unfoldable pub unmadeFault : List ℕ → ℕ → ℕ
 unmadeFault ins next = firstOf (λ i. unless (ltb (getD ins i 0) next) Fault.Fabric) (length ins)
 
--- so many wires are made from `next` on, and none passes 65,535
+-- so many wires are made from `next` on, and none passes 65,535. Where none is made, `next` may be anything
 unfoldable pub wiresFit : ℕ → ℕ → Bool
 wiresFit made next = eqb made 0 || leb (next + made) maxWires
-
--- 11: a lent buffer of n entries is below its stated length
-unfoldable pub roomFault : ℕ → ℕ → ℕ
-roomFault stated n = unless (leb stated n) Fault.Short
 
 -- 13: an input wire is unmade, or a new one would pass 65,535
 unfoldable pub wiresFault : List ℕ → ℕ → ℕ → ℕ

@@ -12,6 +12,7 @@ use lib.Seq.{take-at}
 use Rattle.lists.specs.Lists.{Below}
 use Rattle.fault.specs.Buffers.{over, filled}
 use Rattle.fault.specs.BuffersLaws.{filled-done}
+use Rattle.fault.specs.Checks.{roomFault}
 use Rattle.fault.specs.ChecksLaws.{unless-zero, and-then-zero, first-of-zero}
 use Rattle.powers.specs.PowersLaws.{ceilLog-power}
 use Rattle.networks.specs.Rows.{stride, flat, decode}
@@ -20,7 +21,7 @@ use Rattle.networks.specs.Permutation.{permutationCount, permutationOuts, permu
 use Rattle.networks.specs.PermutationLaws.{permutation-totals, length-permutationOuts}
 use Rattle.blocks.specs.Sizes.{maxLevel, levelOf}
 use Rattle.blocks.specs.SizesLaws.{SizeIs, size-is, power-allowed}
-use Rattle.blocks.specs.WriteCalls.{maxWires, listFault, unmadeFault, wiresFit, wiresFault, roomFault, buffersFault, rowsOf}
+use Rattle.blocks.specs.WriteCalls.{maxWires, listFault, unmadeFault, wiresFit, wiresFault, buffersFault, rowsOf}
 use Rattle.blocks.specs.WriteCalls.{writeFault, writtenRows, writtenOutputs}
 use Rattle.blocks.specs.PartsLaws.{length-over, over-again}
 use Rattle.blocks.specs.WriteLevels.{LevelRoom}

@@ -1,14 +1,14 @@
 // Programming P: the bits that bring each output the input it wants, packed from the front of a lent program, or stored from a given bit on.
 // The call holds three arrays, 2,560 bytes, and lends them to all that works under it. Checks come first and touch no lent buffer.
 ghost use mathlib.Core.Path.{_≡_};
-ghost use Prim.Native.Nat.{_+_, _*_, _/_, _^_, _<_, _≤_};
+ghost use Prim.Native.Nat.{_+_, _*_, _/_, _<_, _≤_};
 ghost use lib.ListN.{length};
 ghost use Rattle.lists.specs.Lists.{listOf};
 ghost use Rattle.fault.specs.Number.{answerNumber};
 ghost use Rattle.fault.specs.Buffers.{over};
-ghost use Rattle.networks.specs.Bits.{bytesFor, storeBits};
+ghost use Rattle.networks.specs.Bits.{storeBits};
 ghost use Rattle.networks.specs.Wanted.{Wanted, mapping, wantedBits};
-ghost use Rattle.blocks.specs.Sizes.{maxSize, sizeAllowed, levelOf};
+ghost use Rattle.blocks.specs.Sizes.{maxSize, levelOf};
 ghost use Rattle.blocks.specs.SizesLaws.{SizeIs};
 ghost use Rattle.blocks.specs.ProgramLevels.{Blank};
 ghost use Rattle.blocks.specs.ProgramCalls.{bitCount, sourceFault, wantedFault, programFault, programAtFault, programResult, programAtResult};
@@ -30,13 +30,13 @@ pub fn program_permutation(n: u32, wanted: &[u16], program: &mut [u8]) -> Answer
     ensures written { λ _. ⌜ now (program .exit) ≡ programResult n (now (wanted .entry)) (now (program .entry)) ⌝ }
 {
     let mut perm = [0u16; PLACES];
-    let mut scratch = [0u16; PLACES];
+    let mut inverse = [0u16; PLACES];
     let mut mark = [0u8; PLACES];
     match check_program(n, wanted, 0, program.len(), &mut mark) {
         Answer::Refused(f) => Answer::Refused(f),
         Answer::Done => {
             fill_bytes(program, (bit_count(n) + 7) / 8, 0);
-            program_wanted(n, wanted, &mut perm, &mut scratch, &mut mark, program, 0);
+            program_wanted(n, wanted, &mut perm, &mut inverse, &mut mark, program, 0);
             Answer::Done
         }
     }
@@ -48,7 +48,7 @@ pub fn program_permutation_at(n: u32, wanted: &[u16], program: &mut [u8], start:
     ensures written { λ _. ⌜ now (program .exit) ≡ programAtResult n (now (wanted .entry)) start (now (program .entry)) ⌝ }
 {
     let mut perm = [0u16; PLACES];
-    let mut scratch = [0u16; PLACES];
+    let mut inverse = [0u16; PLACES];
     let mut mark = [0u8; PLACES];
     match check_program(n, wanted, start, program.len(), &mut mark) {
         Answer::Refused(f) => Answer::Refused(f),
@@ -57,7 +57,7 @@ pub fn program_permutation_at(n: u32, wanted: &[u16], program: &mut [u8], start:
                 n,
                 wanted,
                 &mut perm,
-                &mut scratch,
+                &mut inverse,
                 &mut mark,
                 program,
                 start,
@@ -142,13 +142,13 @@ fn program_wanted(
     n: u32,
     wanted: &[u16],
     perm: &mut [u16],
-    scratch: &mut [u16],
+    inverse: &mut [u16],
     mark: &mut [u8],
     program: &mut [u8],
     start: usize,
 )
     requires { ⌜ SizeIs n × Wanted n (now wanted) ⌝ }
-    requires { ⌜ (length (now perm) ≡ maxSize) × (length (now scratch) ≡ maxSize) × (length (now mark) ≡ maxSize) ⌝ }
+    requires { ⌜ (length (now perm) ≡ maxSize) × (length (now inverse) ≡ maxSize) × (length (now mark) ≡ maxSize) ⌝ }
     requires { ⌜ start + bitCount n ≤ 8 * length (now program) ⌝ }
     ensures { λ _. ⌜ now (program .exit) ≡ storeBits (now (program .entry)) start (wantedBits (levelOf n) (now (wanted .entry))) ⌝ }
 {
@@ -157,7 +157,7 @@ fn program_wanted(
     let byte = start / 8;
     program_block(
         &mut perm[..places],
-        &mut scratch[..places],
+        &mut inverse[..places],
         &mut mark[..places],
         &mut program[byte..],
         start % 8,

@@ -16,7 +16,8 @@ const STRIDE: usize = 3;
 // Document 01's kind of X.
 const KIND_X: u16 = 1;
 
-// The entries that so many rows take, which is the place of the row behind them.
+// The entries that so many rows take, which is the place of the row behind them. Each row makes a wire, so there are no more rows than
+// wires.
 pub(crate) fn row_place(rows: usize) -> usize
     requires { ⌜ rows ≤ maxWires ⌝ }
     ensures { λ r. ⌜ r ≡ stride * rows ⌝ }

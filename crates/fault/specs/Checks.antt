@@ -1,6 +1,7 @@
 -- "The first failing check decides." A check is a number of the refusal table, or 0 where nothing fails.
 use Prim.Native.Nat.{ℕ, zero, suc}
 use mathlib.Core.Bool.{Bool, cond}
+use lib.Dec.{leb}
 use Rattle.fault.specs.declared.Fault.{Fault}
 use Rattle.fault.specs.Number.{faultNumber}
 
@@ -17,3 +18,7 @@ andThen (suc n) second = suc n
 unfoldable pub firstOf : (ℕ → ℕ) → ℕ → ℕ
 firstOf check zero = 0
 firstOf check (suc n) = andThen (firstOf check n) (check n)
+
+-- 11: a lent buffer of n entries is below its stated length
+unfoldable pub roomFault : ℕ → ℕ → ℕ
+roomFault stated n = unless (leb stated n) Fault.Short

@@ -9,6 +9,14 @@ use Rattle.plan.specs.Record.{places, zeroPlan}
 use Rattle.plan.specs.Rules.{countAllowed, mapAllowed, operandAllowed, tableAllowed, sourceAllowed}
 use Rattle.plan.specs.Parsing.{field, inOrder}
 use Rattle.plan.specs.PlanFile.{gateStep, notStub, atEnd, planFile, ReadOutcome, planRead}
+use Rattle.lists.specs.Lists.{listOf}
+use Rattle.fault.specs.Checks.{firstOf}
+use Rattle.powers.specs.Powers.{firstFit, ceilLog, ceilPower}
+use Rattle.networks.specs.Bits.{setBit, storeBits, pack}
+use Rattle.networks.specs.Permutation.{permutationCount, partner, iterate, walk, key, least, lowest, side, pick, inHalf, permutationBits}
+use Rattle.networks.specs.Wanted.{mapping, takerOf, inverse, wantedBits}
+use Rattle.blocks.specs.Sizes.{sizeAllowed}
+use Rattle.blocks.specs.ProgramCalls.{notAmong, sourceFault, wantedFault, programShort, programFault, programResult}
 use Rattle.figures.specs.Figure.{Figure, Holds, passes, passes-holds}
 
 -- a record as a row of numbers: the counts, every gate's place, every output's place
@@ -30,10 +38,18 @@ outcomeNumbers o = o .number ∷ o .at ∷ planNumbers (o .plan)
 
 -- reading the file refuses with this number at this offset, and the record is all zero
 unfoldable pub refuses : List ℕ → ℕ → ℕ → Figure
-unfolding outcomeNumbers
+unfolding outcomeNumbers planRead planFile notStub atEnd gateStep field inOrder places countAllowed mapAllowed operandAllowed tableAllowed sourceAllowed
 refuses file number at = record {
   computed = outcomeNumbers (planRead file);
   stated = outcomeNumbers (record { number = number; at = at; plan = zeroPlan });
+}
+
+-- programming P(N) for the wanted inputs succeeds and makes a byte of ones the program of these bits
+unfoldable pub programs : ℕ → List ℕ → List ℕ → Figure
+unfolding firstOf listOf firstFit ceilLog ceilPower sizeAllowed notAmong sourceFault wantedFault programShort setBit storeBits pack
+programs N wanted bits = record {
+  computed = programFault N wanted 1 ∷ programResult N wanted (255 ∷ []);
+  stated = 0 ∷ pack bits
 }
 
 -- a header that passes leaves a file of six bytes cut before its first map byte, and a map byte 7 one of seven bytes cut before its
@@ -55,9 +71,14 @@ benchSheet =
     -- map 7 passes, 8 is 6
     ∷ refuses (1 ∷ 0 ∷ 1 ∷ 0 ∷ 1 ∷ 0 ∷ 7 ∷ []) 5 7
     ∷ refuses (1 ∷ 0 ∷ 1 ∷ 0 ∷ 1 ∷ 0 ∷ 8 ∷ []) 6 6
+    -- P(2) crossed: 1
+    ∷ programs 2 (2 ∷ 1 ∷ []) (1 ∷ [])
+    -- P(4), outputs from inputs 2,1,4,3: 1 1 0 0 0; from 3,1,2,4: 1 0 1 0 0
+    ∷ programs 4 (2 ∷ 1 ∷ 4 ∷ 3 ∷ []) (1 ∷ 1 ∷ 0 ∷ 0 ∷ 0 ∷ [])
+    ∷ programs 4 (3 ∷ 1 ∷ 2 ∷ 4 ∷ []) (1 ∷ 0 ∷ 1 ∷ 0 ∷ 0 ∷ [])
     ∷ []
 
 -- the claim
 pub bench-sheet : Holds benchSheet
-unfolding benchSheet refuses planRead planFile notStub atEnd gateStep field inOrder places countAllowed mapAllowed operandAllowed tableAllowed sourceAllowed passes
+unfolding benchSheet passes refuses programs permutationCount partner iterate walk key least lowest side pick inHalf permutationBits mapping takerOf inverse wantedBits
 bench-sheet = passes-holds benchSheet refl

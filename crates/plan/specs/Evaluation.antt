@@ -6,7 +6,7 @@ use lib.Dec.{leb, eqb}
 use lib.ListN.{length, getD}
 use Rattle.lists.specs.Lists.{listOf}
 use Rattle.fault.specs.declared.Fault.{Fault}
-use Rattle.fault.specs.Checks.{unless, andThen, firstOf}
+use Rattle.fault.specs.Checks.{unless, andThen, firstOf, roomFault}
 use Rattle.fault.specs.Buffers.{filled}
 use Rattle.plan.specs.declared.record.Plan.{Plan}
 use Rattle.plan.specs.declared.record.PlanWire.{PlanWire}
@@ -48,13 +48,9 @@ contactFault u row =
     andThen (unless (eqb (length row) u) Fault.Contact)
     (firstOf (λ i. unless (leb (getD row i 0) 1) Fault.Contact) (length row))
 
--- 11: a lent buffer of n entries is below its stated length
-unfoldable pub shortFault : ℕ → ℕ → ℕ
-shortFault stated n = unless (leb stated n) Fault.Short
-
 -- the call's checks, with a result buffer of n entries: plan faults, 12, 11
 abbrev pub evaluateFault : Plan → List ℕ → ℕ → ℕ
-evaluateFault p row n = andThen (planFault p) (andThen (contactFault (p .inputs) row) (shortFault (p .«output_count») n))
+evaluateFault p row n = andThen (planFault p) (andThen (contactFault (p .inputs) row) (roomFault (p .«output_count») n))
 
 -- the result buffer after the call
 abbrev pub evaluateResult : Plan → List ℕ → List ℕ → List ℕ

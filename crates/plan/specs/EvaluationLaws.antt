@@ -10,13 +10,14 @@ use borrow.Author.Tests.{leb-true, eqb-true}
 use lib.Dec.{leb, eqb}
 use lib.ListN.{length, getD, set, length-append, List·getD-eq-default}
 use Rattle.lists.specs.Lists.{listOf}
+use Rattle.fault.specs.Checks.{roomFault}
 use Rattle.fault.specs.ChecksLaws.{unless-zero, and-then-zero, first-of-zero}
 use Rattle.plan.specs.declared.record.Plan.{Plan}
 use Rattle.plan.specs.Record.{maxInputs, maxGates, maxOutputs, places, gateAt, outputAt, gateWire}
 use Rattle.plan.specs.RecordLaws.{places-more, getD-places}
 use Rattle.plan.specs.Faults.{Accepted}
 use Rattle.plan.specs.FaultsLaws.{GateWithin, accepted-counts, accepted-gate, accepted-output}
-use Rattle.plan.specs.Evaluation.{valueOn, planWires, namedBy, tableBit, gateBit, contactFault, shortFault, evaluateFault}
+use Rattle.plan.specs.Evaluation.{valueOn, planWires, namedBy, tableBit, gateBit, contactFault, evaluateFault}
 
 -- the wires of the largest plan
 abbrev pub maxWires : ℕ
@@ -119,7 +120,7 @@ pub record EvaluationPasses (p : Plan) (row : List ℕ) (n : ℕ) : Type 0 where
   pub room : p .«output_count» ≤ n
 
 pub evaluation-passes : (p : Plan) (row : List ℕ) (n : ℕ) → evaluateFault p row n ≡ 0 → EvaluationPasses p row n
-unfolding shortFault
+unfolding roomFault
 evaluation-passes p row n e =
     let h = simp (and-then-zero, unless-zero) at e in
     record { evaluable = record { accepted = h .0; contacts = h .1 .0 }; room = leb-true (p .«output_count») n (h .1 .1) }

@@ -1,6 +1,6 @@
 -- `blocks::bits::store_bit` meets its contract: its byte gets the bit, and past the end nothing changes. Assumes nothing.
 use mathlib.Core.Path.{sym, ap}
-use Prim.Native.Nat.{_/_, _%_}
+use Prim.Native.Nat.{_/_}
 use native.Mathlib.Omega.{arith}
 use borrow.Author.Needs.{needs}
 use lib.ListN.{set}

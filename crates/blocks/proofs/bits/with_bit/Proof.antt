@@ -6,7 +6,6 @@ use native.Mathlib.Nat.{one-mul}
 use native.Mathlib.Omega.{arith}
 use borrow.Author.Needs.{needs}
 use lib.Pow.{shl-exact}
-use Rattle.networks.specs.Bits.{withBit}
 use Rattle.networks.specs.BitsLaws.{withBit-mask}
 use Rattle.blocks.proofs.bits.with_bit.Statement.{statement}
 use Rattle.blocks.proofs.bits.with_bit.Tie as tie

@@ -1,11 +1,10 @@
 -- `blocks::marking::mark_loop` meets its contract. The loop's invariant: the walk has come to o after so many steps, is not back yet, and
 -- has marked the pairs that it passed. The measure is what is left of the number of outputs. Assumes nothing.
-use mathlib.Core.Path.{_≡_, sym, _∙_}
+use mathlib.Core.Path.{_≡_, _∙_}
 use Prim.Native.Nat.{suc, _-_, _≤_, _<_}
 use native.Mathlib.Omega.{arith}
-use borrow.Author.Needs.{needs}
 use lib.ListN.{length}
-use Rattle.blocks.specs.MarkingLaws.{Walked, walked-none, walked-more, walked-round, walked-short, walked-below, pair-lt, length-pairMarked}
+use Rattle.blocks.specs.MarkingLaws.{Walked, walked-none, walked-more, walked-round, walked-short, walked-below, pair-lt}
 use Rattle.blocks.proofs.marking.mark_loop.Statement.{statement}
 use Rattle.blocks.proofs.marking.mark_loop.Tie as tie
 

@@ -1,6 +1,5 @@
 -- `blocks::marking::mark_pair` meets its contract: two stores. Assumes nothing.
 use mathlib.Core.Path.{ap}
-use native.Mathlib.Omega.{arith}
 use borrow.Author.Needs.{needs}
 use lib.ListN.{set, length-set}
 use Rattle.blocks.specs.Marking.{pairMarked}

@@ -1,6 +1,6 @@
 -- `blocks::marking::mark_sides` meets its contract. The loop's invariant: the loops that the first k pairs taken lead are marked, and no
 -- others. Assumes nothing.
-use mathlib.Core.Path.{_≡_, sym, _∙_}
+use mathlib.Core.Path.{sym, _∙_}
 use Prim.Native.Nat.{_-_, _≤_}
 use native.Mathlib.Omega.{arith}
 use borrow.Author.Needs.{needs}

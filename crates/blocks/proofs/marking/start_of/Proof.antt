@@ -1,6 +1,5 @@
 -- `blocks::marking::start_of` meets its contract, case by case. Assumes nothing.
 use mathlib.Core.Path.{sym}
-use native.Mathlib.Omega.{arith}
 use borrow.Author.Needs.{needs}
 use Rattle.blocks.specs.MarkingLaws.{start-first, start-next}
 use Rattle.blocks.proofs.marking.start_of.Statement.{statement}

@@ -1,6 +1,5 @@
 -- `blocks::marking::visit` meets its contract: an unmarked start has its loop marked, a marked one changes nothing. Assumes nothing.
 use borrow.Author.Needs.{needs}
-use Rattle.blocks.specs.Marking.{Visited}
 use Rattle.blocks.proofs.marking.visit.Statement.{statement}
 use Rattle.blocks.proofs.marking.visit.Tie as tie
 

@@ -85,17 +85,21 @@ for-upper t c κs =
 
 upper-fits : (t : ℕ) → program-block-lts.Need-add-program-half-2 (block-calls t) (block-at t) program-block.Post
 upper-fits t c =
-    let if1 = c .before .before .before .before .before .before .before .before .before .before .before .before .before .before .before .before .before .before .before .before .before .before .before .before .before .before .before .before .before in
+    let upper = c .before .before .before .before .before .before .before .before .before .before .before .before in
+    let levelled = upper .before .before .before .before .before .before .before .before .before .before .before in
+    let if1 = levelled .before .before .before .before .before .before in
     let s = if1 .before .before .before .before .before in
     let H = halving (s .args .level) (s .pre .1 .1 .0) (if1 .if1 .taken) in
-    omega (arith, s .pre .1 .1 .1, c .before .before .before .before .before .before .before .before .before .before .before .before .before .before .before .before .before .before .before .before .before .before .before .before .before .before .before .before .row-count .ensures .0)
+    omega (arith, s .pre .1 .1 .1, levelled .before .before .before .before .before .row-count .ensures .0)
 
 lower-fits : (t : ℕ) → program-block-lts.Need-add-program-half-3 (block-calls t) (block-at t) program-block.Post
 lower-fits t c =
-    let if1 = c .before .before .before .before .before .before .before .before .before .before .before .before .before .before .before .before .before .before .before .before .before .before .before .before .before .before .before .before .before in
+    let upper = c .before .before .before .before .before .before .before .before .before .before .before .before in
+    let levelled = upper .before .before .before .before .before .before .before .before .before .before .before in
+    let if1 = levelled .before .before .before .before .before .before in
     let s = if1 .before .before .before .before .before in
     let H = halving (s .args .level) (s .pre .1 .1 .0) (if1 .if1 .taken) in
-    omega (arith, s .pre .1 .1 .1, c .before .before .before .before .before .before .before .before .before .before .before .before .before .before .before .before .before .before .before .before .before .before .before .before .before .before .before .before .row-count .ensures .0)
+    omega (arith, s .pre .1 .1 .1, levelled .before .before .before .before .before .row-count .ensures .0)
 
 for-lower : (t : ℕ) → program-block-lts.Need-program-half-requires-2 (block-calls t) (block-at t) program-block.Post
 for-lower t c κs =

@@ -1,6 +1,5 @@
 -- `blocks::program_level::find_sides` meets its contract: the inverse first, then the sides by it. Assumes nothing.
-use mathlib.Core.Path.{_≡_, sym, ap, _∙_}
-use native.Mathlib.Omega.{arith}
+use mathlib.Core.Path.{sym, ap, _∙_}
 use borrow.Author.Needs.{needs}
 use Prim.Native.Nat.{_/_}
 use lib.ListN.{length}

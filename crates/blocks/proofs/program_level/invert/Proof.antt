@@ -1,5 +1,5 @@
 -- `blocks::program_level::invert` meets its contract. The loop's invariant: the inputs of the first i outputs name their takers. Assumes nothing.
-use mathlib.Core.Path.{_≡_, sym, _∙_}
+use mathlib.Core.Path.{sym, _∙_}
 use Prim.Native.Nat.{_-_, _≤_, _<_}
 use native.Mathlib.Omega.{arith}
 use borrow.Author.Needs.{needs}

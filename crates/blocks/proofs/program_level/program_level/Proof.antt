@@ -1,6 +1,5 @@
 -- `blocks::program_level::program_level` meets its contract: sides, then the bits of the rows, then the halves' mappings. Assumes nothing.
-use mathlib.Core.Path.{_≡_, sym, ap, _∙_}
-use native.Mathlib.Omega.{arith}
+use mathlib.Core.Path.{_≡_, _∙_}
 use borrow.Author.Needs.{needs}
 use lib.ListN.{length}
 use Rattle.blocks.specs.Mappings.{inverseList, sidesOf}

@@ -1,7 +1,6 @@
 -- `blocks::program_level::store_rows` meets its contract: the one store after the other. Assumes nothing.
 use mathlib.Core.Path.{ap, _∙_}
 use Prim.Native.Nat.{_+_, _/_}
-use native.Mathlib.Omega.{arith}
 use borrow.Author.Needs.{needs}
 use lib.ListN.{length}
 use Rattle.networks.specs.Bits.{storeBits}

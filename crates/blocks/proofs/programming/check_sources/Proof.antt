@@ -1,6 +1,6 @@
 -- `blocks::programming::check_sources` meets its contract. The loop's invariant: the first i entries are allowed, and the marks say which
 -- inputs they want. Assumes nothing.
-use mathlib.Core.Path.{_≡_, refl, sym, ap, _∙_}
+use mathlib.Core.Path.{_≡_, refl, sym, _∙_}
 use Prim.Native.Nat.{_-_, _≤_, _<_}
 use native.Mathlib.Omega.{arith}
 use borrow.Author.Needs.{needs}
@@ -38,14 +38,17 @@ above c =
 
 -- an input in range has a mark
 module _ (c : tie.Else2 Inv-loop μ-loop) where
-  low : 1 ≤ getD (c .before .before .before .before .before .before .before .before .args .wanted .now) (c .before .before .before .before .before .loop .i) 0
+  low : let at = c .before .before .before .before .before in 1 ≤ getD (at .before .before .before .args .wanted .now) (at .loop .i) 0
   low = omega (arith, c .before .before .wide .ensures .0)
 
-  high : getD (c .before .before .before .before .before .before .before .before .args .wanted .now) (c .before .before .before .before .before .loop .i) 0 ≤ c .before .before .before .before .before .before .before .before .args .n
+  high : let at = c .before .before .before .before .before in let a = at .before .before .before .args in getD (a .wanted .now) (at .loop .i) 0 ≤ a .n
   high = omega (arith, c .before .before .wide .ensures .0)
 
-  marks : getD (c .before .before .before .before .before .before .before .before .args .wanted .now) (c .before .before .before .before .before .loop .i) 0 - 1 < length (c .before .before .before .before .before .loop .mark)
-  marks = let s = c .before .before .before .before .before .before .before .before in omega (arith, low, high, s .pre .0, s .pre .1 .size, c .before .before .before .before .before .loop .inv .1)
+  marks : let at = c .before .before .before .before .before in getD (at .before .before .before .args .wanted .now) (at .loop .i) 0 - 1 < length (at .loop .mark)
+  marks =
+      let at = c .before .before .before .before .before in
+      let s = at .before .before .before in
+      omega (arith, low, high, s .pre .0, s .pre .1 .size, at .loop .inv .1)
 
 mark-read : tie.Need-slice-read-if3 Inv-loop μ-loop
 mark-read c = rw (c .before .before .before .wide .ensures .0) (marks (c .before))
@@ -87,5 +90,6 @@ pub check-sources-spec : {M : Type 1} → statement M
 check-sources-spec =
     tie.close
     (tie.spec Inv-loop μ-loop
-    holds (λ c. search needs) (λ c. search needs) (λ c κs. search needs) (λ c. search needs) zero (λ c. search needs) above (λ c. search needs)
-    mark-read (λ c. search needs) twice (λ c. search needs) mark-stored (λ c. search needs) (λ c. search needs) again (λ c. search needs) all)
+    holds (λ c. search needs) (λ c. search needs) (λ c κs. search needs)
+    (λ c. c .before .before .before .before .loop .inv .1) zero (λ c. c .before .before .before .before .before .loop .inv .1) above (λ c. omega arith) mark-read (λ c. c .before .before .before .before .before .before .before .loop .inv .1) twice
+    (λ c. omega arith) mark-stored (λ c. omega arith) (λ c. omega arith) again (λ c. c .before .loop .inv .1) all)

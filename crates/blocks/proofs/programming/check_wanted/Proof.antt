@@ -1,10 +1,7 @@
 -- `blocks::programming::check_wanted` meets its contract: 2, 12, 9, each asked where those before it pass. Assumes nothing.
-use mathlib.Core.Path.{_≡_, sym, _∙_}
-use mathlib.Core.Bool.{true, false}
-use native.Mathlib.Omega.{arith}
+use mathlib.Core.Path.{sym, _∙_}
 use borrow.Author.Needs.{needs}
 use borrow.Author.Tests.{eq-eqb, ne-eqb, not-true, not-false}
-use Rattle.blocks.specs.Sizes.{sizeAllowed}
 use Rattle.blocks.specs.SizesLaws.{size-is}
 use Rattle.blocks.specs.ProgramCalls.{wantedFault}
 use Rattle.blocks.proofs.programming.check_wanted.Statement.{statement}

@@ -1,7 +1,6 @@
 -- `blocks::programming::program_permutation` meets its contract: the checks decide, and where none fails the bits are stored in zeroed
 -- bytes. Assumes nothing.
 use mathlib.Core.Path.{_≡_, refl, sym, ap, _∙_}
-use Prim.Native.Nat.{_+_, _/_, _≤_}
 use native.Mathlib.Omega.{arith}
 use borrow.Author.Needs.{needs}
 use lib.ListN.{length}

@@ -5,7 +5,7 @@ use borrow.Author.Needs.{needs}
 use lib.ListN.{length}
 use Rattle.fault.specs.Number.{answerNumber}
 use Rattle.blocks.specs.ProgramCalls.{programAtFault}
-use Rattle.blocks.specs.ProgramLaws.{blank, ProgramPasses, program-passes, stored-refused, stored-done}
+use Rattle.blocks.specs.ProgramLaws.{blank, program-passes, stored-refused, stored-done}
 use Rattle.blocks.proofs.programming.program_permutation_at.Statement.{statement}
 use Rattle.blocks.proofs.programming.program_permutation_at.Tie as tie
 

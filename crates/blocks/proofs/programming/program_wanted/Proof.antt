@@ -1,14 +1,13 @@
 -- `blocks::programming::program_wanted` meets its contract: the loaded mapping's bits, stored in the part from the first bit's byte on, are
 -- the bits stored from the first bit on. Assumes nothing.
 use mathlib.Core.Path.{_≡_, sym, ap, _∙_}
-use Prim.Native.Nat.{_+_, _-_, _*_, _/_, _%_, _^_, _≤_}
+use Prim.Native.Nat.{_+_, _-_, _*_, _/_, _%_, _^_}
 use native.Mathlib.Omega.{arith}
 use borrow.Author.Needs.{needs}
 use borrow.Rule.Slice.PartMut.{midOf, putMid}
 use lib.ListN.{length, take}
 use lib.Seq.{length-take-le}
 use Rattle.networks.specs.Bits.{storeBits}
-use Rattle.networks.specs.Permutation.{permutationCount}
 use Rattle.networks.specs.Wanted.{wantedBits}
 use Rattle.blocks.specs.Sizes.{levelOf}
 use Rattle.blocks.specs.Mappings.{listBits}
@@ -32,11 +31,11 @@ perm-part c =
     let kept = c .before .before .before .load-mapping .kept .1 .0 in
     sym (length-take-le (s .args .n) (c .before .before .before .load-mapping .last .1 .0) (omega (arith, s .pre .1 .0 .0)))
 
-scratch-part : tie.Need-slice-aggregate-program-block-2
-scratch-part c =
+inverse-part : tie.Need-slice-aggregate-program-block-2
+inverse-part c =
     let s = c .before .before .before .before .before .before .before .before .before .before .before in
     let size = s .pre .0 .0 in
-    sym (length-take-le (s .args .n) (s .args .scratch .now) (omega (arith, s .pre .1 .0 .1)))
+    sym (length-take-le (s .args .n) (s .args .inverse .now) (omega (arith, s .pre .1 .0 .1)))
 
 mark-part : tie.Need-slice-aggregate-program-block-3
 mark-part c =
@@ -58,7 +57,7 @@ for-block c κs =
         record {
           size = lp ∙ sym (size .power) ∙ ap (λ k. 2 ^ k) (sym e);
           few = rw e (size .level);
-          scratchSize = length-take-le n (s .args .scratch .now) (omega (arith, s .pre .1 .0 .1)) ∙ sym lp;
+          scratchSize = length-take-le n (s .args .inverse .now) (omega (arith, s .pre .1 .0 .1)) ∙ sym lp;
           marksSize = length-take-le n (s .args .mark .now) (omega (arith, s .pre .1 .0 .2)) ∙ sym lp;
         },
         rw e (omega (arith, few-bits size)),
@@ -84,5 +83,5 @@ pub program-wanted-spec : {M : Type 1} → statement M
 program-wanted-spec =
     tie.close
     (tie.spec
-    for-mapping (λ c. search needs) perm-part (λ c. search needs) scratch-part (λ c. search needs) mark-part (λ c. search needs) (λ c. search needs)
+    for-mapping (λ c. search needs) perm-part (λ c. search needs) inverse-part (λ c. search needs) mark-part (λ c. search needs) (λ c. search needs)
     (λ c. search needs) (λ c κs. search needs) for-block (λ c. search needs) (λ c. search needs) (λ c. search needs) (λ c. search needs) stored)

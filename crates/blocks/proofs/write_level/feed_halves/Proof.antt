@@ -1,4 +1,5 @@
 -- `blocks::write_level::feed_halves` meets its contract: the first outputs, and behind them the second ones. Assumes nothing.
+use native.Mathlib.Omega.{arith}
 use borrow.Author.Needs.{needs}
 use Rattle.blocks.specs.HalvesLaws.{halves-fed}
 use Rattle.blocks.proofs.write_level.feed_halves.Statement.{statement}
@@ -8,10 +9,9 @@ fed : tie.Need-returns
 fed c =
     let second = c .before .before in
     let first = second .before .before .before .before in
-    let plus = first .before .before in
-    let start = plus .before .before in
-    halves-fed (start .args .half) (start .args .next .0) _ _ _ _ (start .pre .wireRoom) (first .put-wires .ensures)
-    (plus .plus .ensures) (second .put-wires2 .ensures)
+    let start = first .before .before .before .before in
+    halves-fed (start .args .half) (start .args .next .0) _ _ _ _ _ (start .pre .wireRoom) (first .put-wires .ensures) (second .put-wires2 .ensures)
+    (omega arith) (omega arith)
 
 pub feed-halves-spec : {M : Type 1} → statement M
 feed-halves-spec =

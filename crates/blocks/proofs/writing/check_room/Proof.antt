@@ -4,7 +4,8 @@ use Prim.Native.Nat.{_*_, _<_, _≤_}
 use borrow.Author.Needs.{needs}
 use borrow.Author.Tests.{le-leb, lt-leb}
 use Rattle.networks.specs.Rows.{stride}
-use Rattle.blocks.specs.WriteCalls.{roomFault, buffersFault}
+use Rattle.fault.specs.Checks.{roomFault}
+use Rattle.blocks.specs.WriteCalls.{buffersFault}
 use Rattle.blocks.proofs.writing.check_room.Statement.{statement}
 use Rattle.blocks.proofs.writing.check_room.Tie as tie
 

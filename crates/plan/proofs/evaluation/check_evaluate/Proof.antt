@@ -4,12 +4,12 @@ use borrow.Author.Needs.{needs}
 use borrow.Author.Tests.{lt-leb, le-leb}
 use Rattle.fault.specs.Number.{answerNumber}
 use Rattle.fault.specs.ChecksLaws.{first-refuses, second-answers}
-use Rattle.plan.specs.Evaluation.{shortFault}
+use Rattle.fault.specs.Checks.{roomFault}
 use Rattle.plan.proofs.evaluation.check_evaluate.Statement.{statement}
 use Rattle.plan.proofs.evaluation.check_evaluate.Tie as tie
 
 short : tie.Need-returns
-unfolding shortFault
+unfolding roomFault
 short c =
     let met₂ = c .before .before in
     let met₁ = met₂ .before .before .before .before in
@@ -30,7 +30,7 @@ contact c =
     (ap answerNumber (sym (c .before .f2 .given .1)) ∙ c .before .before .before .contact-fault .ensures))
 
 passes : tie.Need-returns-4
-unfolding shortFault
+unfolding roomFault
 passes c =
     let met₂ = c .before .before in
     let met₁ = met₂ .before .before .before .before in
