@@ -1,19 +1,16 @@
 -- P's promise over the calls' own definitions: whenever writing and programming answer success, decoding the written entries and bytes and
 -- running them brings each output what the input it wants carried. What the calls write is read back, then the network's theorem applies.
-use mathlib.Core.Path.{_≡_, refl, sym, ap, _∙_}
+use mathlib.Core.Path.{_≡_, sym, ap, _∙_}
 use mathlib.Core.List.{List}
 use Prim.Native.Nat.{ℕ, _+_, _-_, _*_, _^_, _<_}
 use native.Mathlib.Omega.{arith}
 use lib.ListN.{length, getD, take, drop}
 use lib.Seq.{take-at}
-use Rattle.lists.specs.Lists.{listOf, Below}
+use Rattle.lists.specs.Lists.{listOf}
 use Rattle.lists.specs.ListsLaws.{listOf-ext, listOf-getD}
-use Rattle.networks.specs.Rows.{stride, on, run, flat, decode}
-use Rattle.networks.specs.RowsLaws.{decode-flat}
+use Rattle.networks.specs.Rows.{stride, on, run, decode}
 use Rattle.networks.specs.Bits.{bytesFor, bitAt, pack, unpack}
 use Rattle.networks.specs.BitsLaws.{length-pack, storeBits-at}
-use Rattle.networks.specs.Permutation.{permutationCount, permutationOuts, permutationRows}
-use Rattle.networks.specs.PermutationLaws.{permutation-totals}
 use Rattle.networks.specs.Wanted.{Wanted, mapping, wantedBits}
 use Rattle.networks.specs.WantedLaws.{mapping-at, length-wantedBits, wantedBits-bits, packed-delivers}
 use Rattle.blocks.specs.Sizes.{levelOf}
@@ -51,9 +48,9 @@ pub permutation-promise : {A : Type 0} (none : A) (gate : ℕ → List ℕ → L
     → writeFault N ins next (length rows) (length outputs) ≡ 0 → programFault N wanted (length program) ≡ 0
     → (values : List A) → length values ≡ next → (o : ℕ) → o < N
     → on none
-      (run none gate (decode (take (stride * rowsOf N) (writtenRows N ins next rows outputs)))
-      (record { wires = values; bits = unpack (bitCount N) (take (bytesFor (bitCount N)) (programResult N wanted program)); gates = 0 }))
-      (getD (take N (writtenOutputs N ins next rows outputs)) o 0)
+    (run none gate (decode (take (stride * rowsOf N) (writtenRows N ins next rows outputs)))
+    (record { wires = values; bits = unpack (bitCount N) (take (bytesFor (bitCount N)) (programResult N wanted program)); gates = 0 }))
+    (getD (take N (writtenOutputs N ins next rows outputs)) o 0)
     ≡ getD values (getD ins (getD wanted o 0 - 1) 0) none
 permutation-promise none gate N ins next rows outputs wanted program written programmed values made o h =
     let w = write-passes N ins next (length rows) (length outputs) written in

@@ -25,11 +25,10 @@ use Rattle.networks.specs.Bits.{bytesFor, pack, storeBits}
 use Rattle.networks.specs.Wanted.{Wanted, mapping, wantedBits}
 use Rattle.networks.specs.WantedLaws.{wanted-perm}
 use Rattle.blocks.specs.Sizes.{maxSize, sizeAllowed, levelOf}
-use Rattle.blocks.specs.SizesLaws.{SizeIs, size-is, power-allowed}
+use Rattle.blocks.specs.SizesLaws.{SizeIs, size-is, power-allowed, row-count}
 use Rattle.blocks.specs.ProgramLevels.{Blank}
 use Rattle.blocks.specs.Mappings.{IsPerm, listBits}
 use Rattle.blocks.specs.MappingsLaws.{listed, bits-listed}
-use Rattle.blocks.specs.ProgramLevelsLaws.{row-count}
 use Rattle.blocks.specs.ProgramCalls.{notAmong, sourceAllowed, sourceCheck, sourceFault, wantedFault, bitCount, programShort, programAtShort, programFault, programAtFault, programResult, storedAt, programAtResult}
 
 -- ---- check 9

@@ -2,7 +2,7 @@
 use mathlib.Core.Path.{_≡_, refl, sym, ap, _∙_}
 use mathlib.Core.List.{List, _++_}
 use Prim.Native.Nat.{ℕ, zero, suc, _+_, _-_, _*_, _/_, _^_, _≤_, _<_}
-use native.Mathlib.Nat.{not-suc-le-zero, le-of-suc-le-suc, pow-succ', mul-le-mul, mul-comm}
+use native.Mathlib.Nat.{not-suc-le-zero, le-of-suc-le-suc, pow-succ'}
 use native.Mathlib.Omega.{arith}
 use lib.ListN.{length, take, drop}
 use lib.Pow.{pow-mono, pow-pos}
@@ -12,26 +12,10 @@ use Rattle.lists.specs.ListsLaws.{length-listOf}
 use Rattle.networks.specs.Bits.{AreBits, AreBytes, storeBits}
 use Rattle.networks.specs.BitsLaws.{bits-listOf}
 use Rattle.networks.specs.Permutation.{permutationCount, permutationBits}
-use Rattle.networks.specs.PermutationLaws.{permutation-count}
 use Rattle.blocks.specs.Mappings.{IsPerm, inverseOf, listBits, inputSides, outputSides, halfList, inverseList, sidesOf, Levelled}
 use Rattle.blocks.specs.MappingsLaws.{half-size, half-listed, level-bits, length-listBits, listBits-bits, sides-bits}
 use Rattle.blocks.specs.ProgramLevels.{LevelRoom, BlockRoom, HalfRoom}
 use Rattle.blocks.specs.StoreLaws.{store-level}
-
--- n log n - n + 1
-pub record RowCount (n level : ℕ) : Type 0 where
-  pub product : n * level ≤ 4608
-  pub enough : n ≤ n * level + 1
-  pub count : n * level + 1 - n ≡ permutationCount level
-  pub most : n * level + 1 - n ≤ 4608
-
-pub row-count : {n level : ℕ} → n ≡ 2 ^ level → level ≤ 9 → RowCount n level
-row-count {n} {level} e few =
-    let top : n ≤ 512 = rw e (pow-mono few) in
-    let some : 1 ≤ n = rw e (pow-pos level) in
-    let product : n * level ≤ 4608 = mul-le-mul top few in
-    let c : permutationCount level + n ≡ n * level + 1 = rw e (permutation-count level ∙ ap (λ k. k + 1) (mul-comm level (2 ^ level))) in
-    record { product = product; enough = omega arith; count = omega arith; most = omega arith }
 
 -- a block that has halves
 pub record Halving (level N : ℕ) : Type 0 where

@@ -1,12 +1,12 @@
 -- A size that is allowed is two to the power of its level, which is at most 9.
-use mathlib.Core.Path.{_≡_, refl}
+use mathlib.Core.Path.{_≡_, refl, ap, _∙_}
 use mathlib.Core.Bool.{true, _&&_, and-eq-true-iff}
 use Prim.Native.Nat.{ℕ, _+_, _-_, _*_, _^_, _≤_}
-use native.Mathlib.Nat.{mul-le-mul}
+use native.Mathlib.Nat.{mul-le-mul, mul-comm}
 use native.Mathlib.Omega.{arith}
 use borrow.Author.Tests.{leb-true, eqb-true, le-leb, eq-eqb}
 use lib.Dec.{leb, eqb}
-use lib.Pow.{pow-mono}
+use lib.Pow.{pow-mono, pow-pos}
 use Rattle.powers.specs.Powers.{ceilLog, ceilPower}
 use Rattle.powers.specs.PowersLaws.{ceilLog-least, ceilLog-power, below-power}
 use Rattle.networks.specs.Permutation.{permutationCount}
@@ -36,7 +36,7 @@ power-allowed n h =
 
 -- ---- one level of P
 
--- the number of rows
+-- a number of rows
 pub record CountIs (level count : ℕ) : Type 0 where
   pub count-is : count ≡ permutationCount level
   pub most-rows : count ≤ maxLevel * maxSize
@@ -44,6 +44,17 @@ pub record CountIs (level count : ℕ) : Type 0 where
 pub power-small : (n : ℕ) → n ≤ maxLevel → 2 ^ n ≤ maxSize
 power-small n h = pow-mono h
 
-pub count-is : (level count : ℕ) → level ≤ maxLevel → count ≡ level * 2 ^ level + 1 - 2 ^ level → CountIs level count
-count-is level count h e =
-    record { count-is = omega (arith, permutation-count level); most-rows = omega (arith, mul-le-mul h (power-small level h), below-power level) }
+-- n log n - n + 1
+pub record RowCount (n level : ℕ) : Type 0 where
+  pub product : n * level ≤ maxLevel * maxSize
+  pub enough : n ≤ n * level + 1
+  pub count : n * level + 1 - n ≡ permutationCount level
+  pub most : n * level + 1 - n ≤ maxLevel * maxSize
+
+pub row-count : {n level : ℕ} → n ≡ 2 ^ level → level ≤ maxLevel → RowCount n level
+row-count {n} {level} e few =
+    let top : n ≤ maxSize = rw e (pow-mono few) in
+    let some : 1 ≤ n = rw e (pow-pos level) in
+    let product : n * level ≤ maxLevel * maxSize = mul-le-mul top few in
+    let c : permutationCount level + n ≡ n * level + 1 = rw e (permutation-count level ∙ ap (λ k. k + 1) (mul-comm level (2 ^ level))) in
+    record { product = product; enough = omega arith; count = omega arith; most = omega arith }

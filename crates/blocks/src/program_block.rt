@@ -7,6 +7,7 @@ ghost use Rattle.networks.specs.Permutation.{permutationCount};
 ghost use Rattle.blocks.specs.Mappings.{IsPerm, listBits};
 ghost use Rattle.blocks.specs.ProgramLevels.{BlockRoom, HalfRoom};
 use crate::program_level::program_level;
+use crate::sizes::row_count;
 
 // The program bits of P(2 ^ level) for the mapping `perm`, from bit `start` on. `scratch` and `mark` are room to work in, and `perm` is
 // used up: the halves have their mappings in `scratch`, and work in `perm`.
@@ -65,12 +66,4 @@ fn program_half(
         start,
         level,
     );
-}
-
-// The rows of P(n), n = 2 ^ level: n log n - n + 1.
-pub(crate) fn row_count(n: usize, level: usize) -> usize
-    requires { ⌜ (n ≡ 2 ^ level) × (level ≤ 9) ⌝ }
-    ensures { λ r. ⌜ (r ≡ permutationCount level) × (r ≤ 4608) ⌝ }
-{
-    n * level + 1 - n
 }

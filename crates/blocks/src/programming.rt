@@ -15,8 +15,8 @@ ghost use Rattle.blocks.specs.ProgramCalls.{bitCount, sourceFault, wante
 use crate::marking::fill_bytes;
 use crate::marking::wide;
 use crate::program_block::program_block;
-use crate::program_block::row_count;
 use crate::sizes::MAX_SIZE;
+use crate::sizes::row_count;
 use crate::sizes::size_allowed;
 use fault::Answer;
 use fault::Fault;

@@ -28,11 +28,18 @@ pub(crate) fn size_at(level: u32) -> usize
     1usize << level
 }
 
-// The rows of P at a level: N log N - N + 1.
+// The rows of P at a level.
 pub(crate) fn permutation_count(level: u32) -> usize
     requires { ⌜ level ≤ maxLevel ⌝ }
     ensures { λ r. ⌜ CountIs level r ⌝ }
 {
-    let size = size_at(level);
-    level as usize * size + 1 - size
+    row_count(size_at(level), level as usize)
+}
+
+// The rows of P(n), n = 2 ^ level: n log n - n + 1.
+pub(crate) fn row_count(n: usize, level: usize) -> usize
+    requires { ⌜ (n ≡ 2 ^ level) × (level ≤ maxLevel) ⌝ }
+    ensures { λ r. ⌜ CountIs level r ⌝ }
+{
+    n * level + 1 - n
 }

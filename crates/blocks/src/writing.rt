@@ -9,7 +9,6 @@ ghost use Rattle.networks.specs.Permutation.{permutationRows, permutationOuts};
 ghost use Rattle.blocks.specs.Sizes.{levelOf};
 ghost use Rattle.blocks.specs.WriteLaws.{WritePasses};
 ghost use Rattle.blocks.specs.WriteCalls.{maxWires, wiresFit, unmadeFault, wiresFault, buffersFault, writeFault, writtenRows, writtenOutputs};
-use crate::write_level::write_level;
 use crate::rows::row_place;
 use crate::sizes::permutation_count;
 use crate::sizes::size_allowed;
@@ -17,6 +16,7 @@ use crate::wires::FabricWire;
 use crate::wires::MAX_WIRES;
 use crate::wires::copy_wires;
 use crate::wires::wire_at;
+use crate::write_level::write_level;
 use fault::Answer;
 use fault::Fault;
 

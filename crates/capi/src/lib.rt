@@ -64,7 +64,13 @@ pub extern "C" fn mkd_plan_evaluate(plan: Plan, row: &[u8], result: &mut [u8]) -
 
 // Writes the permutation network P(n): its rows and its output wires.
 #[no_mangle]
-pub extern "C" fn mkd_permutation_write(n: u32, inputs: &[u16], next: u32, rows: &mut [u16], outputs: &mut [u16]) -> u32
+pub extern "C" fn mkd_permutation_write(
+    n: u32,
+    inputs: &[u16],
+    next: u32,
+    rows: &mut [u16],
+    outputs: &mut [u16],
+) -> u32
     ensures answered { λ r. ⌜ r ≡ writeFault n (now (inputs .entry)) next (length (now (rows .entry))) (length (now (outputs .entry))) ⌝ }
     ensures rows { λ _. ⌜ now (rows .exit) ≡ writtenRows n (now (inputs .entry)) next (now (rows .entry)) (now (outputs .entry)) ⌝ }
     ensures outputs { λ _. ⌜ now (outputs .exit) ≡ writtenOutputs n (now (inputs .entry)) next (now (rows .entry)) (now (outputs .entry)) ⌝ }

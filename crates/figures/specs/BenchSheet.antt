@@ -49,7 +49,7 @@ unfoldable pub programs : ℕ → List ℕ → List ℕ → Figure
 unfolding firstOf listOf firstFit ceilLog ceilPower sizeAllowed notAmong sourceFault wantedFault programShort setBit storeBits pack
 programs N wanted bits = record {
   computed = programFault N wanted 1 ∷ programResult N wanted (255 ∷ []);
-  stated = 0 ∷ pack bits
+  stated = 0 ∷ pack bits;
 }
 
 -- a header that passes leaves a file of six bytes cut before its first map byte, and a map byte 7 one of seven bytes cut before its

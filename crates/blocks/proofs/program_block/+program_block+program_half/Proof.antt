@@ -19,7 +19,7 @@ use Rattle.blocks.proofs.program_block.program_half.Reads as program-ha
 use Rattle.blocks.proofs.program_block.program_half.Kinds as program-half-kinds
 use Rattle.blocks.proofs.program_block.+program_block+program_half.Lts-program_half as program-half-lts
 use Rattle.blocks.proofs.program_level.program_level.Reads as program-level-reads
-use Rattle.blocks.proofs.program_block.row_count.Reads as row-count-reads
+use Rattle.blocks.proofs.sizes.row_count.Reads as row-count-reads
 use Rattle.blocks.proofs.program_block.+program_block+program_half.{statement}
 use Rattle.blocks.proofs.program_block.+program_block+program_half.Tie.{close}
 
@@ -63,7 +63,7 @@ for-level t c κs =
     let if1 = c .before .before .before .before .before in
     let s = if1 .before .before .before .before .before in
     let H = halving (s .args .level) (s .pre .1 .1 .0) (if1 .if1 .taken) in
-    let rows = c .before .before .before .before .row-count .ensures .0 in
+    let rows = c .before .before .before .before .row-count .ensures .count-is in
     (s .pre .1 .0, (level-room (s .args .level) (s .pre .1 .1 .0) (if1 .if1 .taken), omega (arith, rows, s .pre .1 .1 .1)))
 
 for-upper : (t : ℕ) → program-block-lts.Need-program-half-requires (block-calls t) (block-at t) program-block.Post
@@ -90,7 +90,7 @@ upper-fits t c =
     let if1 = levelled .before .before .before .before .before .before in
     let s = if1 .before .before .before .before .before in
     let H = halving (s .args .level) (s .pre .1 .1 .0) (if1 .if1 .taken) in
-    omega (arith, s .pre .1 .1 .1, levelled .before .before .before .before .before .row-count .ensures .0)
+    omega (arith, s .pre .1 .1 .1, levelled .before .before .before .before .before .row-count .ensures .count-is)
 
 lower-fits : (t : ℕ) → program-block-lts.Need-add-program-half-3 (block-calls t) (block-at t) program-block.Post
 lower-fits t c =
@@ -99,7 +99,7 @@ lower-fits t c =
     let if1 = levelled .before .before .before .before .before .before in
     let s = if1 .before .before .before .before .before in
     let H = halving (s .args .level) (s .pre .1 .1 .0) (if1 .if1 .taken) in
-    omega (arith, s .pre .1 .1 .1, levelled .before .before .before .before .before .row-count .ensures .0)
+    omega (arith, s .pre .1 .1 .1, levelled .before .before .before .before .before .row-count .ensures .count-is)
 
 for-lower : (t : ℕ) → program-block-lts.Need-program-half-requires-2 (block-calls t) (block-at t) program-block.Post
 for-lower t c κs =
@@ -119,7 +119,7 @@ for-lower t c κs =
         lower-perm {level = s .args .level} (s .pre .1 .0) room l (level .ensures) size (half .last .0) same (half .ensures .1),
         (
           half-room (s .args .level) _ room l (omega arith) (same ∙ size) (half .kept .1 .0) (half .kept .1 .1 .0 ∙ level .kept .1 .1 .0 ∙ room .marksSize),
-          omega (arith, s .pre .1 .1 .1, levelled .before .before .before .before .before .row-count .ensures .0),
+          omega (arith, s .pre .1 .1 .1, levelled .before .before .before .before .before .row-count .ensures .count-is),
         ),
       ),
     )
@@ -136,7 +136,7 @@ stored t c =
     let half = upper .program-half in
     let bytes : AreBytes (s .args .program .now) = record { each = λ i. if1 .before .slice-known4 .given i .fits } in
     block-stored {level = s .args .level} (s .pre .1 .0) room (if1 .if1 .taken) (level .ensures) (level .kept .1 .0 ∙ room .scratchSize)
-    (half .last .0) (half .kept .0) (half .ensures .1) bytes (levelled .before .before .before .before .before .row-count .ensures .0) (half .ensures .0) (lower .program-half2 .ensures .0)
+    (half .last .0) (half .kept .0) (half .ensures .1) bytes (levelled .before .before .before .before .before .row-count .ensures .count-is) (half .ensures .0) (lower .program-half2 .ensures .0)
 
 nothing : (t : ℕ) → program-block-lts.Need-returns-2 (block-calls t) (block-at t) program-block.Post
 nothing t c =

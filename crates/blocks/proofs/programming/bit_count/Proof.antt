@@ -13,7 +13,7 @@ for-count c κs =
     (sym (size .power) ∙ ap (λ k. 2 ^ k) (sym e), rw e (size .level))
 
 counts : tie.Need-returns
-counts c = (c .row-count .ensures .0 ∙ ap permutationCount (c .before .level-of .ensures), c .row-count .ensures .1)
+counts c = (c .row-count .ensures .count-is ∙ ap permutationCount (c .before .level-of .ensures), c .row-count .ensures .most-rows)
 
 pub bit-count-spec : {M : Type 1} → statement M
 bit-count-spec = tie.close (tie.spec (λ c κs. search needs) for-count counts)

@@ -1,8 +1,8 @@
--- `blocks::program_block::row_count` meets its contract: the law of P's count, and that nothing is lost. Assumes nothing.
+-- `blocks::sizes::row_count` meets its contract: the law of P's count, and that nothing is lost. Assumes nothing.
 use native.Mathlib.Omega.{arith}
-use Rattle.blocks.specs.ProgramLevelsLaws.{RowCount, row-count}
-use Rattle.blocks.proofs.program_block.row_count.Statement.{statement}
-use Rattle.blocks.proofs.program_block.row_count.Tie as tie
+use Rattle.blocks.specs.SizesLaws.{RowCount, row-count}
+use Rattle.blocks.proofs.sizes.row_count.Statement.{statement}
+use Rattle.blocks.proofs.sizes.row_count.Tie as tie
 
 counted : (c : tie.Start) → RowCount (c .args .n) (c .args .level)
 counted c = row-count (c .pre .0) (c .pre .1)
@@ -17,7 +17,7 @@ enough : tie.Need-sub-result
 enough c = counted c .enough
 
 counts : tie.Need-returns
-counts c = let r = counted c in (r .count, r .most)
+counts c = let r = counted c in record { count-is = r .count; most-rows = r .most }
 
 pub row-count-spec : {M : Type 1} → statement M
 row-count-spec = tie.close (tie.spec product-fits sum-fits enough counts)
