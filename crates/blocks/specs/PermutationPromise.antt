@@ -13,12 +13,12 @@ use Rattle.networks.specs.Bits.{bytesFor, bitAt, pack, unpack}
 use Rattle.networks.specs.BitsLaws.{length-pack, storeBits-at}
 use Rattle.networks.specs.Wanted.{Wanted, mapping, wantedBits}
 use Rattle.networks.specs.WantedLaws.{mapping-at, length-wantedBits, wantedBits-bits, packed-delivers}
-use Rattle.blocks.specs.Sizes.{levelOf}
-use Rattle.blocks.specs.SizesLaws.{SizeIs}
-use Rattle.blocks.specs.WriteCalls.{rowsOf, writeFault, writtenRows, writtenOutputs}
-use Rattle.blocks.specs.WriteLaws.{write-passes, written-read}
-use Rattle.blocks.specs.ProgramCalls.{bitCount, programFault, programAtFault, programResult, programAtResult}
-use Rattle.blocks.specs.ProgramLaws.{fault-at, program-passes}
+use Rattle.sizes.specs.Sizes.{levelOf}
+use Rattle.sizes.specs.SizesLaws.{SizeIs}
+use Rattle.permutation_rows.specs.WriteCalls.{rowsOf, writeFault, writtenRows, writtenOutputs}
+use Rattle.permutation_rows.specs.WriteLaws.{write-passes, written-read}
+use Rattle.permutation_bits.specs.ProgramCalls.{bitCount, programFault, programAtFault, programResult, programAtResult}
+use Rattle.permutation_bits.specs.ProgramLaws.{fault-at, program-passes}
 
 -- the wanted list at the block's level
 at-level : {N : ℕ} {wanted : List ℕ} → SizeIs N → Wanted N wanted → Wanted (2 ^ levelOf N) wanted

@@ -39,3 +39,7 @@ filled-refused f (suc n) new old e = refl
 -- where no check fails it begins with what was written
 pub filled-done : {A : Type 0} (n : ℕ) (new old : List A) → 0 ≡ n → over new old ≡ filled n new old
 filled-done n new old e = rw (← e)
+
+-- a buffer that begins with what is written is as the call leaves it where no check fails
+pub is-filled : {A : Type 0} (n : ℕ) (new old l : List A) → l ≡ over new old → 0 ≡ n → l ≡ filled n new old
+is-filled n new old l e z = e ∙ filled-done n new old z

@@ -7,3 +7,5 @@ pub mod ChecksLaws
 -- lent buffers after a call
 pub mod Buffers
 pub mod BuffersLaws
+-- buffers that are filled part by part
+pub mod PartsLaws

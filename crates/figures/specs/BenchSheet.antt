@@ -15,8 +15,9 @@ use Rattle.powers.specs.Powers.{firstFit, ceilLog, ceilPower}
 use Rattle.networks.specs.Bits.{setBit, storeBits, pack}
 use Rattle.networks.specs.Permutation.{permutationCount, partner, iterate, walk, key, least, lowest, side, pick, inHalf, permutationBits}
 use Rattle.networks.specs.Wanted.{mapping, takerOf, inverse, wantedBits}
-use Rattle.blocks.specs.Sizes.{sizeAllowed}
-use Rattle.blocks.specs.ProgramCalls.{notAmong, sourceFault, wantedFault, programShort, programFault, programResult}
+use Rattle.sizes.specs.Sizes.{sizeAllowed}
+use Rattle.elements.specs.Checks.{listFault, bitsFault}
+use Rattle.permutation_bits.specs.ProgramCalls.{notAmong, sourceFault, wantedFault, programFault, programResult}
 use Rattle.figures.specs.Figure.{Figure, Holds, passes, passes-holds}
 
 -- a record as a row of numbers: the counts, every gate's place, every output's place
@@ -46,7 +47,7 @@ refuses file number at = record {
 
 -- programming P(N) for the wanted inputs succeeds and makes a byte of ones the program of these bits
 unfoldable pub programs : ℕ → List ℕ → List ℕ → Figure
-unfolding firstOf listOf firstFit ceilLog ceilPower sizeAllowed notAmong sourceFault wantedFault programShort setBit storeBits pack
+unfolding firstOf listOf firstFit ceilLog ceilPower sizeAllowed notAmong sourceFault wantedFault listFault bitsFault setBit storeBits pack
 programs N wanted bits = record {
   computed = programFault N wanted 1 ∷ programResult N wanted (255 ∷ []);
   stated = 0 ∷ pack bits;

@@ -50,7 +50,7 @@ fn check_evaluate(plan: Plan, row: &[u8], room: usize) -> Answer
 }
 
 // Whether a row has one entry for each input, each 0 or 1.
-fn contact_fault(inputs: usize, row: &[u8]) -> Answer
+pub fn contact_fault(inputs: usize, row: &[u8]) -> Answer
     ensures { λ r. ⌜ answerNumber r ≡ contactFault inputs (now (row .entry)) ⌝ }
 {
     if row.len() != inputs {

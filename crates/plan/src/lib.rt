@@ -9,6 +9,7 @@ mod reading;
 mod record;
 mod rules;
 
+pub use evaluation::contact_fault;
 pub use evaluation::evaluate;
 pub use faults::plan_fault;
 pub use reading::PlanRead;

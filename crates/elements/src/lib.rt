@@ -1,0 +1,22 @@
+// The elements X, Y and G in lent buffers: wires, rows of the table, program bits, and the checks of what is to be stored. Every call
+// takes all inputs: what does not fit is not stored.
+mod bits;
+mod checks;
+mod rows;
+mod wires;
+
+pub use bits::fill_bytes;
+pub use bits::read_bit;
+pub use bits::store_bit;
+pub use checks::check_bits;
+pub use checks::check_room;
+pub use checks::check_wires;
+pub use rows::Kind;
+pub use rows::put_pairs;
+pub use rows::put_row;
+pub use rows::row_place;
+pub use wires::FabricWire;
+pub use wires::MAX_WIRES;
+pub use wires::copy_wires;
+pub use wires::put_wires;
+pub use wires::wire_at;

@@ -1,0 +1,79 @@
+// P's programming in place: level by level on parts of three arrays, with no array of its own.
+ghost use mathlib.Core.Path.{_≡_};
+ghost use Prim.Native.Nat.{_+_, _/_, _^_, _<_, _≤_};
+ghost use lib.ListN.{length, take, drop};
+ghost use Rattle.networks.specs.Bits.{storeBits};
+ghost use Rattle.networks.specs.Permutation.{permutationCount};
+ghost use Rattle.sizes.specs.Sizes.{maxLevel};
+ghost use Rattle.sizes.specs.SizesLaws.{CountIs};
+ghost use Rattle.permutation_bits.specs.Mappings.{IsPerm, listBits};
+ghost use Rattle.permutation_bits.specs.Levels.{BlockRoom, HalfRoom};
+use crate::level::program_level;
+use sizes::permutation_count;
+
+// The program bits of P(2 ^ level) for the mapping `perm`, from bit `start` on. `scratch` and `mark` are room to work in, and `perm` is
+// used up: the halves have their mappings in `scratch`, and work in `perm`.
+pub(crate) fn program_block(
+    perm: &mut [u16],
+    scratch: &mut [u16],
+    mark: &mut [u8],
+    program: &mut [u8],
+    start: usize,
+    level: usize,
+)
+    requires { ⌜ IsPerm (now perm) ⌝ }
+    requires { ⌜ BlockRoom level (length (now perm)) (length (now scratch)) (length (now mark)) ⌝ }
+    requires { ⌜ start + permutationCount level < 2 ^ 32 ⌝ }
+    ensures { λ _. ⌜ now (program .exit) ≡ storeBits (now (program .entry)) start (listBits level (now (perm .entry))) ⌝ }
+{
+    if 0 < level {
+        let half = perm.len() / 2;
+        let part = row_count(half, level - 1);
+        program_level(perm, scratch, mark, program, start, part);
+        program_half(scratch, perm, mark, program, start + half, level - 1, 0);
+        program_half(
+            scratch,
+            perm,
+            mark,
+            program,
+            start + half + part,
+            level - 1,
+            half,
+        );
+    }
+}
+
+// The same for the half of `perm` from place `at` on. What stands behind it stays.
+fn program_half(
+    perm: &mut [u16],
+    scratch: &mut [u16],
+    mark: &mut [u8],
+    program: &mut [u8],
+    start: usize,
+    level: usize,
+    at: usize,
+)
+    requires { ⌜ IsPerm (take (length (now perm) / 2) (drop at (now perm))) ⌝ }
+    requires { ⌜ HalfRoom level at (length (now perm)) (length (now scratch)) (length (now mark)) ⌝ }
+    requires { ⌜ start + permutationCount level < 2 ^ 32 ⌝ }
+    ensures stored { λ _. ⌜ now (program .exit) ≡ storeBits (now (program .entry)) start (listBits level (take (length (now (perm .entry)) / 2) (drop at (now (perm .entry))))) ⌝ }
+    ensures kept { λ _. ⌜ drop (at + length (now (perm .entry)) / 2) (now (perm .exit)) ≡ drop (at + length (now (perm .entry)) / 2) (now (perm .entry)) ⌝ }
+{
+    let end = at + perm.len() / 2;
+    program_block(
+        &mut perm[at..end],
+        &mut scratch[at..end],
+        &mut mark[at..end],
+        program,
+        start,
+        level,
+    );
+}
+
+// The rows of P(n), n = 2 ^ level.
+fn row_count(n: usize, level: usize) -> usize
+    requires { ⌜ (n ≡ 2 ^ level) × (level ≤ maxLevel) ⌝ }
+    ensures { λ r. ⌜ CountIs level r ⌝ }
+{
+    permutation_count(n as u32)
+}

@@ -1,0 +1,162 @@
+-- Writing P succeeds exactly if its bounds hold, and what it writes has its stated length.
+use mathlib.Core.Path.{_≡_, refl, sym, ap, _∙_}
+use mathlib.Core.List.{List}
+use Prim.Native.Nat.{ℕ, _+_, _-_, _*_, _^_, _≤_}
+use native.Mathlib.Omega.{arith}
+use lib.ListN.{length, take, drop}
+use lib.Pow.{pow-pos}
+use lib.Seq.{take-at}
+use Rattle.lists.specs.Lists.{Below}
+use Rattle.fault.specs.Buffers.{over}
+use Rattle.fault.specs.ChecksLaws.{unless-zero, and-then-zero}
+use Rattle.powers.specs.PowersLaws.{ceilLog-power}
+use Rattle.networks.specs.Rows.{stride, flat, decode}
+use Rattle.networks.specs.RowsLaws.{decode-flat}
+use Rattle.networks.specs.Permutation.{permutationCount, permutationOuts, permutationRows}
+use Rattle.networks.specs.PermutationLaws.{permutation-totals, length-permutationOuts}
+use Rattle.sizes.specs.Sizes.{maxLevel, levelOf}
+use Rattle.sizes.specs.SizesLaws.{SizeIs, size-is, power-allowed}
+use Rattle.elements.specs.Wires.{maxWires}
+use Rattle.elements.specs.WiresLaws.{wires-copied}
+use Rattle.elements.specs.ChecksLaws.{list-faultless, wires-faultless, buffers-faultless}
+use Rattle.permutation_rows.specs.WriteCalls.{rowsOf, writeFault, writtenRows, writtenOutputs}
+use Rattle.fault.specs.PartsLaws.{length-over, length-filled, over-again}
+use Rattle.permutation_rows.specs.Levels.{LevelRoom}
+use Rattle.permutation_rows.specs.HalvesLaws.{step-count, length-rows}
+
+-- a level above 0 has rows
+pub some-rows : (n : ℕ) → 1 ≤ n → 1 ≤ permutationCount n
+some-rows n h = omega (arith, step-count n h, pow-pos (n - 1))
+
+-- ---- the checks
+
+-- what holds where no check fails
+pub record WritePasses (N : ℕ) (ins : List ℕ) (next rows outputs : ℕ) : Type 0 where
+  pub size : SizeIs N
+  pub inputs : length ins ≡ N
+  pub made : Below next ins
+  pub wires : 1 ≤ rowsOf N → next + 2 * rowsOf N ≤ maxWires
+  pub rowRoom : stride * rowsOf N ≤ rows
+  pub outputRoom : N ≤ outputs
+
+pub write-passes : (N : ℕ) (ins : List ℕ) (next rows outputs : ℕ) → writeFault N ins next rows outputs ≡ 0 → WritePasses N ins next rows outputs
+unfolding writeFault
+write-passes N ins next rows outputs e =
+    let h = simp (and-then-zero, unless-zero, list-faultless, wires-faultless, buffers-faultless) at e in
+    let wires = h .1 .1 .0 in
+    let room = h .1 .1 .1 in
+    record {
+      size = size-is N (h .0);
+      inputs = h .1 .0;
+      made = wires .given;
+      wires = λ some. wires .new (omega arith);
+      rowRoom = room .rowRoom;
+      outputRoom = room .outputRoom;
+    }
+
+-- and the other way round
+pub write-done : (N : ℕ) (ins : List ℕ) (next rows outputs : ℕ) → WritePasses N ins next rows outputs → writeFault N ins next rows outputs ≡ 0
+unfolding writeFault
+write-done N ins next rows outputs w =
+    simp (and-then-zero, unless-zero, list-faultless, wires-faultless, buffers-faultless) (
+      rw (w .size .power) at (power-allowed (levelOf N) (w .size .level)),
+      (
+        w .inputs,
+        (
+          record { given = w .made; new = λ some. w .wires (omega arith) },
+          record { rowRoom = w .rowRoom; outputRoom = w .outputRoom },
+        ),
+      ),
+    )
+
+-- the bounds for P(2 ^ n)
+pub write-succeeds : (n : ℕ) (ins : List ℕ) (next rows outputs : ℕ) → n ≤ maxLevel → length ins ≡ 2 ^ n → Below next ins
+    → (1 ≤ permutationCount n → next + 2 * permutationCount n ≤ maxWires) → stride * permutationCount n ≤ rows → 2 ^ n ≤ outputs
+    → writeFault (2 ^ n) ins next rows outputs ≡ 0
+write-succeeds n ins next rows outputs small inputs made wires rowRoom outputRoom =
+    let size = size-is (2 ^ n) (power-allowed n small) in
+    let e = ap permutationCount (ceilLog-power n) in
+    write-done (2 ^ n) ins next rows outputs
+    (record {
+      size = size;
+      inputs = inputs;
+      made = made;
+      wires = rw e wires;
+      rowRoom = rw e rowRoom;
+      outputRoom = outputRoom;
+    })
+
+-- ---- what is written
+
+-- three entries a row, and one for each output wire
+pub length-entries : (N : ℕ) (ins : List ℕ) (next : ℕ) → length (flat (permutationRows (levelOf N) ins next)) ≡ stride * rowsOf N
+length-entries N ins next = length-rows (levelOf N) ins next
+
+pub length-outs : (N : ℕ) (ins : List ℕ) (next : ℕ) → SizeIs N → length ins ≡ N → length (permutationOuts (levelOf N) ins next) ≡ N
+length-outs N ins next size e = length-permutationOuts (levelOf N) ins next (e ∙ sym (size .power)) ∙ size .power
+
+-- the lent buffers stay as long as they are, and after success they begin with the rows and the output wires
+pub record Written (N : ℕ) (ins : List ℕ) (next : ℕ) (rows outputs : List ℕ) : Type 0 where
+  pub entriesRead : take (stride * rowsOf N) (writtenRows N ins next rows outputs) ≡ flat (permutationRows (levelOf N) ins next)
+  pub rowsRead : decode (take (stride * rowsOf N) (writtenRows N ins next rows outputs)) ≡ permutationRows (levelOf N) ins next
+  pub outputsRead : take N (writtenOutputs N ins next rows outputs) ≡ permutationOuts (levelOf N) ins next
+
+pub written-read : (N : ℕ) (ins : List ℕ) (next : ℕ) (rows outputs : List ℕ) → writeFault N ins next (length rows) (length outputs) ≡ 0
+    → Written N ins next rows outputs
+written-read N ins next rows outputs e =
+    let w = write-passes N ins next (length rows) (length outputs) e in
+    let es = flat (permutationRows (levelOf N) ins next) in
+    let outs = permutationOuts (levelOf N) ins next in
+    let front : take (stride * rowsOf N) (writtenRows N ins next rows outputs) ≡ es =
+    rw e (take-at es (drop (length es) rows) (stride * rowsOf N) (length-entries N ins next)) in
+    record {
+      entriesRead = front;
+      rowsRead = ap decode front ∙ decode-flat (permutation-totals (levelOf N) ins next .family);
+      outputsRead = rw e (take-at outs (drop (length outs) outputs) N (length-outs N ins next (w .size) (w .inputs)));
+    }
+
+pub length-writtenRows : (N : ℕ) (ins : List ℕ) (next : ℕ) (rows outputs : List ℕ) → length (writtenRows N ins next rows outputs) ≡ length rows
+length-writtenRows N ins next rows outputs =
+    length-filled _ _ rows λ e.
+    let w = write-passes N ins next (length rows) (length outputs) e in
+    omega (arith, length-entries N ins next)
+
+pub length-writtenOutputs : (N : ℕ) (ins : List ℕ) (next : ℕ) (rows outputs : List ℕ)
+    → length (writtenOutputs N ins next rows outputs) ≡ length outputs
+length-writtenOutputs N ins next rows outputs =
+    length-filled _ _ outputs λ e.
+    let w = write-passes N ins next (length rows) (length outputs) e in
+    omega (arith, length-outs N ins next (w .size) (w .inputs))
+
+-- ---- the core of the call
+
+-- the input wires are copied to the front of the list P, and P(N) is written from there
+module _ (N : ℕ) (ins : List ℕ) (next rows outputs level : ℕ) (L P : List ℕ) (passes : WritePasses N ins next rows outputs) (at : level ≡ levelOf N)
+    (long : length L ≡ outputs) (lent : P ≡ over (take (length L) ins) L) where
+  copied : P ≡ over ins L
+  copied = lent ∙ wires-copied ins L (omega arith)
+
+  pub level-room : LevelRoom level next rows (length P)
+  level-room =
+      let l : length P ≡ outputs = ap length copied ∙ length-over ins L (omega arith) ∙ long in
+      let c = ap permutationCount at in
+      let q = ap (λ n. 2 ^ n) at in
+      record {
+        small = omega arith;
+        wires = λ some. let w = passes .wires (omega (arith, some-rows level some)) in omega arith;
+        rowRoom = omega arith;
+        wireRoom = omega arith;
+      }
+
+  inputs-copied : take (2 ^ level) P ≡ ins
+  inputs-copied = rw copied (take-at ins (drop (length ins) L) (2 ^ level) (passes .inputs ∙ sym (passes .size .power) ∙ ap (λ n. 2 ^ n) (sym at)))
+
+  pub rows-put : (R S : List ℕ) → R ≡ over (flat (permutationRows level (take (2 ^ level) P) next)) S
+      → R ≡ over (flat (permutationRows (levelOf N) ins next)) S
+  rows-put R S e = rw (inputs-copied, at) at e
+
+  pub outputs-put : (Q : List ℕ) → Q ≡ over (permutationOuts level (take (2 ^ level) P) next) P → Q ≡ over (permutationOuts (levelOf N) ins next) L
+  outputs-put Q e =
+      (rw (inputs-copied, at) at e)
+      ∙ ap (over (permutationOuts (levelOf N) ins next)) copied
+      ∙ over-again (permutationOuts (levelOf N) ins next) ins L (length-outs N ins next (passes .size) (passes .inputs) ∙ sym (passes .inputs))

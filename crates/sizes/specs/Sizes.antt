@@ -1,0 +1,29 @@
+-- Document 01, block library, checks 2 and 4: "2 if P's N is not a power of two from 1 to 512, or S's m not 1 to 512; 4 if n is not 1 to 512".
+use Prim.Native.Nat.{ℕ}
+use mathlib.Core.Bool.{Bool, _&&_}
+use lib.Dec.{leb, eqb}
+use Rattle.fault.specs.declared.Fault.{Fault}
+use Rattle.fault.specs.Checks.{unless, andThen}
+use Rattle.powers.specs.Powers.{ceilLog, ceilPower}
+
+abbrev pub maxSize : ℕ
+maxSize = 512
+
+-- its logarithm
+abbrev pub maxLevel : ℕ
+maxLevel = 9
+
+unfoldable pub sizeAllowed : ℕ → Bool
+sizeAllowed N = leb 1 N && (leb N maxSize && eqb (ceilPower N) N)
+
+-- the level n of P(N), N = 2 ^ n
+abbrev pub levelOf : ℕ → ℕ
+levelOf N = ceilLog N
+
+-- a number of inputs or outputs of S
+unfoldable pub sideAllowed : ℕ → Bool
+sideAllowed n = leb 1 n && leb n maxSize
+
+-- 2, then 4
+unfoldable pub sidesFault : ℕ → ℕ → ℕ
+sidesFault m n = andThen (unless (sideAllowed m) Fault.Inputs) (unless (sideAllowed n) Fault.Outputs)
