@@ -1,0 +1,203 @@
+-- Writing S succeeds exactly if its bounds hold, and what it writes has its stated length.
+use mathlib.Core.Path.{_≡_, refl, sym, ap, _∙_}
+use mathlib.Core.List.{List}
+use Prim.Native.Nat.{ℕ, _+_, _-_, _*_, _^_, _≤_, _<_}
+use native.Mathlib.Decide.{decLt}
+use native.Mathlib.Omega.{arith}
+use lib.ListN.{length, getD, take, drop, replicate, length-replicate, getD-replicate, List·getD-append, List·getD-eq-default}
+use lib.Seq.{ext-getD, take-at, take-all, take-append-le, getD-drop, getD-append-add}
+use Rattle.lists.specs.Lists.{Below}
+use Rattle.lists.specs.ListsLaws.{listOf-ext}
+use Rattle.fault.specs.Buffers.{over}
+use Rattle.fault.specs.ChecksLaws.{and-then-zero}
+use Rattle.fault.specs.PartsLaws.{length-over, length-filled}
+use Rattle.powers.specs.PowersLaws.{ceilLog-power}
+use Rattle.networks.specs.Rows.{stride, flat, decode}
+use Rattle.networks.specs.RowsLaws.{length-flat, decode-flat}
+use Rattle.networks.specs.Selection.{selectionLevel, padded, wholeRows, wholeOuts, wholeCount, wholeWires}
+use Rattle.networks.specs.Selection.{selectionRows, selectionOuts, selectionCount, selectionWires}
+use Rattle.networks.specs.SelectionLaws.{outputs-fit, length-padded, getD-padded, below-padded, length-wholeOuts}
+use Rattle.networks.specs.SelectionLaws.{length-selectionRows, selection-totals, length-selectionOuts}
+use Rattle.sizes.specs.Sizes.{maxSize, levelOf}
+use Rattle.sizes.specs.SizesLaws.{size-is, power-allowed, power-small, Sides, sides-allowed, side-level}
+use Rattle.elements.specs.Wires.{maxWires}
+use Rattle.elements.specs.ChecksLaws.{list-faultless, wires-faultless, buffers-faultless}
+use Rattle.selection_rows.specs.WriteCalls.{selectionWriteFault, selectionWrittenRows, selectionWrittenOutputs}
+use Rattle.selection_rows.specs.Block.{BlockRoom}
+
+-- ---- the checks
+
+-- what holds where no check fails
+pub record SelectionWritePasses (m n : ℕ) (ins : List ℕ) (next rows outputs : ℕ) : Type 0 where
+  pub sides : Sides m n
+  pub inputs : length ins ≡ m
+  pub made : Below next ins
+  pub wires : 1 ≤ selectionWires m n → next + selectionWires m n ≤ maxWires
+  pub rowRoom : stride * selectionCount m n ≤ rows
+  pub outputRoom : n ≤ outputs
+
+module _ (m n : ℕ) (ins : List ℕ) (next rows outputs : ℕ) where
+  pub selection-write-passes : selectionWriteFault m n ins next rows outputs ≡ 0 → SelectionWritePasses m n ins next rows outputs
+  unfolding selectionWriteFault
+  selection-write-passes e =
+      let h = simp and-then-zero at e in
+      let w = wires-faultless ins (selectionWires m n) next .0 (h .1 .1 .0) in
+      let b = buffers-faultless (selectionCount m n) n rows outputs .0 (h .1 .1 .1) in
+      record {
+        sides = sides-allowed m n .0 (h .0);
+        inputs = list-faultless m ins .0 (h .1 .0);
+        made = w .given;
+        wires = w .new;
+        rowRoom = b .rowRoom;
+        outputRoom = b .outputRoom;
+      }
+
+  -- and the other way round
+  pub selection-write-succeeds : Sides m n → length ins ≡ m → Below next ins → (1 ≤ selectionWires m n → next + selectionWires m n ≤ maxWires)
+      → stride * selectionCount m n ≤ rows → n ≤ outputs → selectionWriteFault m n ins next rows outputs ≡ 0
+  unfolding selectionWriteFault
+  selection-write-succeeds sides inputs made wires rowRoom outputRoom =
+      simp and-then-zero (
+        sides-allowed m n .1 sides,
+        (
+          list-faultless m ins .1 inputs,
+          (
+            wires-faultless ins (selectionWires m n) next .1 (record { given = made; new = wires }),
+            buffers-faultless (selectionCount m n) n rows outputs .1 (record { rowRoom = rowRoom; outputRoom = outputRoom }),
+          ),
+        ),
+      )
+
+-- a row makes a wire or two
+pub rows-make : (m n : ℕ) → selectionCount m n ≤ selectionWires m n
+unfolding selectionCount selectionWires wholeCount wholeWires
+rows-make m n = omega arith
+
+-- wire 0 is made
+pub some-wire : {m n : ℕ} {ins : List ℕ} {next rows outputs : ℕ} → SelectionWritePasses m n ins next rows outputs → 0 < next
+some-wire {next = next} w = omega (arith, w .made .each 0 (omega arith))
+
+-- ---- what is written
+
+-- three entries a row, and one for each output wire
+length-entries : (m n : ℕ) (ins : List ℕ) (next : ℕ) → length (flat (selectionRows m n ins next)) ≡ stride * selectionCount m n
+length-entries m n ins next = length-flat (selection-totals m n ins next .family) ∙ ap (λ k. stride * k) (length-selectionRows m n ins next)
+
+module _ (m n : ℕ) (ins : List ℕ) (next : ℕ) (rows outputs : List ℕ) where
+  -- after success the lent buffers begin with the rows and the output wires
+  pub record SelectionWritten : Type 0 where
+    pub entriesRead : take (stride * selectionCount m n) (selectionWrittenRows m n ins next rows outputs) ≡ flat (selectionRows m n ins next)
+    pub rowsRead : decode (take (stride * selectionCount m n) (selectionWrittenRows m n ins next rows outputs)) ≡ selectionRows m n ins next
+    pub outputsRead : take n (selectionWrittenOutputs m n ins next rows outputs) ≡ selectionOuts m n ins next
+
+  pub selection-written-read : selectionWriteFault m n ins next (length rows) (length outputs) ≡ 0 → SelectionWritten
+  selection-written-read e =
+      let es = flat (selectionRows m n ins next) in
+      let outs = selectionOuts m n ins next in
+      let front : take (stride * selectionCount m n) (selectionWrittenRows m n ins next rows outputs) ≡ es =
+      rw e (take-at es (drop (length es) rows) (stride * selectionCount m n) (length-entries m n ins next)) in
+      record {
+        entriesRead = front;
+        rowsRead = ap decode front ∙ decode-flat (selection-totals m n ins next .family);
+        outputsRead = rw e (take-at outs (drop (length outs) outputs) n (length-selectionOuts m n ins next));
+      }
+
+  -- the lent buffers stay as long as they are
+  pub length-selectionWrittenRows : length (selectionWrittenRows m n ins next rows outputs) ≡ length rows
+  length-selectionWrittenRows =
+      length-filled _ _ rows λ e.
+      let w = selection-write-passes m n ins next (length rows) (length outputs) e in
+      omega (arith, length-entries m n ins next)
+
+  pub length-selectionWrittenOutputs : length (selectionWrittenOutputs m n ins next rows outputs) ≡ length outputs
+  length-selectionWrittenOutputs =
+      length-filled _ _ outputs λ e.
+      let w = selection-write-passes m n ins next (length rows) (length outputs) e in
+      omega (arith, length-selectionOuts m n ins next)
+
+-- ---- the core of the call
+
+-- a list of so many places that all hold wire 0
+abbrev zeroWires : ℕ → List ℕ
+zeroWires k = replicate k 0
+
+-- the input wires are stored before zeros: an input past them is wire 0
+copied-padded : (k : ℕ) (ins : List ℕ) → length ins ≤ k → over ins (zeroWires k) ≡ padded k ins
+copied-padded k ins h = ext-getD 0 _ _ (long ∙ sym (length-padded k ins)) (λ i l. let m : i < k = rw long at l in at i m ∙ sym (getD-padded k ins i m))
+  where
+    zero-long : length (zeroWires k) ≡ k
+    zero-long = length-replicate {A = ℕ} k 0
+
+    long : length (over ins (zeroWires k)) ≡ k
+    long = length-over ins (zeroWires k) (rw zero-long h) ∙ zero-long
+
+    at : (i : ℕ) → i < k → getD (over ins (zeroWires k)) i 0 ≡ getD ins i 0
+    at i m = elim (decLt i (length ins)) [
+      | yes l ↦ List·getD-append ins _ 0 i l
+      | no l ↦
+          let e : i ≡ length ins + (i - length ins) = omega arith in
+          ap (λ j. getD (over ins (zeroWires k)) j 0) e
+          ∙ getD-append-add ins (drop (length ins) (zeroWires k)) (i - length ins) 0
+          ∙ getD-drop (length ins) (zeroWires k) (i - length ins) 0
+          ∙ ap (λ j. getD (zeroWires k) j 0) (sym e)
+          ∙ getD-replicate k i 0 0 m
+          ∙ sym (List·getD-eq-default ins 0 {n = i} (omega arith))
+    ]
+
+-- the first places of a padded list
+padded-again : (N k : ℕ) (ins : List ℕ) → N ≤ k → padded N (padded k ins) ≡ padded N ins
+padded-again N k ins h = unfold padded in listOf-ext N _ _ (λ i l. getD-padded k ins i (omega arith))
+
+-- N is the block's size, and A holds the input wires before zeros
+module _ (m n : ℕ) (ins : List ℕ) (next rows outputs N : ℕ) (A : List ℕ) (passes : SelectionWritePasses m n ins next rows outputs)
+    (size : N ≡ 2 ^ selectionLevel m n) (copied : A ≡ over (take maxSize ins) (zeroWires maxSize)) where
+  abbrev level : ℕ
+  level = selectionLevel m n
+
+  level-is : levelOf N ≡ level
+  level-is = ap levelOf size ∙ ceilLog-power level
+
+  few : N ≤ maxSize
+  few = rw size (power-small level (side-level (passes .sides)))
+
+  wires-are : A ≡ padded maxSize ins
+  wires-are =
+      copied ∙ ap (λ l. over l (zeroWires maxSize)) (take-all maxSize ins (omega arith)) ∙ copied-padded maxSize ins (omega arith)
+
+  pub block-room : BlockRoom N A next rows maxSize
+  unfolding selectionWires selectionCount
+  block-room = record {
+    made = record {
+      size = rw size (size-is (2 ^ level) (power-allowed level (side-level (passes .sides))));
+      wires = rw level-is (passes .wires);
+    };
+    some = some-wire passes;
+    fed = rw wires-are (below-padded maxSize (some-wire passes) (passes .made));
+    rowRoom = rw level-is (passes .rowRoom);
+    fromRoom = rw (ap length wires-are ∙ length-padded maxSize ins) few;
+    toRoom = few;
+  }
+
+  inputs-are : padded (2 ^ level) A ≡ padded (2 ^ level) ins
+  inputs-are = ap (padded (2 ^ level)) wires-are ∙ padded-again (2 ^ level) maxSize ins (omega (arith, few))
+
+  pub rows-put : (R₀ R : List ℕ) → R ≡ over (flat (wholeRows (levelOf N) A next)) R₀ → R ≡ over (flat (selectionRows m n ins next)) R₀
+  unfolding wholeRows selectionRows
+  rows-put R₀ R e = rw (level-is, inputs-are) at e
+
+  outs-are : wholeOuts (levelOf N) A next ≡ wholeOuts level ins next
+  unfolding wholeOuts
+  outs-are = rw (level-is, inputs-are)
+
+  -- the first n of the block's output wires are copied to the lent list
+  pub outputs-put : (L T O₀ O : List ℕ) → length O₀ ≡ outputs → T ≡ over (wholeOuts (levelOf N) A next) L → O ≡ over (take (length O₀) (take n T)) O₀
+      → O ≡ over (selectionOuts m n ins next) O₀
+  unfolding selectionOuts
+  outputs-put L T O₀ O long e put =
+      let outs = wholeOuts (levelOf N) A next in
+      let enough : n ≤ length outs = omega (arith, ap length outs-are, length-wholeOuts level ins next, outputs-fit m n) in
+      let front : take n T ≡ selectionOuts m n ins next =
+      ap (take n) e ∙ take-append-le n outs (drop (length outs) L) enough ∙ ap (take n) outs-are in
+      put
+      ∙ ap (λ l. over (take (length O₀) l) O₀) front
+      ∙ ap (λ l. over l O₀) (take-all (length O₀) (selectionOuts m n ins next) (omega (arith, length-selectionOuts m n ins next)))

@@ -1,0 +1,108 @@
+// Writing S: its rows into the lent table, its output wires into the second buffer. Checks come first and touch no buffer.
+ghost use mathlib.Core.Path.{_≡_};
+ghost use lib.ListN.{length};
+ghost use Rattle.fault.specs.Number.{answerNumber};
+ghost use Rattle.fault.specs.Buffers.{over};
+ghost use Rattle.networks.specs.Rows.{flat};
+ghost use Rattle.networks.specs.Selection.{selectionRows, selectionOuts};
+ghost use Rattle.sizes.specs.SizesLaws.{Sides};
+ghost use Rattle.selection_rows.specs.Block.{lentFault};
+ghost use Rattle.selection_rows.specs.WriteCalls.{selectionWriteFault, selectionWrittenRows, selectionWrittenOutputs};
+ghost use Rattle.selection_rows.specs.SelectionWriteLaws.{SelectionWritePasses};
+use crate::block::write_block;
+use elements::FabricWire;
+use elements::check_room;
+use elements::check_wires;
+use elements::copy_wires;
+use fault::Answer;
+use fault::Fault;
+use sizes::MAX_SIZE;
+use sizes::check_sides;
+use sizes::selection_count;
+use sizes::selection_size;
+use sizes::selection_wires;
+
+// The places of the largest block.
+const PLACES: usize = MAX_SIZE as usize;
+
+// S(m, n) on the input wires, where `next` is the next unmade wire.
+pub fn write_selection(
+    m: u32,
+    n: u32,
+    inputs: &[u16],
+    next: FabricWire,
+    rows: &mut [u16],
+    outputs: &mut [u16],
+) -> Answer
+    ensures answered { λ r. ⌜ answerNumber r ≡ selectionWriteFault m n (now (inputs .entry)) (next .0) (length (now (rows .entry))) (length (now (outputs .entry))) ⌝ }
+    ensures rows { λ _. ⌜ now (rows .exit) ≡ selectionWrittenRows m n (now (inputs .entry)) (next .0) (now (rows .entry)) (now (outputs .entry)) ⌝ }
+    ensures outputs { λ _. ⌜ now (outputs .exit) ≡ selectionWrittenOutputs m n (now (inputs .entry)) (next .0) (now (rows .entry)) (now (outputs .entry)) ⌝ }
+{
+    match check_selection(m, n, inputs, next, rows.len(), outputs.len()) {
+        Answer::Refused(f) => Answer::Refused(f),
+        Answer::Done => {
+            put_selection(m, n, inputs, next, rows, outputs);
+            Answer::Done
+        }
+    }
+}
+
+// S(m, n) where all checks pass. The call's own lists of wires take 2,048 bytes; inputs past m stay wire 0.
+fn put_selection(
+    m: u32,
+    n: u32,
+    inputs: &[u16],
+    next: FabricWire,
+    rows: &mut [u16],
+    outputs: &mut [u16],
+)
+    requires { ⌜ SelectionWritePasses m n (now inputs) (next .0) (length (now rows)) (length (now outputs)) ⌝ }
+    ensures { λ _. ⌜ now (rows .exit) ≡ over (flat (selectionRows m n (now (inputs .entry)) (next .0))) (now (rows .entry)) ⌝ }
+    ensures { λ _. ⌜ now (outputs .exit) ≡ over (selectionOuts m n (now (inputs .entry)) (next .0)) (now (outputs .entry)) ⌝ }
+{
+    let mut from = [0u16; PLACES];
+    let mut to = [0u16; PLACES];
+    let size = selection_size(m, n) as u32;
+    let end = n as usize;
+    copy_wires(inputs, &mut from);
+    write_block(size, next, rows, &mut from, &mut to);
+    copy_wires(&to[..end], outputs);
+}
+
+// The checks of writing S: 2, 4, 12, 13, 11.
+fn check_selection(
+    m: u32,
+    n: u32,
+    inputs: &[u16],
+    next: FabricWire,
+    rows: usize,
+    outputs: usize,
+) -> Answer
+    ensures { λ r. ⌜ answerNumber r ≡ selectionWriteFault m n (now (inputs .entry)) (next .0) rows outputs ⌝ }
+{
+    match check_sides(m, n) {
+        Answer::Refused(f) => Answer::Refused(f),
+        Answer::Done => check_lent(m, n, inputs, next, rows, outputs),
+    }
+}
+
+// Those of the lent list and buffers: 12, 13, 11.
+fn check_lent(
+    m: u32,
+    n: u32,
+    inputs: &[u16],
+    next: FabricWire,
+    rows: usize,
+    outputs: usize,
+) -> Answer
+    requires { ⌜ Sides m n ⌝ }
+    ensures { λ r. ⌜ answerNumber r ≡ lentFault m n (now (inputs .entry)) (next .0) rows outputs ⌝ }
+{
+    if inputs.len() != m as usize {
+        return Answer::Refused(Fault::Contact);
+    }
+    match check_wires(inputs, next, selection_wires(m, n) as u32) {
+        Answer::Refused(f) => Answer::Refused(f),
+        Answer::Done => check_room(selection_count(m, n) as u32, n, rows, outputs),
+    }
+}
