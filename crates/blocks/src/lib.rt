@@ -7,3 +7,6 @@ pub use elements::store_bit;
 pub use permutation_bits::program_permutation;
 pub use permutation_bits::program_permutation_at;
 pub use permutation_rows::write_permutation;
+pub use selection_bits::program_selection;
+pub use selection_bits::program_selection_at;
+pub use selection_rows::write_selection;

@@ -7,6 +7,8 @@ ghost use Rattle.plan.specs.Faults.{planFault};
 ghost use Rattle.plan.specs.Evaluation.{evaluateFault, evaluateResult};
 ghost use Rattle.permutation_rows.specs.WriteCalls.{writeFault, writtenRows, writtenOutputs};
 ghost use Rattle.permutation_bits.specs.ProgramCalls.{programFault, programResult};
+ghost use Rattle.selection_rows.specs.WriteCalls.{selectionWriteFault, selectionWrittenRows, selectionWrittenOutputs};
+ghost use Rattle.selection_bits.specs.ProgramCalls.{selectionProgramFault, selectionProgramResult};
 ghost use Rattle.capi.specs.Exports.{outcomeOf};
 use blocks::FabricWire;
 use plan::Plan;
@@ -85,4 +87,30 @@ pub extern "C" fn mkd_permutation_program(n: u32, wanted: &[u16], program: &mut 
     ensures written { λ _. ⌜ now (program .exit) ≡ programResult n (now (wanted .entry)) (now (program .entry)) ⌝ }
 {
     blocks::program_permutation(n, wanted, program).number()
+}
+
+// Writes the selection network S(m, n): its rows and its output wires.
+#[no_mangle]
+pub extern "C" fn mkd_selection_write(
+    m: u32,
+    n: u32,
+    inputs: &[u16],
+    next: u32,
+    rows: &mut [u16],
+    outputs: &mut [u16],
+) -> u32
+    ensures answered { λ r. ⌜ r ≡ selectionWriteFault m n (now (inputs .entry)) next (length (now (rows .entry))) (length (now (outputs .entry))) ⌝ }
+    ensures rows { λ _. ⌜ now (rows .exit) ≡ selectionWrittenRows m n (now (inputs .entry)) next (now (rows .entry)) (now (outputs .entry)) ⌝ }
+    ensures outputs { λ _. ⌜ now (outputs .exit) ≡ selectionWrittenOutputs m n (now (inputs .entry)) next (now (rows .entry)) (now (outputs .entry)) ⌝ }
+{
+    blocks::write_selection(m, n, inputs, FabricWire(next), rows, outputs).number()
+}
+
+// Programs S(m, n) for the wanted inputs.
+#[no_mangle]
+pub extern "C" fn mkd_selection_program(m: u32, n: u32, wanted: &[u16], program: &mut [u8]) -> u32
+    ensures answered { λ r. ⌜ r ≡ selectionProgramFault m n (now (wanted .entry)) (length (now (program .entry))) ⌝ }
+    ensures written { λ _. ⌜ now (program .exit) ≡ selectionProgramResult m n (now (wanted .entry)) (now (program .entry)) ⌝ }
+{
+    blocks::program_selection(m, n, wanted, program).number()
 }

@@ -15,9 +15,13 @@ use Rattle.powers.specs.Powers.{firstFit, ceilLog, ceilPower}
 use Rattle.networks.specs.Bits.{setBit, storeBits, pack}
 use Rattle.networks.specs.Permutation.{permutationCount, partner, iterate, walk, key, least, lowest, side, pick, inHalf, permutationBits}
 use Rattle.networks.specs.Wanted.{mapping, takerOf, inverse, wantedBits}
-use Rattle.sizes.specs.Sizes.{sizeAllowed}
+use Rattle.networks.specs.Counting.{countOf, nthOf}
+use Rattle.networks.specs.Completion.{isTaken, completed}
+use Rattle.networks.specs.Selection.{selectionLevel, wholeCount, selectionCount, wanting, headOf, copyOf, wholeProgram, selectionBits}
+use Rattle.sizes.specs.Sizes.{sizeAllowed, sideAllowed, sidesFault}
 use Rattle.elements.specs.Checks.{listFault, bitsFault}
 use Rattle.permutation_bits.specs.ProgramCalls.{notAmong, sourceFault, wantedFault, programFault, programResult}
+use Rattle.selection_bits.specs.ProgramCalls.{selectedFault, selectionWantedFault, selectionProgramFault, selectionProgramResult}
 use Rattle.figures.specs.Figure.{Figure, Holds, passes, passes-holds}
 
 -- a record as a row of numbers: the counts, every gate's place, every output's place
@@ -53,6 +57,14 @@ programs N wanted bits = record {
   stated = 0 ∷ pack bits;
 }
 
+-- programming S(m, n) for the wanted inputs, likewise
+unfoldable pub selects : ℕ → ℕ → List ℕ → List ℕ → Figure
+unfolding firstOf listOf firstFit ceilLog sideAllowed sidesFault selectedFault selectionWantedFault listFault bitsFault setBit storeBits pack
+selects m n wanted bits = record {
+  computed = selectionProgramFault m n wanted 1 ∷ selectionProgramResult m n wanted (255 ∷ []);
+  stated = 0 ∷ pack bits;
+}
+
 -- a header that passes leaves a file of six bytes cut before its first map byte, and a map byte 7 one of seven bytes cut before its
 -- first operand
 unfoldable pub benchSheet : List Figure
@@ -77,9 +89,12 @@ benchSheet =
     -- P(4), outputs from inputs 2,1,4,3: 1 1 0 0 0; from 3,1,2,4: 1 0 1 0 0
     ∷ programs 4 (2 ∷ 1 ∷ 4 ∷ 3 ∷ []) (1 ∷ 1 ∷ 0 ∷ 0 ∷ 0 ∷ [])
     ∷ programs 4 (3 ∷ 1 ∷ 2 ∷ 4 ∷ []) (1 ∷ 0 ∷ 1 ∷ 0 ∷ 0 ∷ [])
+    -- S(2,2) wanting 2,2: 1 0 0; wanting 2,1: 0 1 1
+    ∷ selects 2 2 (2 ∷ 2 ∷ []) (1 ∷ 0 ∷ 0 ∷ [])
+    ∷ selects 2 2 (2 ∷ 1 ∷ []) (0 ∷ 1 ∷ 1 ∷ [])
     ∷ []
 
 -- the claim
 pub bench-sheet : Holds benchSheet
-unfolding benchSheet passes refuses programs permutationCount partner iterate walk key least lowest side pick inHalf permutationBits mapping takerOf inverse wantedBits
+unfolding benchSheet passes refuses programs selects selectionLevel wholeCount selectionCount wanting headOf copyOf wholeProgram selectionBits countOf nthOf isTaken completed permutationCount partner iterate walk key least lowest side pick inHalf permutationBits mapping takerOf inverse wantedBits
 bench-sheet = passes-holds benchSheet refl

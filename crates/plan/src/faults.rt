@@ -32,7 +32,7 @@ pub fn plan_fault(plan: Plan) -> Answer
 }
 
 // Whether each count is within its limit.
-fn counts_fault(inputs: u32, gates: u32, outputs: u32) -> Answer
+pub fn counts_fault(inputs: u32, gates: u32, outputs: u32) -> Answer
     ensures { λ r. ⌜ answerNumber r ≡ countsFault inputs gates outputs ⌝ }
 {
     if !count_allowed(inputs, Plan::MAX_INPUTS) {

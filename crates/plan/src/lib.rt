@@ -11,6 +11,7 @@ mod rules;
 
 pub use evaluation::contact_fault;
 pub use evaluation::evaluate;
+pub use faults::counts_fault;
 pub use faults::plan_fault;
 pub use reading::PlanRead;
 pub use reading::ReadAnswer;
@@ -18,3 +19,4 @@ pub use reading::read_plan;
 pub use record::Gate;
 pub use record::Plan;
 pub use record::PlanWire;
+pub use rules::count_allowed;

@@ -4,7 +4,7 @@ ghost use Rattle.plan.specs.Rules.{countAllowed, mapAllowed, operandAllo
 use crate::record::PlanWire;
 
 // Whether there is at least one, and no more than the limit.
-pub(crate) fn count_allowed(count: u32, limit: usize) -> bool
+pub fn count_allowed(count: u32, limit: usize) -> bool
     ensures { λ r. ⌜ r ≡ countAllowed limit count ⌝ }
 {
     if count == 0 {

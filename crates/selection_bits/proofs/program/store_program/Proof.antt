@@ -1,0 +1,72 @@
+-- `selection_bits::program::store_program` meets its contract: the parts, stored one behind the other, are the whole. Assumes nothing.
+use mathlib.Core.Path.{refl, sym, ap, _∙_}
+use borrow.Author.Needs.{needs}
+use lib.ListN.{length}
+use lib.Seq.{length-take-le}
+use Rattle.lists.specs.ListsLaws.{length-listOf}
+use Rattle.networks.specs.Wanted.{mapping}
+use Rattle.networks.specs.Heads.{first-perm}
+use Rattle.selection_bits.specs.Arrays.{Demand}
+use Rattle.selection_bits.specs.ArraysLaws.{blank}
+use Rattle.selection_bits.specs.ProgramLaws.{network-room, program-whole, size-allowed, demand, first-room, second-room}
+use Rattle.selection_bits.proofs.program.store_program.Statement.{statement}
+use Rattle.selection_bits.proofs.program.store_program.Tie as tie
+
+-- the size is that of the network, and the wanted inputs are its
+module _ (c : tie.After-selection-size) where
+  wanted-inputs : Demand (c .selection-size .result) (c .before .before .before .args .wanted .now)
+  wanted-inputs = demand (c .before .before .before .pre .0) (c .selection-size .ensures)
+
+for-positions : tie.Need-find-positions-requires
+for-positions c κs = (wanted-inputs (c .before .before .before), (blank, refl, blank))
+
+front : tie.Need-array-share-prefix-list
+front c =
+    let found = c .before .before .before .before .find-positions .ensures in
+    rw (found .listSize) (wanted-inputs (c .before .before .before .before .before .before .before .before) .most)
+
+part : tie.Need-slice-aggregate-store-first-2
+part c =
+    let found = c .before .before .before .before .before .find-positions .ensures in
+    let sized = c .before .before .before .before .before .before .before .before .before in
+    sym (length-take-le (sized .selection-size .result) _ (rw (found .listSize) (wanted-inputs sized .most)))
+
+for-first : tie.Need-store-first-requires
+for-first c κs =
+    let found = c .before .before .before .before .before .before .find-positions .ensures in
+    let sized = c .before .before .before .before .before .before .before .before .before .before in
+    let s = sized .before .before .before in
+    let a = s .args in
+    let W = wanted-inputs sized in
+    let size = sized .selection-size in (
+      network-room (first-perm (mapping (a .wanted .now)) (length (a .wanted .now)) (size .result) (W .few)) (found .listed) (size-allowed (s .pre .0) (size .ensures)) (a .start) (length (a .program .now)) (first-room (s .pre .0) (size .ensures)),
+      (found .counted .size, s .pre .1),
+    )
+
+for-second : tie.Need-store-second-requires
+for-second c κs =
+    let first = c .before .before .before .before .before .store-first in
+    let found = c .before .before .before .before .before .before .before .before .before .before .before .before .find-positions .ensures in
+    let sized = c .before .before .before .before .before .before .before .before .before .before .before .before .before .before .before .before in
+    let s = sized .before .before .before in
+    let size = sized .selection-size in
+    let len = ap length (found .listed) ∙ length-listOf (size .result) _ in
+    ((size-allowed (s .pre .0) (size .ensures), wanted-inputs sized), ((found .headed, found .listSize), rw (first .kept .1 .1 .0) (second-room (s .pre .0) (size .ensures) len (first .ensures .0))))
+
+stored : tie.Need-returns
+stored c =
+    let second = c .before .before .before .before .store-second in
+    let first = c .before .before .before .before .before .before .before .before .before .before .store-first in
+    let found = c .before .before .before .before .before .before .before .before .before .before .before .before .before .before .before .before .before .find-positions .ensures in
+    let sized = c .before .before .before .before .before .before .before .before .before .before .before .before .before .before .before .before .before .before .before .before .before in
+    let s = sized .before .before .before in
+    let a = s .args in
+    program-whole found (wanted-inputs sized .few) (a .m) (a .n) (s .pre .0 .selected .size) (sized .selection-size .ensures)
+    (a .program .now) (a .start) (first .ensures .0) (first .ensures .1) (second .ensures)
+
+pub store-program-spec : {M : Type 1} → statement M
+store-program-spec =
+    tie.close
+    (tie.spec
+    (λ c κs. search needs) (λ c. search needs) (λ c. search needs) (λ c. search needs) for-positions (λ c. search needs) front part for-first
+    (λ c. search needs) (λ c. search needs) for-second (λ c. search needs) stored)

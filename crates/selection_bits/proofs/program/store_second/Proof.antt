@@ -1,0 +1,49 @@
+-- `selection_bits::program::store_second` meets its contract: the outputs' positions are one to one, and P's bits are stored for them.
+-- Assumes nothing.
+use mathlib.Core.Path.{sym, ap, _∙_}
+use native.Mathlib.Omega.{arith}
+use borrow.Author.Needs.{needs}
+use lib.ListN.{length}
+use lib.Seq.{length-take-le}
+use Rattle.networks.specs.Bits.{storeBits}
+use Rattle.networks.specs.Wanted.{mapping}
+use Rattle.networks.specs.Heads.{second-perm}
+use Rattle.selection_bits.specs.ArraysLaws.{over-taken}
+use Rattle.selection_bits.specs.ProgramLaws.{demand-most, network-room, network-bits}
+use Rattle.selection_bits.proofs.program.store_second.Statement.{statement}
+use Rattle.selection_bits.proofs.program.store_second.Tie as tie
+
+for-copies : tie.Need-list-copies-requires
+for-copies c κs =
+    let s = c .before .before .before .before .before .before in
+    ((demand-most (s .pre .0 .1), s .pre .0 .0 .most), s .pre .1 .0)
+
+part : tie.Need-slice-aggregate-store-network
+part c =
+    let copies = c .before .before .before .before .before .list-copies in
+    let s = c .before .before .before .before .before .before .before .before .before .before .before .before in
+    sym (length-take-le (s .args .size) (copies .last .1 .1 .1 .0) (omega (arith, copies .kept .1 .1 .1 .0, s .pre .0 .0 .most, s .pre .1 .0 .1)))
+
+for-network : tie.Need-store-network-requires
+for-network c κs =
+    let copies = c .before .before .before .before .before .before .list-copies in
+    let s = c .before .before .before .before .before .before .before .before .before .before .before .before .before in
+    let a = s .args in
+    let n = length (a .wanted .now) in
+    network-room (second-perm (mapping (a .wanted .now)) n (a .size) (s .pre .0 .1 .few)) (over-taken (a .size) _ (a .list .now) (copies .ensures)) (s .pre .0 .0) (a .start) (length (a .program .now)) (s .pre .1 .1)
+
+stored : tie.Need-returns
+stored c =
+    let network = c .before .before .store-network in
+    let copies = c .before .before .before .before .before .before .before .before .before .list-copies in
+    let s = c .before .before .before .before .before .before .before .before .before .before .before .before .before .before .before .before in
+    let a = s .args in
+    let n = length (a .wanted .now) in
+    network .ensures
+    ∙ ap (storeBits (a .program .now) (a .start)) (network-bits (second-perm (mapping (a .wanted .now)) n (a .size) (s .pre .0 .1 .few)) (over-taken (a .size) _ (a .list .now) (copies .ensures)))
+
+pub store-second-spec : {M : Type 1} → statement M
+store-second-spec =
+    tie.close
+    (tie.spec
+    for-copies (λ c. search needs) part for-network (λ c. search needs) (λ c. search needs) (λ c. search needs) stored)
