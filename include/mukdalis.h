@@ -1,6 +1,6 @@
 /*
  * Mukdalis, the contact fabric library: plans, their faults and their evaluation; the permutation
- * network P of the block library, its rows and its program.
+ * network P and the selection network S of the block library, their rows and their programs.
  *
  * Every call takes all inputs and refuses bad ones. It answers a number: 0 for done, any other
  * the row of the refusal table below whose check failed first. A refusal writes through no
@@ -150,6 +150,49 @@ uint32_t mkd_permutation_write(uint32_t n, const uint16_t *inputs, size_t inputs
  */
 uint32_t mkd_permutation_program(uint32_t n, const uint16_t *wanted, size_t wanted_len,
                                  uint8_t *program, size_t program_len);
+
+/*
+ * Writes S(m, n), the selection network of m inputs and n outputs, as 2 N log N - N + 1 rows, log
+ * to base 2, where N is the smallest power of two not below m and n. A row is three entries: kind,
+ * left wire, right wire. Kind 1 (X) is as in P. Kind 2 (Y) makes one wire, the next unmade one,
+ * and has one program bit: at 0 the wire carries left, at 1 right.
+ *
+ * inputs are m made wires, next is the next unmade wire. Wire 0 and repeated wires are allowed.
+ * The entries of the rows become the first of rows, S's n output wires the first of outputs.
+ *
+ * S(1, 1) is a wire. Otherwise the rows are, in order: those of a P(N) on the input wires and,
+ * past m, wire 0, which gives positions 1 to N; N - 1 of kind 2, one a position from 2 on, whose
+ * left wire is what position i - 1 has become and right wire position i; those of a P(N) on what
+ * the positions have become, whose first n outputs are S's.
+ *
+ * Refusals, in this order: 2 if m is not 1 to 512; 4 if n is not 1 to 512; 12 if inputs_len is not
+ * m; 13 if an input wire is not below next, or a wire that a row makes would pass 65,535 (S(1, 1)
+ * has no row, so that next may then be any number above its input); 11 if rows_len is below three
+ * entries a row or outputs_len below n. A refusal leaves rows and outputs as they were.
+ */
+uint32_t mkd_selection_write(uint32_t m, uint32_t n, const uint16_t *inputs, size_t inputs_len,
+                             uint32_t next, uint16_t *rows, size_t rows_len,
+                             uint16_t *outputs, size_t outputs_len);
+
+/*
+ * Programs S(m, n): with this program output i + 1 of S(m, n) carries what input wanted[i]
+ * carries, i from 0, where wanted has n of 1 to m, any of them any number of times.
+ *
+ * Let c(j) outputs want input j. The first P(N) brings input j, if c(j) is above 0, to position
+ * 1 + c(1) + .. + c(j - 1), a head. Inputs with none, those past m included, take the other
+ * positions in rising order. The bit of kind 2 at position i is 1 exactly if i is a head. The
+ * second P(N) gives output o, wanting input j, the position of j's head plus the number of earlier
+ * outputs wanting j; outputs past n take their own position. Both are programmed as P is.
+ *
+ * Program bits follow the rows, one a row, and lie in bytes as P's do. The stated length is the
+ * bits divided by 8, rounded up: 0 for S(1, 1).
+ *
+ * Refusals, in this order: 2 if m is not 1 to 512; 4 if n is not 1 to 512; 12 if wanted_len is not
+ * n; 9 if a wanted input is not in 1 to m; 11 if program_len is below the stated length. A refusal
+ * leaves program as it was.
+ */
+uint32_t mkd_selection_program(uint32_t m, uint32_t n, const uint16_t *wanted, size_t wanted_len,
+                               uint8_t *program, size_t program_len);
 
 #ifdef __cplusplus
 }

@@ -3,9 +3,9 @@
 //! The first difference ends a comparison. Otherwise it has counted its cases by kind and by call,
 //! and how often each call gave each number.
 
+mod blocks;
 mod files;
 mod memory;
-mod permutation;
 
 mod buffer;
 mod show;
@@ -33,16 +33,22 @@ enum Call {
     PermutationWriting,
     PermutationProgramming,
     PermutationDelivery,
+    SelectionWriting,
+    SelectionProgramming,
+    SelectionDelivery,
 }
 
 /// Each call's name, and the numbers that it must have given at least once.
-const CALLS: [(&str, &[usize]); 6] = [
+const CALLS: [(&str, &[usize]); 9] = [
     ("reading", &[0, 1, 2, 3, 4, 5, 6, 7, 8, 9, 10]),
     ("plan faults", &[0, 2, 3, 4, 7, 8, 9]),
     ("evaluation", &[0, 2, 3, 4, 7, 8, 9, 11, 12]),
     ("writing P", &[0, 2, 11, 12, 13]),
     ("programming P", &[0, 2, 9, 11, 12]),
     ("delivery by P", &[0]),
+    ("writing S", &[0, 2, 4, 11, 12, 13]),
+    ("programming S", &[0, 2, 4, 9, 11, 12]),
+    ("delivery by S", &[0]),
 ];
 
 /// What ends a comparison: a case with both answers, or a number that was never given.
@@ -65,7 +71,7 @@ impl Comparison {
         let mut random = Random::new(seed);
         files::compare(&mut comparison, &mut random)?;
         memory::compare(&mut comparison, &mut random)?;
-        permutation::compare(&mut comparison, &mut random)?;
+        blocks::compare(&mut comparison, &mut random)?;
         comparison.check_seen()?;
         Ok(comparison)
     }
@@ -182,6 +188,12 @@ impl fmt::Display for Difference {
 /// The number of an answer: 0 for done.
 fn number(fault: Option<Fault>) -> u32 {
     fault.map_or(0, Fault::number)
+}
+
+/// The number of the first check that fails, 0 if none does.
+fn first_failing(checks: &[(Fault, bool)]) -> u32 {
+    let failing = checks.iter().find(|&&(_, fails)| fails);
+    number(failing.map(|&(fault, _)| fault))
 }
 
 /// The record that an answer of a read comes as; a refusal's plan is all zero.

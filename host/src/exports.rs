@@ -1,8 +1,9 @@
 //! Safe calls of the library's exports, which `include/mukdalis.h` documents.
 //!
-//! `plan_read`, `plan_fault`, `plan_evaluate`, `permutation_write` and `permutation_program` give
-//! each answer as it comes. `read`, `check`, `evaluate`, `write_permutation` and
-//! `program_permutation` give it as a `Result`.
+//! `plan_read`, `plan_fault`, `plan_evaluate`, `permutation_write`, `permutation_program`,
+//! `selection_write` and `selection_program` give each answer as it comes. `read`, `check`,
+//! `evaluate`, `write_permutation`, `program_permutation`, `write_selection` and
+//! `program_selection` give it as a `Result`.
 
 use crate::fault::{Fault, Refusal};
 use crate::plan::Plan;
@@ -37,6 +38,25 @@ extern "C" {
         outputs_len: usize,
     ) -> u32;
     fn mkd_permutation_program(
+        n: u32,
+        wanted: *const u16,
+        wanted_len: usize,
+        program: *mut u8,
+        program_len: usize,
+    ) -> u32;
+    fn mkd_selection_write(
+        m: u32,
+        n: u32,
+        inputs: *const u16,
+        inputs_len: usize,
+        next: u32,
+        rows: *mut u16,
+        rows_len: usize,
+        outputs: *mut u16,
+        outputs_len: usize,
+    ) -> u32;
+    fn mkd_selection_program(
+        m: u32,
         n: u32,
         wanted: *const u16,
         wanted_len: usize,
@@ -111,6 +131,48 @@ pub fn permutation_program(n: u32, wanted: &[u16], program: &mut [u8]) -> u32 {
     }
 }
 
+/// `mkd_selection_write`: the number of the refusal, or 0.
+pub fn selection_write(
+    m: u32,
+    n: u32,
+    inputs: &[u16],
+    next: u32,
+    rows: &mut [u16],
+    outputs: &mut [u16],
+) -> u32 {
+    // SAFETY: the pointers and lengths are slices', of which none overlaps another since two are
+    // borrowed for writing; the call stays within them and keeps no pointer.
+    unsafe {
+        mkd_selection_write(
+            m,
+            n,
+            inputs.as_ptr(),
+            inputs.len(),
+            next,
+            rows.as_mut_ptr(),
+            rows.len(),
+            outputs.as_mut_ptr(),
+            outputs.len(),
+        )
+    }
+}
+
+/// `mkd_selection_program`: the number of the refusal, or 0.
+pub fn selection_program(m: u32, n: u32, wanted: &[u16], program: &mut [u8]) -> u32 {
+    // SAFETY: both pointers and lengths are slices', which do not overlap since one is borrowed
+    // for writing; the call stays within them and keeps no pointer.
+    unsafe {
+        mkd_selection_program(
+            m,
+            n,
+            wanted.as_ptr(),
+            wanted.len(),
+            program.as_mut_ptr(),
+            program.len(),
+        )
+    }
+}
+
 /// The plan of a plan file.
 pub fn read(file: &[u8]) -> Result<Plan, Refusal> {
     let Read { number, at, plan } = plan_read(file);
@@ -146,6 +208,25 @@ pub fn write_permutation(
 /// first bytes of `program`.
 pub fn program_permutation(n: u32, wanted: &[u16], program: &mut [u8]) -> Result<(), Fault> {
     done(permutation_program(n, wanted, program))
+}
+
+/// Writes the rows of S(m, n) on these m input wires, three entries a row, to the first entries of
+/// `rows`, and its output wires to the first n of `outputs`. `next` is the next unmade wire.
+pub fn write_selection(
+    m: u32,
+    n: u32,
+    inputs: &[u16],
+    next: u32,
+    rows: &mut [u16],
+    outputs: &mut [u16],
+) -> Result<(), Fault> {
+    done(selection_write(m, n, inputs, next, rows, outputs))
+}
+
+/// Writes the program of S(m, n) with which output i + 1 carries input `wanted[i]`, i from 0, to
+/// the first bytes of `program`.
+pub fn program_selection(m: u32, n: u32, wanted: &[u16], program: &mut [u8]) -> Result<(), Fault> {
+    done(selection_program(m, n, wanted, program))
 }
 
 /// An export's number: 0 is done, any other a row of the refusal table.

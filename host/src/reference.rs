@@ -3,4 +3,7 @@
 pub mod plan;
 
 pub mod elements;
+
+mod blocks;
 pub mod permutation;
+pub mod selection;

@@ -1,7 +1,9 @@
-//! Random accepted plans and their files, and permutations, from which the comparison makes its
-//! cases.
+//! Random accepted plans and their files, and calls of the block library, from which the comparison
+//! makes its cases.
 
+pub mod blocks;
 pub mod permutation;
+pub mod selection;
 
 use crate::plan::{Gate, Plan};
 use crate::random::Random;

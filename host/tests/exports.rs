@@ -63,3 +63,35 @@ fn refused_permutations_have_their_words() {
     assert_eq!(program(2, &[2, 2]), Err(Fault::Source));
     assert_eq!(program(2, &[2, 1]), Err(Fault::Short));
 }
+
+/// S(2, 2) on wires 1 and 2 with the bench sheet's program for wanted inputs 2, 1.
+#[test]
+fn a_selection_is_written_and_programmed() {
+    let (mut rows, mut outputs, mut program) = ([9; 10], [9; 3], [9; 2]);
+    let written = exports::write_selection(2, 2, &[1, 2], 3, &mut rows, &mut outputs);
+    assert_eq!(written, Ok(()));
+    assert_eq!(rows, [1, 1, 2, 2, 3, 4, 1, 3, 5, 9]);
+    assert_eq!(outputs, [6, 7, 9]);
+    let programmed = exports::program_selection(2, 2, &[2, 1], &mut program);
+    assert_eq!(programmed, Ok(()));
+    assert_eq!(program, [0b110, 9]);
+}
+
+#[test]
+fn refused_selections_have_their_words() {
+    let write = |m, n, inputs: &[u16], next, rows: &mut [u16]| {
+        exports::write_selection(m, n, inputs, next, rows, &mut [0; 4])
+    };
+    assert_eq!(write(0, 4, &[], 1, &mut [0; 99]), Err(Fault::Inputs));
+    assert_eq!(write(3, 0, &[0; 3], 1, &mut [0; 99]), Err(Fault::Outputs));
+    assert_eq!(write(3, 4, &[0; 4], 1, &mut [0; 99]), Err(Fault::Contact));
+    assert_eq!(write(3, 4, &[1; 3], 1, &mut [0; 99]), Err(Fault::Fabric));
+    assert_eq!(write(3, 4, &[0; 3], 1, &mut [0; 38]), Err(Fault::Short));
+
+    let program = |m, n, wanted: &[u16]| exports::program_selection(m, n, wanted, &mut []);
+    assert_eq!(program(513, 2, &[1, 1]), Err(Fault::Inputs));
+    assert_eq!(program(3, 513, &[1, 1]), Err(Fault::Outputs));
+    assert_eq!(program(3, 2, &[1; 3]), Err(Fault::Contact));
+    assert_eq!(program(3, 2, &[4, 1]), Err(Fault::Source));
+    assert_eq!(program(3, 2, &[1, 1]), Err(Fault::Short));
+}

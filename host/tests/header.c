@@ -12,16 +12,12 @@ static int fails(const char *what)
     return 1;
 }
 
-int main(void)
+static int plans_fail(void)
 {
     struct mkd_read refused = mkd_plan_read(not_plan, 9);
     struct mkd_read done = mkd_plan_read(not_plan, sizeof not_plan);
     const uint8_t row[1] = {0};
     uint8_t result[2] = {9, 9};
-    const uint16_t pair[2] = {2, 1};
-    uint16_t rows[4] = {9, 9, 9, 9};
-    uint16_t outputs[3] = {9, 9, 9};
-    uint8_t program[2] = {9, 9};
 
     if (refused.number != MKD_CUT || refused.at != 8 || refused.plan.inputs != 0)
         return fails("a cut file");
@@ -33,6 +29,16 @@ int main(void)
         return fails("a short result");
     if (mkd_plan_evaluate(done.plan, row, 1, result, 2) != 0 || result[0] != 1 || result[1] != 9)
         return fails("an evaluation");
+    return 0;
+}
+
+static int permutations_fail(void)
+{
+    const uint16_t pair[2] = {2, 1};
+    uint16_t rows[4] = {9, 9, 9, 9};
+    uint16_t outputs[3] = {9, 9, 9};
+    uint8_t program[2] = {9, 9};
+
     if (mkd_permutation_write(2, pair, 2, 2, rows, 4, outputs, 3) != MKD_FABRIC || rows[0] != 9)
         return fails("an unmade wire");
     if (mkd_permutation_write(2, pair, 2, 3, rows, 4, outputs, 1) != MKD_SHORT || outputs[0] != 9)
@@ -49,7 +55,43 @@ int main(void)
         return fails("a programming");
     if (program[0] != 1 || program[1] != 9)
         return fails("the program written");
+    return 0;
+}
 
+static int selections_fail(void)
+{
+    const uint16_t wire[1] = {1};
+    const uint16_t wanted[2] = {2, 2};
+    const uint16_t written[10] = {1, 1, 0, 2, 2, 3, 1, 2, 4, 9};
+    uint16_t rows[10] = {9, 9, 9, 9, 9, 9, 9, 9, 9, 9};
+    uint16_t outputs[3] = {9, 9, 9};
+    uint8_t program[2] = {9, 9};
+    size_t i;
+
+    if (mkd_selection_write(1, 513, wire, 1, 2, rows, 10, outputs, 3) != MKD_OUTPUTS)
+        return fails("too many outputs");
+    if (mkd_selection_write(1, 2, wire, 1, 2, rows, 8, outputs, 3) != MKD_SHORT || rows[0] != 9)
+        return fails("short rows of S");
+    if (mkd_selection_write(1, 2, wire, 1, 2, rows, 10, outputs, 3) != 0)
+        return fails("a writing of S");
+    for (i = 0; i < 10; i++)
+        if (rows[i] != written[i])
+            return fails("the rows of S written");
+    if (outputs[0] != 5 || outputs[1] != 6 || outputs[2] != 9)
+        return fails("the outputs of S written");
+    if (mkd_selection_program(1, 2, wanted, 2, program, 2) != MKD_SOURCE || program[0] != 9)
+        return fails("a wanted input past m");
+    if (mkd_selection_program(2, 2, wanted, 2, program, 2) != 0)
+        return fails("a programming of S");
+    if (program[0] != 1 || program[1] != 9)
+        return fails("the program of S written");
+    return 0;
+}
+
+int main(void)
+{
+    if (plans_fail() || permutations_fail() || selections_fail())
+        return 1;
     printf("%zu %zu %zu", sizeof(struct mkd_gate), offsetof(struct mkd_gate, second),
            offsetof(struct mkd_gate, table));
     printf(" %zu %zu %zu", sizeof(struct mkd_plan), offsetof(struct mkd_plan, gates),

@@ -5,7 +5,7 @@ use std::fmt::Write;
 use crate::exports;
 use crate::fault::Fault;
 use crate::plan::{Gate, Plan};
-use crate::samples::permutation::{Programming, Writing};
+use crate::samples::blocks::{Programming, Writing};
 
 pub fn show_number(number: u32) -> String {
     match Fault::from_number(number) {
@@ -55,12 +55,12 @@ pub fn first_difference(expected: &Plan, found: &Plan) -> String {
 }
 
 pub fn show_writing(case: &Writing) -> String {
-    let Writing { n, next, .. } = case;
-    format!("n {n} next {next} inputs {}", show_list(&case.inputs))
+    let Writing { block, next, .. } = case;
+    format!("{block:?} next {next} inputs {}", show_list(&case.inputs))
 }
 
 pub fn show_programming(case: &Programming) -> String {
-    format!("n {} wanted {}", case.n, show_list(&case.wanted))
+    format!("{:?} wanted {}", case.block, show_list(&case.wanted))
 }
 
 fn show_list(list: &[u16]) -> String {

@@ -7,12 +7,17 @@ use super::show::show_number;
 use super::{Call, Comparison, CALLS, NUMBERS};
 
 /// The calls that share a table.
-const SUBJECTS: [&[Call]; 2] = [
+const SUBJECTS: [&[Call]; 3] = [
     &[Call::Reading, Call::Faults, Call::Evaluation],
     &[
         Call::PermutationWriting,
         Call::PermutationProgramming,
         Call::PermutationDelivery,
+    ],
+    &[
+        Call::SelectionWriting,
+        Call::SelectionProgramming,
+        Call::SelectionDelivery,
     ],
 ];
 
@@ -24,9 +29,11 @@ impl fmt::Display for Comparison {
         let total: u64 = self.seen.iter().flatten().sum();
         let files = self.cases(Call::Reading);
         let permutations = self.cases(Call::PermutationDelivery);
+        let selections = self.cases(Call::SelectionDelivery);
         writeln!(
             out,
-            "compared {total} cases, {files} of them files, {permutations} permutations: no difference"
+            "compared {total} cases, {files} of them files, {permutations} permutations, \
+             {selections} selections: no difference"
         )
     }
 }

@@ -1,15 +1,21 @@
 //! Rows of elements, their program bits, and the run of rows on wires that hold any values.
 //!
-//! Of the three kinds only X is there so far.
+//! Of the three kinds X and Y are there so far, each with one bit.
 
 /// Kind 1, X: two inputs, two outputs, one bit. Bit 0 straight, bit 1 crossed.
 const X: u16 = 1;
+
+/// Kind 2, Y: two inputs, one output, one bit. Bit 0 gives the left, 1 the right.
+const Y: u16 = 2;
 
 /// Entries of a row in a table: kind, left wire, right wire.
 const ROW_ENTRIES: usize = 3;
 
 /// Bits of a program byte, the lowest first.
 const BYTE_BITS: usize = 8;
+
+/// The wire that is constant zero.
+pub const ZERO_WIRE: u64 = 0;
 
 /// The highest number of a fabric wire.
 pub const LAST_WIRE: u64 = 65_535;
@@ -32,6 +38,14 @@ impl Drawing {
         let first = self.next;
         self.next += 2;
         [first, first + 1]
+    }
+
+    /// Draws a Y row and gives the wire that it makes.
+    pub fn y(&mut self, left: u64, right: u64) -> u64 {
+        self.rows.push([Y.into(), left, right]);
+        let made = self.next;
+        self.next += 1;
+        made
     }
 
     /// The rows' entries in a table, of a drawing whose wires do not pass the last one.
@@ -67,18 +81,20 @@ pub struct Wires<'a, T> {
 }
 
 impl<'a, T: Copy> Wires<'a, T> {
-    /// Runs the X rows of a table part with a program's bits; `before` has the values of all wires
+    /// Runs the rows of a table part with a program's bits; `before` has the values of all wires
     /// below the first one that the rows make.
     pub fn run(rows: &[u16], program: &[u8], before: &'a [T]) -> Wires<'a, T> {
         let made = Vec::new();
         let mut wires = Wires { before, made };
         for (p, row) in rows.chunks_exact(ROW_ENTRIES).enumerate() {
-            let [kind, left, right] = [row[0], row[1], row[2]];
-            assert_eq!(kind, X, "the kind of row {p}");
-            let straight = [wires.value(left), wires.value(right)];
-            let crossed = [straight[1], straight[0]];
-            let outputs = if bit(program, p) { crossed } else { straight };
-            wires.made.extend(outputs);
+            let [left, right] = [wires.value(row[1]), wires.value(row[2])];
+            match (row[0], bit(program, p)) {
+                (X, false) => wires.made.extend([left, right]),
+                (X, true) => wires.made.extend([right, left]),
+                (Y, false) => wires.made.push(left),
+                (Y, true) => wires.made.push(right),
+                (kind, _) => panic!("row {p} has kind {kind}"),
+            }
         }
         wires
     }
@@ -131,5 +147,23 @@ mod tests {
         assert_eq!(values(0b01), ['b', 'a', 'a', 'z']);
         assert_eq!(values(0b10), ['a', 'b', 'z', 'b']);
         assert_eq!(values(0b11), ['b', 'a', 'z', 'a']);
+    }
+
+    /// The second row takes the first one's output, wire 3.
+    #[test]
+    fn a_row_gives_left_or_right_by_its_bit() {
+        let mut drawing = Drawing::new(3);
+        assert_eq!(drawing.y(1, 2), 3);
+        assert_eq!(drawing.y(0, 3), 4);
+        let rows = drawing.entries();
+        assert_eq!(rows, [2, 1, 2, 2, 0, 3]);
+        let values = |program: u8| {
+            let wires = Wires::run(&rows, &[program], &['z', 'a', 'b']);
+            [3, 4].map(|wire| wires.value(wire))
+        };
+        assert_eq!(values(0b00), ['a', 'z']);
+        assert_eq!(values(0b01), ['b', 'z']);
+        assert_eq!(values(0b10), ['a', 'a']);
+        assert_eq!(values(0b11), ['b', 'b']);
     }
 }

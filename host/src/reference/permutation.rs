@@ -5,11 +5,9 @@
 
 use std::collections::BTreeSet;
 
-use super::elements::{entries, pack, Drawing, LAST_WIRE};
+use super::blocks::{self, check_length, MAX_SIZE};
+use super::elements::Drawing;
 use crate::fault::Fault;
-
-/// The largest N.
-const MAX_SIZE: u32 = 512;
 
 /// Writes the rows of P(n) on these input wires, which makes wires from `next` on, to `rows`, and
 /// its output wires to `outputs`.
@@ -22,57 +20,37 @@ pub fn write(
     rows: &mut [u16],
     outputs: &mut [u16],
 ) -> Result<(), Fault> {
-    check_list(n, inputs)?;
-    let next = u64::from(next);
-    let wires: Vec<u64> = inputs.iter().map(|&wire| wire.into()).collect();
-    let mut drawing = Drawing::new(next);
-    let output_wires = draw(&mut drawing, &wires);
-    let is_unmade = wires.iter().any(|&wire| wire >= next);
-    let is_past = (next..drawing.next).any(|wire| wire > LAST_WIRE);
-    if is_unmade || is_past {
-        return Err(Fault::Fabric);
-    }
-    let (row_entries, output_wires) = (drawing.entries(), entries(&output_wires));
-    if rows.len() < row_entries.len() || outputs.len() < output_wires.len() {
-        return Err(Fault::Short);
-    }
-    rows[..row_entries.len()].copy_from_slice(&row_entries);
-    outputs[..output_wires.len()].copy_from_slice(&output_wires);
-    Ok(())
+    check_size(n)?;
+    check_length(inputs, n)?;
+    blocks::write(draw, inputs, next, rows, outputs)
 }
 
 /// Writes the program of P(n) with which output i + 1 carries input `wanted[i]`, i from 0.
 ///
 /// Bytes past the stated length are unchanged, and a refusal changes none. Checks: 2, 12, 9, 11.
 pub fn program(n: u32, wanted: &[u16], program: &mut [u8]) -> Result<(), Fault> {
-    check_list(n, wanted)?;
+    check_size(n)?;
+    check_length(wanted, n)?;
     let is_input = |&input: &u16| (1..=n).contains(&input.into());
     let distinct: BTreeSet<u16> = wanted.iter().copied().collect();
     if !wanted.iter().all(is_input) || distinct.len() < wanted.len() {
         return Err(Fault::Source);
     }
-    let bytes = pack(&program_bits(&Mapping::of_wanted(wanted)));
-    if program.len() < bytes.len() {
-        return Err(Fault::Short);
-    }
-    program[..bytes.len()].copy_from_slice(&bytes);
-    Ok(())
+    let input_of = wanted.iter().map(|&input| usize::from(input) - 1);
+    blocks::write_program(&program_bits(input_of.collect()), program)
 }
 
-/// 2 if n is no size of P, then 12 if the list has another length.
-fn check_list(n: u32, list: &[u16]) -> Result<(), Fault> {
+/// 2 if n is no size of P.
+fn check_size(n: u32) -> Result<(), Fault> {
     if !n.is_power_of_two() || n > MAX_SIZE {
         return Err(Fault::Inputs);
-    }
-    if list.len() != n as usize {
-        return Err(Fault::Contact);
     }
     Ok(())
 }
 
 /// Draws P on a power of two of input wires and gives its output wires: the input X rows, the
 /// upper and the lower P of half the size, the output X rows. The last output pair has none.
-fn draw(drawing: &mut Drawing, inputs: &[u64]) -> Vec<u64> {
+pub fn draw(drawing: &mut Drawing, inputs: &[u64]) -> Vec<u64> {
     if inputs.len() == 1 {
         return inputs.to_vec();
     }
@@ -95,21 +73,9 @@ fn draw(drawing: &mut Drawing, inputs: &[u64]) -> Vec<u64> {
     outputs
 }
 
-/// The bits of P's rows, in their order, that bring every output its input.
-fn program_bits(mapping: &Mapping) -> Vec<bool> {
-    let pairs = mapping.pairs();
-    if pairs == 0 {
-        return Vec::new();
-    }
-    let halves = mapping.halves();
-    // A straight row has its first input go to the upper half, or its first output come from it.
-    let mut bits: Vec<bool> = (0..pairs)
-        .map(|i| halves[mapping.output_of[2 * i]] != Half::Upper)
-        .collect();
-    bits.extend(program_bits(&mapping.part(&halves, Half::Upper)));
-    bits.extend(program_bits(&mapping.part(&halves, Half::Lower)));
-    bits.extend((0..pairs - 1).map(|i| halves[2 * i] != Half::Upper));
-    bits
+/// The bits of P's rows, in their order, with which output o carries input `input_of[o]`.
+pub fn program_bits(input_of: Vec<usize>) -> Vec<bool> {
+    Mapping::new(input_of).bits()
 }
 
 /// The part of P that a value passes through between the input and the output rows.
@@ -137,13 +103,25 @@ impl Mapping {
         }
     }
 
-    /// The mapping of wanted inputs that count from 1.
-    fn of_wanted(wanted: &[u16]) -> Mapping {
-        Mapping::new(wanted.iter().map(|&input| usize::from(input) - 1).collect())
-    }
-
     fn pairs(&self) -> usize {
         self.input_of.len() / 2
+    }
+
+    fn bits(&self) -> Vec<bool> {
+        let pairs = self.pairs();
+        if pairs == 0 {
+            return Vec::new();
+        }
+        let halves = self.halves();
+        // A straight row has its first input go to the upper half, or its first output come from
+        // it.
+        let mut bits: Vec<bool> = (0..pairs)
+            .map(|i| halves[self.output_of[2 * i]] != Half::Upper)
+            .collect();
+        bits.extend(self.part(&halves, Half::Upper).bits());
+        bits.extend(self.part(&halves, Half::Lower).bits());
+        bits.extend((0..pairs - 1).map(|i| halves[2 * i] != Half::Upper));
+        bits
     }
 
     /// The half that each output's value passes through. At every pair, of inputs or of outputs,
@@ -213,20 +191,20 @@ mod tests {
     use super::super::elements::Wires;
     use super::*;
     use crate::random::Random;
-    use crate::samples::permutation::{
-        every_permutation, plain_permutations, random_permutation, row_count, wires_made, SIZES,
-    };
+    use crate::samples::blocks::{Block, SIZES};
+    use crate::samples::permutation::{every_permutation, plain_permutations, random_permutation};
 
     /// The bits of the program for a permutation.
     fn bits(wanted: &[u16]) -> Vec<u8> {
-        let bits = program_bits(&Mapping::of_wanted(wanted));
+        let input_of = wanted.iter().map(|&input| usize::from(input) - 1);
+        let bits = program_bits(input_of.collect());
         bits.into_iter().map(u8::from).collect()
     }
 
     /// The program for a permutation, by the call.
     fn programmed(wanted: &[u16]) -> Vec<u8> {
         let n = wanted.len() as u32;
-        let mut bytes = vec![0x5a; row_count(n).div_ceil(8) as usize];
+        let mut bytes = vec![0x5a; Block::P(n).program_bytes()];
         assert_eq!(program(n, wanted, &mut bytes), Ok(()));
         bytes
     }
@@ -234,7 +212,7 @@ mod tests {
     /// Rows and output wires of P(n) on the wires 1 to n.
     fn written(n: u32) -> (Vec<u16>, Vec<u16>) {
         let inputs: Vec<u16> = (1..=n as u16).collect();
-        let mut rows = vec![9; 3 * row_count(n) as usize];
+        let mut rows = vec![9; 3 * Block::P(n).rows() as usize];
         let mut outputs = vec![9; n as usize];
         let answer = write(n, &inputs, n + 1, &mut rows, &mut outputs);
         assert_eq!(answer, Ok(()));
@@ -264,10 +242,12 @@ mod tests {
         for n in SIZES {
             let mut drawing = Drawing::new(1);
             let outputs = draw(&mut drawing, &vec![0; n as usize]);
+            let block = Block::P(n);
             assert_eq!(outputs.len(), n as usize);
-            assert_eq!(drawing.entries().len(), 3 * row_count(n) as usize);
-            assert_eq!(drawing.next, 1 + u64::from(wires_made(n)));
-            assert_eq!(bits(&plain_permutations(n)[0]).len(), row_count(n) as usize);
+            assert_eq!(drawing.entries().len(), 3 * block.rows() as usize);
+            assert_eq!(drawing.next, 1 + u64::from(block.wires_made()));
+            let bits = bits(&plain_permutations(n)[0]);
+            assert_eq!(bits.len(), block.rows() as usize);
         }
     }
 

@@ -1,116 +1,7 @@
-//! Permutations of a list's places, and calls that the block library does not refuse.
-//!
-//! A permutation is a list that has each of 1 to its length once.
+//! Permutations of a list's places: lists that have each of 1 to their length once.
 
+use super::blocks::SIZES;
 use crate::random::Random;
-
-/// Every size N of P.
-pub const SIZES: [u32; 10] = [1, 2, 4, 8, 16, 32, 64, 128, 256, 512];
-
-/// Wires that a fabric may have, numbered from 0.
-pub const MOST_WIRES: u32 = 65_536;
-
-/// Rows of P(N): N log N - N + 1.
-pub fn row_count(size: u32) -> u32 {
-    size * size.ilog2() + 1 - size
-}
-
-/// Wires that P(N) makes, two a row.
-pub fn wires_made(size: u32) -> u32 {
-    2 * row_count(size)
-}
-
-/// The highest next unmade wire with which P(N) can be written. P(1) makes no wire.
-pub fn last_next(size: u32) -> u32 {
-    match wires_made(size) {
-        0 => u32::MAX,
-        made => MOST_WIRES - made,
-    }
-}
-
-/// A call that writes P(n) into two lent buffers of these lengths.
-#[derive(Clone)]
-pub struct Writing {
-    pub n: u32,
-    pub inputs: Vec<u16>,
-    pub next: u32,
-    pub rows_len: usize,
-    pub outputs_len: usize,
-}
-
-impl Writing {
-    /// A call with made input wires, a next wire that leaves room and buffers of exact lengths.
-    pub fn sound(random: &mut Random, size: u32) -> Writing {
-        let next = sound_next(random, size);
-        Writing::with_next(random, size, next)
-    }
-
-    /// The call with a given next wire above 0.
-    pub fn with_next(random: &mut Random, size: u32, next: u32) -> Writing {
-        Writing {
-            n: size,
-            inputs: made_wires(random, size, next),
-            next,
-            rows_len: 3 * row_count(size) as usize,
-            outputs_len: size as usize,
-        }
-    }
-}
-
-/// A next wire, many at a limit or beside it, that leaves room for the wires of P(N).
-fn sound_next(random: &mut Random, size: u32) -> u32 {
-    let most = last_next(size);
-    let any = 1 + (random.word() % u64::from(most)) as u32;
-    let near = most - u32::from(random.between(0, 9));
-    let within = u32::from(random.between(1, u16::MAX)).min(most);
-    random.choose(&[1, 2, size + 1, within, within, any, near, most])
-}
-
-/// N wires below `next`: neighbours, all the same, many at a limit, or any.
-fn made_wires(random: &mut Random, size: u32, next: u32) -> Vec<u16> {
-    let size = size as u16;
-    let highest = (next.min(MOST_WIRES) - 1) as u16;
-    let form = random.between(1, 6);
-    if form <= 2 && highest >= size {
-        let first = random.between(0, highest - size);
-        return (first..first + size).collect();
-    }
-    let same = random.between(0, highest);
-    let mut wire = || {
-        let any = random.between(0, highest);
-        match form {
-            3 => same,
-            4 => random.choose(&[0, highest, any]),
-            _ => any,
-        }
-    };
-    (0..size).map(|_| wire()).collect()
-}
-
-/// A call that programs P(n) into a lent buffer of this length.
-#[derive(Clone)]
-pub struct Programming {
-    pub n: u32,
-    pub wanted: Vec<u16>,
-    pub program_len: usize,
-}
-
-impl Programming {
-    /// The call for a permutation, with a buffer of exact length.
-    pub fn of(permutation: &[u16]) -> Programming {
-        let n = permutation.len() as u32;
-        Programming {
-            n,
-            wanted: permutation.to_vec(),
-            program_len: row_count(n).div_ceil(8) as usize,
-        }
-    }
-
-    /// The call for a random permutation.
-    pub fn sound(random: &mut Random, size: u32) -> Programming {
-        Programming::of(&random_permutation(random, size))
-    }
-}
 
 /// Every permutation of so many places.
 pub fn every_permutation(size: u32) -> Vec<Vec<u16>> {
@@ -233,19 +124,6 @@ mod tests {
             for _ in 0..100 {
                 let list = random_permutation(&mut random, size);
                 assert!(is_permutation(&list));
-            }
-        }
-    }
-
-    #[test]
-    fn sound_writings_leave_room() {
-        let mut random = Random::new(1);
-        for size in SIZES {
-            for _ in 0..1_000 {
-                let Writing { inputs, next, .. } = Writing::sound(&mut random, size);
-                assert_eq!(inputs.len(), size as usize);
-                assert!(inputs.iter().all(|&wire| u32::from(wire) < next));
-                assert!(size == 1 || next + wires_made(size) <= MOST_WIRES);
             }
         }
     }
