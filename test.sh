@@ -1,6 +1,6 @@
 #!/usr/bin/env bash
 # All tests of the repository, from nothing: the Rust package, the comparison of the library with the Rust implementation, the check of
-# public contracts, then rt's own gate, whose last line is the verdict.
+# public contracts, the block library by itself, then rt's own gate, whose last line is the verdict.
 set -euo pipefail
 cd "$(dirname "$0")"
 
@@ -25,4 +25,15 @@ rt staticlib capi
 cargo test --quiet --release --manifest-path host/Cargo.toml
 cargo run --quiet --release --manifest-path host/Cargo.toml --bin compare
 cargo run --quiet --release --manifest-path host/Cargo.toml --bin check_contracts .
+
+# The block library goes to the relay-card maker by itself: blocks and the crates under it, proved in a copy that holds nothing else.
+copy=$(mktemp -d)
+trap 'rm -rf "$copy"' EXIT
+mkdir "$copy/crates"
+for crate in $(sed -n 's/^blocks: *//p' crates.txt) blocks; do
+    cp -r "crates/$crate" "$copy/crates/"
+    grep "^$crate:" crates.txt >>"$copy/crates.txt"
+done
+(cd "$copy" && rt prove)
+
 rt ci
