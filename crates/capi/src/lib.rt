@@ -9,6 +9,7 @@ ghost use Rattle.permutation_rows.specs.WriteCalls.{writeFault, writtenRows, wr
 ghost use Rattle.permutation_bits.specs.ProgramCalls.{programFault, programResult};
 ghost use Rattle.selection_rows.specs.WriteCalls.{selectionWriteFault, selectionWrittenRows, selectionWrittenOutputs};
 ghost use Rattle.selection_bits.specs.ProgramCalls.{selectionProgramFault, selectionProgramResult};
+ghost use Rattle.run.specs.RunCalls.{runFault, runWork, runResult};
 ghost use Rattle.capi.specs.Exports.{outcomeOf};
 use blocks::FabricWire;
 use plan::Plan;
@@ -113,4 +114,20 @@ pub extern "C" fn mkd_selection_program(m: u32, n: u32, wanted: &[u16], program:
     ensures written { λ _. ⌜ now (program .exit) ≡ selectionProgramResult m n (now (wanted .entry)) (now (program .entry)) ⌝ }
 {
     blocks::program_selection(m, n, wanted, program).number()
+}
+
+// The run of a table with a program on a row of input contacts.
+#[no_mangle]
+pub extern "C" fn mkd_run(
+    table: &[u16],
+    program: &[u8],
+    row: &[u8],
+    work: &mut [u8],
+    result: &mut [u8],
+) -> u32
+    ensures answered { λ r. ⌜ r ≡ runFault (now (table .entry)) (now (program .entry)) (now (row .entry)) (length (now (work .entry))) (length (now (result .entry))) ⌝ }
+    ensures worked { λ _. ⌜ now (work .exit) ≡ runWork (now (table .entry)) (now (program .entry)) (now (row .entry)) (now (work .entry)) (now (result .entry)) ⌝ }
+    ensures written { λ _. ⌜ now (result .exit) ≡ runResult (now (table .entry)) (now (program .entry)) (now (row .entry)) (now (work .entry)) (now (result .entry)) ⌝ }
+{
+    run::run(table, program, row, work, result).number()
 }

@@ -1,16 +1,14 @@
 -- Writing the block of N positions, in the code's order: its parts' rows follow each other in the table, the first P's output wires feed the
 -- chain, and the chain's the second P.
-use mathlib.Core.Path.{_≡_, refl, sym, ap, ap₂, _∙_}
+use mathlib.Core.Path.{_≡_, sym, ap, ap₂, _∙_}
 use mathlib.Core.List.{List, _++_, append-assoc}
 use Prim.Native.Nat.{ℕ, _+_, _-_, _*_, _%_, _^_, _≤_, _<_}
 use native.Mathlib.Decide.{decLe}
 use native.Mathlib.Omega.{arith}
-use lib.ListN.{length, getD, take, drop, length-append}
-use lib.Pow.{pow-pos}
+use lib.ListN.{length, take, drop, length-append}
 use lib.Seq.{ext-getD, getD-take, length-take-le, take-at}
 use borrow.Rule.Slice.PartMut.{mid-len}
-use Rattle.lists.specs.Lists.{Below}
-use Rattle.fault.specs.Buffers.{over}
+use Rattle.fault.specs.Buffers.{over, filled}
 use Rattle.fault.specs.PartsLaws.{partOf, withPart, length-over, over-part, over-again}
 use Rattle.networks.specs.Rows.{stride, flat}
 use Rattle.networks.specs.RowsLaws.{flat-append}
@@ -36,10 +34,15 @@ some-made b k some few = omega (arith, b .wires (omega arith))
 pub wire-later : {N next : ℕ} → BlockWires N next → next < 2 ^ 32 → (k : ℕ) → k ≤ wholeWires (levelOf N) → (next + k) % 2 ^ 32 ≡ next + k
 wire-later {next = next} b small k few = wire-after next k (elim (decLe 1 k) [ yes some ↦ omega (arith, some-made b k some few) | no none ↦ omega arith ])
 
+-- the first places of a list that has them
 taken-padded : (N : ℕ) (l : List ℕ) → N ≤ length l → take N l ≡ padded N l
 taken-padded N l h =
     let long = length-take-le N l h in
     ext-getD 0 _ _ (long ∙ sym (length-padded N l)) (λ i m. let k : i < N = rw long at m in getD-take N l i 0 k ∙ sym (getD-padded N l i k))
+
+-- a buffer after P's call where no check fails
+pub filled-over : (n : ℕ) (new old l : List ℕ) → l ≡ filled n new old → n ≡ 0 → l ≡ over new old
+filled-over n new old l e z = rw z at e
 
 -- ---- the steps. R, A and T are the table's part, `from` and `to` after each, F the parts of the table that a callee was lent
 
@@ -71,7 +74,8 @@ module _ (N next : ℕ) (p : Parts) (R₀ A₀ T₀ : List ℕ) (room : BlockRoo
   }
 
   -- after the first P
-  module _ (R₁ T₁ : List ℕ) (first : (R₁ ≡ over (flat (permutationRows level (take N A₀) next)) R₀) × (T₁ ≡ over (permutationOuts level (take N A₀) next) T₀)) where
+  module _ (R₁ T₁ : List ℕ) (first : (R₁ ≡ over (flat (permutationRows level (take N A₀) next)) R₀)
+      × (T₁ ≡ over (permutationOuts level (take N A₀) next) T₀)) where
     abbrev s : List ℕ
     s = firstOuts level A₀ next
 
@@ -187,7 +191,7 @@ module _ (N next : ℕ) (p : Parts) (R₀ A₀ T₀ : List ℕ) (room : BlockRoo
         unfolding wholeRows
         whole-parts = flat-append _ _ ∙ ap (λ l. A ++ l) (flat-append _ _)
 
-        pub rows-written : withPart (p .second) R₂ F₃ ≡ over (flat (wholeRows level A₀ next)) R₀
+        rows-written : withPart (p .second) R₂ F₃ ≡ over (flat (wholeRows level A₀ next)) R₀
         rows-written =
             let l = room .rowRoom in
             let w = at .whole in
@@ -195,7 +199,7 @@ module _ (N next : ℕ) (p : Parts) (R₀ A₀ T₀ : List ℕ) (room : BlockRoo
             (omega (arith, length-C)) second-rows
             ∙ ap (λ l. over l R₀) (append-assoc A B C ∙ sym whole-parts)
 
-        pub wires-written : T₃ ≡ over (wholeOuts level A₀ next) T₀
+        wires-written : T₃ ≡ over (wholeOuts level A₀ next) T₀
         unfolding wholeOuts
         wires-written =
             let outs = wholeOuts level A₀ next in
@@ -203,3 +207,6 @@ module _ (N next : ℕ) (p : Parts) (R₀ A₀ T₀ : List ℕ) (room : BlockRoo
             ∙ ap₂ (λ l k. over (permutationOuts level l k) T₁) feeds (at .secondFrom)
             ∙ ap (over outs) first-wires
             ∙ over-again outs s T₀ (length-wholeOuts level A₀ next ∙ power ∙ sym length-s)
+
+        pub block-written : (withPart (p .second) R₂ F₃ ≡ over (flat (wholeRows level A₀ next)) R₀) × (T₃ ≡ over (wholeOuts level A₀ next) T₀)
+        block-written = (rows-written, wires-written)

@@ -5,9 +5,9 @@ use mathlib.Core.List.{List, [], _∷_, _++_}
 use Prim.Native.Nat.{ℕ, zero, suc, _+_, _-_, _*_, _≤_, _<_}
 use native.Mathlib.Nat.{not-suc-le-zero, le-refl}
 use native.Mathlib.Omega.{arith}
-use lib.ListN.{length, getD, set, drop, length-append, length-set, List·getD-append}
-use borrow.Rule.Slice.PartMut.{mid-len}
+use lib.ListN.{length, getD, set, drop, length-set, List·getD-append}
 use lib.Seq.{ext-getD, getD-take, getD-drop}
+use borrow.Rule.Slice.PartMut.{mid-len}
 use Rattle.lists.specs.Lists.{listOf}
 use Rattle.lists.specs.ListsLaws.{length-listOf, getD-listOf, listOf-ext}
 use Rattle.fault.specs.Buffers.{over}
@@ -52,7 +52,10 @@ wires-linked N next s L F room e =
     let long = length-listOf (N - 1) (λ i. next + 1 * i) in
     let front = first-set L (getD s 0 0) (omega arith) in
     let fits : Progression (length (partOf 1 P)) (N - 1) next 1 =
-    record { room = rw (mid-len 1 (length P) P (le-refl (length P)), length-set L 0 (getD s 0 0)) (omega arith); each = λ i l. omega (arith, room .wires (omega arith)) } in
+    record {
+      room = rw (mid-len 1 (length P) P (le-refl (length P)), length-set L 0 (getD s 0 0)) (omega arith);
+      each = λ i l. omega (arith, room .wires (omega arith));
+    } in
     let put : F ≡ over made (partOf 1 P) = e ∙ wires-put (N - 1) next 1 (partOf 1 P) fits in
     let above : suc (N - 1) ≡ N = omega arith in
     over-part (getD s 0 0 ∷ []) L P 1 refl (omega arith) front made F (omega arith) put

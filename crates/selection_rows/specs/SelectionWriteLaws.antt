@@ -1,5 +1,5 @@
 -- Writing S succeeds exactly if its bounds hold, and what it writes has its stated length.
-use mathlib.Core.Path.{_≡_, refl, sym, ap, _∙_}
+use mathlib.Core.Path.{_≡_, sym, ap, _∙_}
 use mathlib.Core.List.{List}
 use Prim.Native.Nat.{ℕ, _+_, _-_, _*_, _^_, _≤_, _<_}
 use native.Mathlib.Decide.{decLt}
@@ -7,7 +7,7 @@ use native.Mathlib.Omega.{arith}
 use lib.ListN.{length, getD, take, drop, replicate, length-replicate, getD-replicate, List·getD-append, List·getD-eq-default}
 use lib.Seq.{ext-getD, take-at, take-all, take-append-le, getD-drop, getD-append-add}
 use Rattle.lists.specs.Lists.{Below}
-use Rattle.lists.specs.ListsLaws.{listOf-ext}
+use Rattle.lists.specs.ListsLaws.{getD-listOf, listOf-ext}
 use Rattle.fault.specs.Buffers.{over}
 use Rattle.fault.specs.ChecksLaws.{and-then-zero}
 use Rattle.fault.specs.PartsLaws.{length-over, length-filled}
@@ -40,16 +40,16 @@ module _ (m n : ℕ) (ins : List ℕ) (next rows outputs : ℕ) where
   pub selection-write-passes : selectionWriteFault m n ins next rows outputs ≡ 0 → SelectionWritePasses m n ins next rows outputs
   unfolding selectionWriteFault
   selection-write-passes e =
-      let h = simp and-then-zero at e in
-      let w = wires-faultless ins (selectionWires m n) next .0 (h .1 .1 .0) in
-      let b = buffers-faultless (selectionCount m n) n rows outputs .0 (h .1 .1 .1) in
+      let h = simp (and-then-zero, sides-allowed, list-faultless, wires-faultless, buffers-faultless) at e in
+      let wires = h .1 .1 .0 in
+      let room = h .1 .1 .1 in
       record {
-        sides = sides-allowed m n .0 (h .0);
-        inputs = list-faultless m ins .0 (h .1 .0);
-        made = w .given;
-        wires = w .new;
-        rowRoom = b .rowRoom;
-        outputRoom = b .outputRoom;
+        sides = h .0;
+        inputs = h .1 .0;
+        made = wires .given;
+        wires = wires .new;
+        rowRoom = room .rowRoom;
+        outputRoom = room .outputRoom;
       }
 
   -- and the other way round
@@ -57,16 +57,8 @@ module _ (m n : ℕ) (ins : List ℕ) (next rows outputs : ℕ) where
       → stride * selectionCount m n ≤ rows → n ≤ outputs → selectionWriteFault m n ins next rows outputs ≡ 0
   unfolding selectionWriteFault
   selection-write-succeeds sides inputs made wires rowRoom outputRoom =
-      simp and-then-zero (
-        sides-allowed m n .1 sides,
-        (
-          list-faultless m ins .1 inputs,
-          (
-            wires-faultless ins (selectionWires m n) next .1 (record { given = made; new = wires }),
-            buffers-faultless (selectionCount m n) n rows outputs .1 (record { rowRoom = rowRoom; outputRoom = outputRoom }),
-          ),
-        ),
-      )
+      simp (and-then-zero, sides-allowed, list-faultless, wires-faultless, buffers-faultless)
+      (sides, (inputs, (record { given = made; new = wires }, record { rowRoom = rowRoom; outputRoom = outputRoom })))
 
 -- a row makes a wire or two
 pub rows-make : (m n : ℕ) → selectionCount m n ≤ selectionWires m n
@@ -83,14 +75,14 @@ some-wire {next = next} w = omega (arith, w .made .each 0 (omega arith))
 length-entries : (m n : ℕ) (ins : List ℕ) (next : ℕ) → length (flat (selectionRows m n ins next)) ≡ stride * selectionCount m n
 length-entries m n ins next = length-flat (selection-totals m n ins next .family) ∙ ap (λ k. stride * k) (length-selectionRows m n ins next)
 
-module _ (m n : ℕ) (ins : List ℕ) (next : ℕ) (rows outputs : List ℕ) where
-  -- after success the lent buffers begin with the rows and the output wires
-  pub record SelectionWritten : Type 0 where
-    pub entriesRead : take (stride * selectionCount m n) (selectionWrittenRows m n ins next rows outputs) ≡ flat (selectionRows m n ins next)
-    pub rowsRead : decode (take (stride * selectionCount m n) (selectionWrittenRows m n ins next rows outputs)) ≡ selectionRows m n ins next
-    pub outputsRead : take n (selectionWrittenOutputs m n ins next rows outputs) ≡ selectionOuts m n ins next
+-- after success the lent buffers begin with the rows and the output wires
+pub record SelectionWritten (m n : ℕ) (ins : List ℕ) (next : ℕ) (rows outputs : List ℕ) : Type 0 where
+  pub entriesRead : take (stride * selectionCount m n) (selectionWrittenRows m n ins next rows outputs) ≡ flat (selectionRows m n ins next)
+  pub rowsRead : decode (take (stride * selectionCount m n) (selectionWrittenRows m n ins next rows outputs)) ≡ selectionRows m n ins next
+  pub outputsRead : take n (selectionWrittenOutputs m n ins next rows outputs) ≡ selectionOuts m n ins next
 
-  pub selection-written-read : selectionWriteFault m n ins next (length rows) (length outputs) ≡ 0 → SelectionWritten
+module _ (m n : ℕ) (ins : List ℕ) (next : ℕ) (rows outputs : List ℕ) where
+  pub selection-written-read : selectionWriteFault m n ins next (length rows) (length outputs) ≡ 0 → SelectionWritten m n ins next rows outputs
   selection-written-read e =
       let es = flat (selectionRows m n ins next) in
       let outs = selectionOuts m n ins next in
@@ -118,7 +110,7 @@ module _ (m n : ℕ) (ins : List ℕ) (next : ℕ) (rows outputs : List ℕ) whe
 -- ---- the core of the call
 
 -- a list of so many places that all hold wire 0
-abbrev zeroWires : ℕ → List ℕ
+abbrev pub zeroWires : ℕ → List ℕ
 zeroWires k = replicate k 0
 
 -- the input wires are stored before zeros: an input past them is wire 0
@@ -146,7 +138,8 @@ copied-padded k ins h = ext-getD 0 _ _ (long ∙ sym (length-padded k ins)) (λ 
 
 -- the first places of a padded list
 padded-again : (N k : ℕ) (ins : List ℕ) → N ≤ k → padded N (padded k ins) ≡ padded N ins
-padded-again N k ins h = unfold padded in listOf-ext N _ _ (λ i l. getD-padded k ins i (omega arith))
+unfolding padded
+padded-again N k ins h = listOf-ext N _ _ (λ i l. getD-listOf k _ i 0 (omega arith))
 
 -- N is the block's size, and A holds the input wires before zeros
 module _ (m n : ℕ) (ins : List ℕ) (next rows outputs N : ℕ) (A : List ℕ) (passes : SelectionWritePasses m n ins next rows outputs)

@@ -1,5 +1,5 @@
-// The block of all N positions that S(m, n) is part of: the first P, the chain, the second P, each in its own stretch of the table. Two lists
-// of wires carry it through: `from` holds what feeds the next P, `to` what the last P gave.
+// S(m, n) as a block of N inputs and N outputs: the first P, the chain, the second P, each in its own stretch of the table. Two lists of
+// wires carry it through: `from` holds what feeds the next P, `to` what the last P gave.
 ghost use mathlib.Core.Path.{_≡_};
 ghost use Prim.Native.Nat.{_-_};
 ghost use lib.ListN.{length, take};

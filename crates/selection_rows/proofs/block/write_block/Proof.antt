@@ -1,13 +1,6 @@
 -- `selection_rows::block::write_block` meets its contract: the first P, the chain, the second P, each behind the one before. Assumes nothing.
-use native.Mathlib.Omega.{arith}
-use mathlib.Core.Path.{_≡_, _∙_}
-use mathlib.Core.List.{List}
-use Prim.Native.Nat.{ℕ, _≤_}
-use lib.ListN.{length}
 use borrow.Author.Needs.{needs}
-use Rattle.fault.specs.PartsLaws.{withPart, length-with}
-use Rattle.selection_rows.specs.declared.block.Parts.{Parts}
-use Rattle.selection_rows.specs.BlockLaws.{first-passes, chain-room, second-passes, rows-written, wires-written}
+use Rattle.selection_rows.specs.BlockLaws.{first-passes, chain-room, second-passes, block-written}
 use Rattle.selection_rows.proofs.block.write_block.Statement.{statement}
 use Rattle.selection_rows.proofs.block.write_block.Tie as tie
 
@@ -48,21 +41,6 @@ second-fits c κs =
     (one .write-network .last .1 .1 .0) (one .write-network .last .1 .1 .1 .1 .0) (one .write-network .ensures)
     (two .write-chain .last .1 .1 .0) (two .write-chain .last .1 .1 .1 .0) (two .write-chain .ensures)
 
-chain-start : tie.Need-sub-write-chain
-chain-start c = search needs
-
-chain-part : tie.Need-part-write-chain-start
-chain-part c = search needs
-
-second-mul : tie.Need-mul-write-network
-second-mul c = search needs
-
-second-start : tie.Need-sub-write-network
-second-start c = search needs
-
-second-part : tie.Need-part-write-network-start
-second-part c = search needs
-
 written : tie.Need-returns
 written c =
     let three = c .before .before .before .before in
@@ -70,21 +48,21 @@ written c =
     let one = first two in
     let parts = parted one in
     let start = parts .before .before .before .before in
-    let a = start .args in (
-      rows-written (a .size) (a .next .0) (parts .parts-of .result) (a .rows .now) (a .from .now) (a .to .now) (start .pre) (parts .parts-of .ensures)
-          (one .write-network .last .1 .1 .0) (one .write-network .last .1 .1 .1 .1 .0) (one .write-network .ensures)
-          (two .write-chain .last .1 .1 .0) (two .write-chain .last .1 .1 .1 .0) (two .write-chain .ensures)
-          (three .write-network2 .last .1 .1 .0) (three .write-network2 .last .1 .1 .1 .1 .0) (three .write-network2 .ensures),
-      wires-written (a .size) (a .next .0) (parts .parts-of .result) (a .rows .now) (a .from .now) (a .to .now) (start .pre) (parts .parts-of .ensures)
-          (one .write-network .last .1 .1 .0) (one .write-network .last .1 .1 .1 .1 .0) (one .write-network .ensures)
-          (two .write-chain .last .1 .1 .0) (two .write-chain .last .1 .1 .1 .0) (two .write-chain .ensures)
-          (three .write-network2 .last .1 .1 .0) (three .write-network2 .last .1 .1 .1 .1 .0) (three .write-network2 .ensures),
-    )
+    let a = start .args in
+    block-written (a .size) (a .next .0) (parts .parts-of .result) (a .rows .now) (a .from .now) (a .to .now) (start .pre) (parts .parts-of .ensures)
+    (one .write-network .last .1 .1 .0) (one .write-network .last .1 .1 .1 .1 .0) (one .write-network .ensures)
+    (two .write-chain .last .1 .1 .0) (two .write-chain .last .1 .1 .1 .0) (two .write-chain .ensures)
+    (three .write-network2 .last .1 .1 .0) (three .write-network2 .last .1 .1 .1 .1 .0) (three .write-network2 .ensures)
 
 pub write-block-spec : {M : Type 1} → statement M
 write-block-spec =
     tie.close
     (tie.spec
-    (λ c κs. search needs) first-fits (λ c. search needs) chain-start chain-part (λ c. search needs) chain-fits
-    second-mul second-start second-part (λ c. search needs) second-fits
+    -- the parts, the first P
+    (λ c κs. search needs) first-fits
+    -- the chain and its stretch
+    (λ c. search needs) (λ c. search needs) (λ c. search needs) (λ c. search needs) chain-fits
+    -- the second P and its stretch
+    (λ c. search needs) (λ c. search needs) (λ c. search needs) (λ c. search needs) second-fits
+    -- what is written
     (λ c. search needs) (λ c. search needs) (λ c. search needs) written)

@@ -1,8 +1,7 @@
 -- `selection_rows::block::write_network` meets its contract: P's checks pass, so that its call writes P. Assumes nothing.
-use mathlib.Core.Path.{sym, _∙_}
 use borrow.Author.Needs.{needs}
-use Rattle.fault.specs.BuffersLaws.{filled-done}
 use Rattle.permutation_rows.specs.WriteLaws.{write-done}
+use Rattle.selection_rows.specs.BlockLaws.{filled-over}
 use Rattle.selection_rows.proofs.block.write_network.Statement.{statement}
 use Rattle.selection_rows.proofs.block.write_network.Tie as tie
 
@@ -10,10 +9,8 @@ written : tie.Need-returns
 written c =
     let done = c .before .before .before .before in
     let start = done .before .before .before .before .before .before .before in
-    let none = sym (write-done _ _ _ _ _ (start .pre)) in (
-      done .write-permutation .ensures .1 .0 ∙ sym (filled-done _ _ _ none),
-      done .write-permutation .ensures .1 .1 ∙ sym (filled-done _ _ _ none),
-    )
+    let none = write-done _ _ _ _ _ (start .pre) in
+    (filled-over _ _ _ _ (done .write-permutation .ensures .1 .0) none, filled-over _ _ _ _ (done .write-permutation .ensures .1 .1) none)
 
 pub write-network-spec : {M : Type 1} → statement M
 write-network-spec =

@@ -3,15 +3,13 @@ use native.Mathlib.Omega.{arith}
 use mathlib.Core.Path.{_≡_, sym, ap, _∙_}
 use lib.ListN.{length}
 use borrow.Author.Needs.{needs}
-use borrow.Author.Tests.{eq-eqb, ne-eqb}
-use Rattle.fault.specs.Number.{faultNumber, answerNumber}
-use Rattle.fault.specs.Checks.{andThen}
+use borrow.Author.Tests.{ne-eqb}
+use Rattle.fault.specs.Number.{answerNumber}
 use Rattle.fault.specs.ChecksLaws.{first-refuses, second-answers}
 use Rattle.networks.specs.Selection.{selectionCount, selectionWires}
 use Rattle.sizes.specs.SizesLaws.{few-wires}
 use Rattle.elements.specs.Checks.{listFault, wiresFault, buffersFault}
 use Rattle.elements.specs.ChecksLaws.{list-faultless}
-use Rattle.selection_rows.specs.Block.{lentFault}
 use Rattle.selection_rows.specs.SelectionWriteLaws.{rows-make}
 use Rattle.selection_rows.proofs.writing.check_lent.Statement.{statement}
 use Rattle.selection_rows.proofs.writing.check_lent.Tie as tie
@@ -45,9 +43,12 @@ few-rows c =
 -- the wires are checked for as many as S makes
 made : (c : tie.After-check-wires) → let a = c .before .before .before .before .args in
     answerNumber (c .check-wires .result) ≡ wiresFault (a .inputs .now) (selectionWires (a .m) (a .n)) (a .next .0)
-made c =
-    let a = c .before .before .before .before .args in
-    c .check-wires .ensures ∙ ap (λ k. wiresFault (a .inputs .now) k (a .next .0)) (c .before .selection-wires .ensures)
+made c = rw (← c .before .selection-wires .ensures) (c .check-wires .ensures)
+
+-- and the room for as many rows as it has
+roomed : (c : tie.After-check-room) → let a = c .before .before .before .before .before .before .before .before .args in
+    answerNumber (c .check-room .result) ≡ buffersFault (selectionCount (a .m) (a .n)) (a .n) (a .rows) (a .outputs)
+roomed c = rw (← c .before .selection-count .ensures) (c .check-room .ensures)
 
 wires : tie.Need-returns-2
 wires c =
@@ -59,10 +60,8 @@ room : tie.Need-returns-3
 room c =
     let told = c .before .before in
     let asked = told .before .before in
-    let a = asked .before .before .before .before .args in
     second-answers _ _ _ (listed (asked .before .before))
-    (second-answers _ _ _ (ap answerNumber (sym (told .enum-told .given .1)) ∙ made asked)
-    (c .check-room .ensures ∙ ap (λ k. buffersFault k (a .n) (a .rows) (a .outputs)) (c .before .selection-count .ensures)))
+    (second-answers _ _ _ (ap answerNumber (sym (told .enum-told .given .1)) ∙ made asked) (roomed c))
 
 pub check-lent-spec : {M : Type 1} → statement M
 check-lent-spec =

@@ -1,11 +1,14 @@
 -- `selection_rows::writing::put_selection` meets its contract: the block on the input wires and zeros, and its first n outputs. Assumes nothing.
 use native.Mathlib.Omega.{arith}
-use mathlib.Core.Path.{refl, sym, _∙_}
+use mathlib.Core.Path.{_≡_, refl, sym}
+use lib.ListN.{take}
 use borrow.Author.Needs.{needs}
 use lib.Seq.{length-take-le}
+use Rattle.fault.specs.Buffers.{over}
 use Rattle.networks.specs.Selection.{selectionLevel}
+use Rattle.sizes.specs.Sizes.{maxSize}
 use Rattle.sizes.specs.SizesLaws.{power-small, side-level}
-use Rattle.selection_rows.specs.SelectionWriteLaws.{block-room, rows-put, outputs-put}
+use Rattle.selection_rows.specs.SelectionWriteLaws.{zeroWires, block-room, rows-put, outputs-put}
 use Rattle.selection_rows.proofs.writing.put_selection.Statement.{statement}
 use Rattle.selection_rows.proofs.writing.put_selection.Tie as tie
 
@@ -22,6 +25,11 @@ copied c = c .before .before .before .before
 abbrev sized : tie.After-copy-wires → tie.After-selection-size
 sized c = c .before .before
 
+-- the input wires stand before zeros
+loaded : (c : tie.After-copy-wires) → let a = sized c .before .before .before .before .args in
+    c .copy-wires .last .1 .0 ≡ over (take maxSize (a .inputs .now)) (zeroWires maxSize)
+loaded c = c .copy-wires .ensures
+
 room : tie.Need-write-block-requires
 room c κs =
     let copy = copied c in
@@ -29,7 +37,7 @@ room c κs =
     let start = size .before .before .before .before in
     let a = start .args in
     block-room (a .m) (a .n) (a .inputs .now) (a .next .0) _ _ (size .selection-size .result) _ (start .pre) (size .selection-size .ensures)
-    (copy .copy-wires .ensures)
+    (loaded copy)
 
 outputs-part : tie.Need-slice-aggregate-copy-wires-2
 outputs-part c =
@@ -47,9 +55,9 @@ written c =
     let start = size .before .before .before .before in
     let a = start .args in (
       rows-put (a .m) (a .n) (a .inputs .now) (a .next .0) _ _ (size .selection-size .result) _ (start .pre) (size .selection-size .ensures)
-          (copy .copy-wires .ensures) _ _ (block .write-block .ensures .0),
+          (loaded copy) _ _ (block .write-block .ensures .0),
       outputs-put (a .m) (a .n) (a .inputs .now) (a .next .0) _ _ (size .selection-size .result) _ (start .pre) (size .selection-size .ensures)
-          (copy .copy-wires .ensures) _ _ (a .outputs .now) _ refl (block .write-block .ensures .1) (out .copy-wires2 .ensures),
+          (loaded copy) _ _ (a .outputs .now) _ refl (block .write-block .ensures .1) (out .copy-wires2 .ensures),
     )
 
 pub put-selection-spec : {M : Type 1} → statement M
