@@ -1,6 +1,6 @@
 #!/usr/bin/env bash
-# All tests of the repository, from nothing: the Rust package, the comparison of the library with the Rust implementation, the check of
-# public contracts, the block library by itself, then rt's own gate, whose last line is the verdict.
+# All tests of the repository, from nothing: rt's own gate, the Rust package, the comparison of the library with the Rust implementation, the
+# check of public contracts, the block library by itself. Where all pass, the last line is the verdict of rt's gate again.
 set -euo pipefail
 cd "$(dirname "$0")"
 
@@ -20,15 +20,19 @@ if [ "$kit" != "$recorded" ]; then
     echo "test: this kit is '$kit'; the repository was proved with '$recorded'"
 fi
 
-rm -rf target host/target
+# rt's own gate first, from nothing: every proof, every must-fail edit, every program. What comes after it uses what it proved.
+rm -rf host/target
+verdict=$(mktemp)
+copy=$(mktemp -d)
+trap 'rm -rf "$verdict" "$copy"' EXIT
+rt ci | tee "$verdict"
+
 rt staticlib capi
 cargo test --quiet --release --manifest-path host/Cargo.toml
 cargo run --quiet --release --manifest-path host/Cargo.toml --bin compare
 cargo run --quiet --release --manifest-path host/Cargo.toml --bin check_contracts .
 
 # The block library goes to the relay-card maker by itself: blocks and the crates under it, proved in a copy that holds nothing else.
-copy=$(mktemp -d)
-trap 'rm -rf "$copy"' EXIT
 mkdir "$copy/crates"
 for crate in $(sed -n 's/^blocks: *//p' crates.txt) blocks; do
     cp -r "crates/$crate" "$copy/crates/"
@@ -36,4 +40,4 @@ for crate in $(sed -n 's/^blocks: *//p' crates.txt) blocks; do
 done
 (cd "$copy" && rt prove)
 
-rt ci
+tail -n 1 "$verdict"

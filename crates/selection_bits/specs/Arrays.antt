@@ -4,7 +4,7 @@ use Prim.Native.Nat.{ℕ, zero, suc, _+_, _-_, _*_, _≤_, _<_}
 use mathlib.Core.Path.{_≡_}
 use mathlib.Core.Logic.{_≢_}
 use mathlib.Core.Bool.{Bool, cond, _&&_}
-use mathlib.Core.List.{List}
+use mathlib.Core.List.{List, _++_}
 use lib.Dec.{eqb, ltb}
 use lib.ListN.{length, getD, set, take}
 use Rattle.lists.specs.Lists.{listOf}
@@ -13,7 +13,7 @@ use Rattle.networks.specs.Wanted.{Wanted, mapping, takerOf, wantedBits}
 use Rattle.networks.specs.Counting.{oneIf}
 use Rattle.networks.specs.Completion.{completed, RisingCompletion}
 use Rattle.networks.specs.Mappings.{wantedOf}
-use Rattle.networks.specs.Selection.{Selected, wanting, copies, headOf, positionOf}
+use Rattle.networks.specs.Selection.{Selected, wanting, copies, headOf, positionOf, copyOf}
 use Rattle.sizes.specs.Sizes.{maxSize, levelOf}
 use Rattle.sizes.specs.SizesLaws.{SizeIs}
 
@@ -28,6 +28,7 @@ pub record Holds (f : ℕ → ℕ) (array : List ℕ) : Type 0 where
   pub size : length array ≡ maxSize
   pub each : (i : ℕ) → getD array i 0 ≡ f i
 
+-- none of its places is used yet
 abbrev pub Blank : List ℕ → Type 0
 Blank array = Holds (λ i. 0) array
 
@@ -98,6 +99,17 @@ chainBit counts list i = oneIf (isCounted counts (getD list (i + 1) 0 - 1))
 
 abbrev pub chainBits : List ℕ → List ℕ → List ℕ
 chainBits counts list = listOf (length list - 1) (chainBit counts list)
+
+-- the bits of the first network and the chain, for the list of the inputs of the positions
+abbrev pub firstBits : List ℕ → List ℕ → List ℕ
+firstBits counts list = networkBits list ++ chainBits counts list
+
+abbrev pub firstCount : ℕ → ℕ
+firstCount N = permutationCount (levelOf N) + (N - 1)
+
+-- the bits of the second network of N positions
+abbrev pub secondBits : ℕ → List ℕ → List ℕ
+secondBits N wanted = wantedBits (levelOf N) (wantedOf N (copyOf (mapping wanted) (length wanted)))
 
 -- ---- copies
 

@@ -26,7 +26,8 @@ use Rattle.sizes.specs.Sizes.{maxSize}
 use Rattle.sizes.specs.SizesLaws.{Sides, sides-allowed, side-level, few-rows, power-small}
 use Rattle.elements.specs.Checks.{bitsFault, bitsAtFault}
 use Rattle.elements.specs.ChecksLaws.{bits-at-front}
-use Rattle.selection_bits.specs.ProgramCalls.{selectedFault, selectionWantedFault, selectionProgramFault, selectionProgramAtFault, selectionProgramResult, selectionProgramAtResult}
+use Rattle.selection_bits.specs.ProgramCalls.{selectedFault, selectionWantedFault, selectionProgramFault, selectionProgramAtFault}
+use Rattle.selection_bits.specs.ProgramCalls.{selectionProgramResult, selectionProgramAtResult}
 
 -- ---- check 9
 
@@ -75,10 +76,9 @@ wanted-faultless m n wanted = (
   λ w.
       let W = w .1 in
       let size = W .size in
-      simp (and-then-zero, unless-zero, first-of-zero) (
-        sides-allowed m n .1 (w .0),
-        (eq-eqb (length wanted) n size, λ o l. selected-is m wanted o (W .low o (rw (← size) l)) (W .high o (rw (← size) l))),
-      ),
+      let each : (o : ℕ) → o < length wanted → selectedAllowed m wanted o ≡ true = λ o l.
+      selected-is m wanted o (W .low o (rw (← size) l)) (W .high o (rw (← size) l)) in
+      simp (and-then-zero, unless-zero, first-of-zero) (sides-allowed m n .1 (w .0), (eq-eqb (length wanted) n size, each)),
 )
 
 -- ---- all checks

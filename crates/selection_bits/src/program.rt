@@ -1,18 +1,17 @@
 // The program of S by its parts: the first network, which takes each wanted input to its head, the chain, and the second network, which
 // takes a copy to each output. The call holds three arrays, 3,072 bytes, and lends them to all that works under it.
 ghost use mathlib.Core.Path.{_≡_};
-ghost use mathlib.Core.List.{_++_};
 ghost use Prim.Native.Nat.{_+_, _-_, _*_, _<_, _≤_};
 ghost use lib.ListN.{length};
 ghost use Rattle.networks.specs.Bits.{storeBits};
 ghost use Rattle.networks.specs.Permutation.{permutationCount};
-ghost use Rattle.networks.specs.Wanted.{Wanted, mapping, wantedBits};
+ghost use Rattle.networks.specs.Wanted.{Wanted};
 ghost use Rattle.networks.specs.Counting.{oneIf};
-ghost use Rattle.networks.specs.Mappings.{wantedOf};
-ghost use Rattle.networks.specs.Selection.{copyOf, selectionBits};
+ghost use Rattle.networks.specs.Selection.{selectionBits};
 ghost use Rattle.sizes.specs.Sizes.{maxSize, levelOf};
 ghost use Rattle.sizes.specs.SizesLaws.{SizeIs};
-ghost use Rattle.selection_bits.specs.Arrays.{Demand, Blank, isCounted, Found, NetworkRoom, networkBits, chainBits, NextCopies};
+ghost use Rattle.selection_bits.specs.Arrays.{Demand, Blank, isCounted, Found, NetworkRoom, NextCopies};
+ghost use Rattle.selection_bits.specs.Arrays.{networkBits, chainBits, firstBits, firstCount, secondBits};
 ghost use Rattle.selection_bits.specs.SelectionProgramLaws.{SelectionPasses};
 use crate::copies::list_copies;
 use crate::counting::count_wanted;
@@ -63,8 +62,8 @@ fn find_positions(
 fn store_first(counts: &[u16], list: &[u16], program: &mut [u8], start: usize) -> usize
     requires { ⌜ NetworkRoom (now list) start (length (now program)) ⌝ }
     requires { ⌜ (length (now counts) ≡ maxSize) × (start < 8) ⌝ }
-    ensures behind { λ r. ⌜ r ≡ start + (permutationCount (levelOf (length (now (list .entry)))) + (length (now (list .entry)) - 1)) ⌝ }
-    ensures stored { λ _. ⌜ now (program .exit) ≡ storeBits (now (program .entry)) start (networkBits (now (list .entry)) ++ chainBits (now (counts .entry)) (now (list .entry))) ⌝ }
+    ensures behind { λ r. ⌜ r ≡ start + firstCount (length (now (list .entry))) ⌝ }
+    ensures stored { λ _. ⌜ now (program .exit) ≡ storeBits (now (program .entry)) start (firstBits (now (counts .entry)) (now (list .entry))) ⌝ }
 {
     store_network(list, program, start);
     let chain = start + permutation_count(list.len() as u32);
@@ -108,7 +107,7 @@ fn store_second(
     requires { ⌜ SizeIs size × Demand size (now wanted) ⌝ }
     requires { ⌜ NextCopies (now wanted) 0 (now heads) × (length (now list) ≡ maxSize) ⌝ }
     requires { ⌜ start + permutationCount (levelOf size) ≤ 8 * length (now program) ⌝ }
-    ensures { λ _. ⌜ now (program .exit) ≡ storeBits (now (program .entry)) start (wantedBits (levelOf size) (wantedOf size (copyOf (mapping (now (wanted .entry))) (length (now (wanted .entry)))))) ⌝ }
+    ensures { λ _. ⌜ now (program .exit) ≡ storeBits (now (program .entry)) start (secondBits size (now (wanted .entry))) ⌝ }
 {
     list_copies(size, wanted, heads, list);
     store_network(&list[..size], program, start);

@@ -3,7 +3,8 @@
 ghost use mathlib.Core.Path.{_≡_};
 ghost use lib.ListN.{length};
 ghost use Rattle.fault.specs.Number.{answerNumber};
-ghost use Rattle.selection_bits.specs.ProgramCalls.{selectedFault, selectionWantedFault, selectionProgramFault, selectionProgramAtFault, selectionProgramResult, selectionProgramAtResult};
+ghost use Rattle.selection_bits.specs.ProgramCalls.{selectedFault, selectionWantedFault, selectionProgramFault, selectionProgramAtFault};
+ghost use Rattle.selection_bits.specs.ProgramCalls.{selectionProgramResult, selectionProgramAtResult};
 use crate::counting::wide;
 use crate::program::store_program;
 use elements::check_bits;

@@ -82,9 +82,12 @@ all c =
       rw (← e) (c .before .loop .inv .4),
     )
 
+inputs : tie.Need-shared-slice-read-wide Inv-loop μ-loop
+inputs c = omega (arith, c .before .before .before .before .before .before .pre)
+
 pub place-heads-spec : {M : Type 1} → statement M
 place-heads-spec =
     tie.close
     (tie.spec Inv-loop μ-loop
-    holds (λ c. search needs) (λ c. omega (arith, c .before .before .before .before .before .before .pre)) (λ c κs. search needs) fits (λ c. search needs) stored for-head sum (λ c. search needs)
+    holds (λ c. search needs) inputs (λ c κs. search needs) fits (λ c. search needs) stored for-head sum (λ c. search needs)
     (λ c. search needs) again same-heads same-list all)

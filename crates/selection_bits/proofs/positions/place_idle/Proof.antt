@@ -39,7 +39,8 @@ again c =
     let at = c .before .before .before .before .before in
     let s = at .before .before .before in
     let inv = at .loop .inv in
-    let step = step-places (s .pre .1 .0) (s .pre .1 .1) (at .loop .p) (c .before .before .before .before .loop-test .taken) (inv .3) (inv .2) (s .pre .0 .0) (placed .ensures) in
+    let l = c .before .before .before .before .loop-test .taken in
+    let step = step-places (s .pre .1 .0) (s .pre .1 .1) (at .loop .p) l (inv .3) (inv .2) (s .pre .0 .0) (placed .ensures) in
     (omega arith, placed .kept .1 .0 ∙ inv .1, step .0, step .1)
 
 all : tie.Need-returns Inv-loop μ-loop

@@ -1,4 +1,3 @@
--- t
 -- `selection_bits::positions::place_next` meets its contract: a head stays, and another position gets the next idle input. Assumes nothing.
 use mathlib.Core.Path.{_≡_, refl}
 use Prim.Native.Nat.{_+_, _-_}
@@ -23,8 +22,11 @@ next c =
     let e : x + 1 - 1 ≡ x = omega arith in
     record { head = λ n. absurd (n (c .before .if1 .left)); free = λ z. (refl, omega arith, rw e (c .next-idle .ensures)) }
 
+more : tie.Need-add-next
+more c = omega (arith, c .next-idle .ensures .within)
+
 pub place-next-spec : {M : Type 1} → statement M
 place-next-spec =
     tie.close
     (tie.spec
-    (λ c. search needs) (λ c. search needs) head for-next (λ c. omega (arith, c .next-idle .ensures .within)) fits (λ c. search needs) (λ c. search needs) (λ c. search needs) next)
+    (λ c. search needs) (λ c. search needs) head for-next more fits (λ c. search needs) (λ c. search needs) (λ c. search needs) next)

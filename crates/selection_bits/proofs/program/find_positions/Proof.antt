@@ -4,7 +4,7 @@ use native.Mathlib.Omega.{arith}
 use borrow.Author.Needs.{needs}
 use lib.ListN.{length}
 use Rattle.networks.specs.Wanted.{mapping}
-use Rattle.selection_bits.specs.ProgramLaws.{demand-most, heads-fit, positioned, found}
+use Rattle.selection_bits.specs.PartsLaws.{demand-most, heads-fit, positioned, found}
 use Rattle.selection_bits.proofs.program.find_positions.Statement.{statement}
 use Rattle.selection_bits.proofs.program.find_positions.Tie as tie
 
@@ -35,8 +35,8 @@ all c =
     let early = c .before .before .before .before .before .before .before .before .before .before .before .before .before .before .before in
     let count = early .count-wanted in
     let s = early .before .before .before .before .before .before in
-    found (s .pre .0) (count .ensures) (s .args .heads .now) (heads .last .1 .1 .1 .0) (heads .kept .1 .1 .0 ∙ s .pre .1 .1) (idle .kept .1 .1 .0 ∙ heads .ensures .1 .size)
-    (heads .ensures .0) (idle .ensures)
+    found (s .pre .0) (count .ensures) (s .args .heads .now) (heads .last .1 .1 .1 .0)
+    (heads .kept .1 .1 .0 ∙ s .pre .1 .1) (idle .kept .1 .1 .0 ∙ heads .ensures .1 .size) (heads .ensures .0) (idle .ensures)
 
 pub find-positions-spec : {M : Type 1} → statement M
 find-positions-spec =

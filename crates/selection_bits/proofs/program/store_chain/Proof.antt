@@ -44,7 +44,8 @@ again c =
     let list = a .list .now in
     let i = at .loop .i in
     let small : bit .result < 2 = rw (bit .ensures) (one-lt (isCounted counts (getD list (i + 1) 0 - 1))) in
-    (omega arith, store .kept .0 ∙ at .loop .inv .1, store .ensures ∙ store-step (a .program .now) (a .start) i (chainBit counts list) (at .loop .inv .2) small (bit .ensures))
+    let stored = store-step (a .program .now) (a .start) i (chainBit counts list) (at .loop .inv .2) small (bit .ensures) in
+    (omega arith, store .kept .0 ∙ at .loop .inv .1, store .ensures ∙ stored)
 
 all : tie.Need-returns Inv-loop μ-loop
 all c =

@@ -10,7 +10,7 @@ use Rattle.networks.specs.WantedLaws.{length-wantedBits}
 use Rattle.sizes.specs.Sizes.{levelOf}
 use Rattle.sizes.specs.SizesLaws.{few-rows}
 use Rattle.selection_bits.specs.Arrays.{networkBits, chainBits}
-use Rattle.selection_bits.specs.ProgramLaws.{stored-behind}
+use Rattle.selection_bits.specs.PartsLaws.{stored-behind}
 use Rattle.selection_bits.proofs.program.store_first.Statement.{statement}
 use Rattle.selection_bits.proofs.program.store_first.Tie as tie
 
@@ -49,8 +49,11 @@ stored c =
           ∙ stored-behind (a .program .now) (a .start) (networkBits list) C _ (length-wantedBits (levelOf (length list)) list),
     )
 
+some : tie.Need-sub-result
+some c = c .before .before .before .before .before .before .before .before .before .before .before .before .pre .0 .size .some
+
 pub store-first-spec : {M : Type 1} → statement M
 store-first-spec =
     tie.close
     (tie.spec
-    (λ c κs. search needs) (λ c. search needs) (λ c κs. search needs) few for-chain (λ c. c .before .before .before .before .before .before .before .before .before .before .before .before .pre .0 .size .some) behind (λ c. search needs) stored)
+    (λ c κs. search needs) (λ c. search needs) (λ c κs. search needs) few for-chain some behind (λ c. search needs) stored)

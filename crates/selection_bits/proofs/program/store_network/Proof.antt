@@ -1,7 +1,7 @@
 -- `selection_bits::program::store_network` meets its contract: P's call succeeds, and so it has stored the bits. Assumes nothing.
 use mathlib.Core.Path.{_∙_}
 use borrow.Author.Needs.{needs}
-use Rattle.selection_bits.specs.ProgramLaws.{network-stored}
+use Rattle.selection_bits.specs.PartsLaws.{network-stored}
 use Rattle.selection_bits.proofs.program.store_network.Statement.{statement}
 use Rattle.selection_bits.proofs.program.store_network.Tie as tie
 

@@ -8,7 +8,7 @@ use Rattle.networks.specs.Wanted.{mapping}
 use Rattle.networks.specs.Heads.{first-perm}
 use Rattle.selection_bits.specs.Arrays.{Demand}
 use Rattle.selection_bits.specs.ArraysLaws.{blank}
-use Rattle.selection_bits.specs.ProgramLaws.{network-room, program-whole, size-allowed, demand, first-room, second-room}
+use Rattle.selection_bits.specs.PartsLaws.{network-room, program-whole, size-allowed, demand, first-room, second-room}
 use Rattle.selection_bits.proofs.program.store_program.Statement.{statement}
 use Rattle.selection_bits.proofs.program.store_program.Tie as tie
 
@@ -20,48 +20,58 @@ module _ (c : tie.After-selection-size) where
 for-positions : tie.Need-find-positions-requires
 for-positions c κs = (wanted-inputs (c .before .before .before), (blank, refl, blank))
 
+-- where the size was found
+abbrev sized : tie.After-find-positions → tie.After-selection-size
+sized placed = placed .before .before .before .before
+
 front : tie.Need-array-share-prefix-list
 front c =
-    let found = c .before .before .before .before .find-positions .ensures in
-    rw (found .listSize) (wanted-inputs (c .before .before .before .before .before .before .before .before) .most)
+    let placed = c .before .before .before .before in
+    rw (placed .find-positions .ensures .listSize) (wanted-inputs (sized placed) .most)
 
 part : tie.Need-slice-aggregate-store-first-2
 part c =
-    let found = c .before .before .before .before .before .find-positions .ensures in
-    let sized = c .before .before .before .before .before .before .before .before .before in
-    sym (length-take-le (sized .selection-size .result) _ (rw (found .listSize) (wanted-inputs sized .most)))
+    let placed = c .before .before .before .before .before in
+    let most = wanted-inputs (sized placed) .most in
+    sym (length-take-le (sized placed .selection-size .result) _ (rw (placed .find-positions .ensures .listSize) most))
 
 for-first : tie.Need-store-first-requires
 for-first c κs =
-    let found = c .before .before .before .before .before .before .find-positions .ensures in
-    let sized = c .before .before .before .before .before .before .before .before .before .before in
-    let s = sized .before .before .before in
+    let placed = c .before .before .before .before .before .before in
+    let found = placed .find-positions .ensures in
+    let size = sized placed .selection-size in
+    let s = sized placed .before .before .before in
     let a = s .args in
-    let W = wanted-inputs sized in
-    let size = sized .selection-size in (
-      network-room (first-perm (mapping (a .wanted .now)) (length (a .wanted .now)) (size .result) (W .few)) (found .listed) (size-allowed (s .pre .0) (size .ensures)) (a .start) (length (a .program .now)) (first-room (s .pre .0) (size .ensures)),
+    let perm = first-perm (mapping (a .wanted .now)) (length (a .wanted .now)) (size .result) (wanted-inputs (sized placed) .few) in
+    let allowed = size-allowed (s .pre .0) (size .ensures) in (
+      network-room perm (found .listed) allowed (a .start) (length (a .program .now)) (first-room (s .pre .0) (size .ensures)),
       (found .counted .size, s .pre .1),
     )
 
 for-second : tie.Need-store-second-requires
 for-second c κs =
-    let first = c .before .before .before .before .before .store-first in
-    let found = c .before .before .before .before .before .before .before .before .before .before .before .before .find-positions .ensures in
-    let sized = c .before .before .before .before .before .before .before .before .before .before .before .before .before .before .before .before in
-    let s = sized .before .before .before in
-    let size = sized .selection-size in
+    let behind = c .before .before .before .before .before in
+    let first = behind .store-first in
+    let placed = behind .before .before .before .before .before .before .before in
+    let found = placed .find-positions .ensures in
+    let size = sized placed .selection-size in
+    let s = sized placed .before .before .before in
     let len = ap length (found .listed) ∙ length-listOf (size .result) _ in
-    ((size-allowed (s .pre .0) (size .ensures), wanted-inputs sized), ((found .headed, found .listSize), rw (first .kept .1 .1 .0) (second-room (s .pre .0) (size .ensures) len (first .ensures .0))))
+    let room = second-room (s .pre .0) (size .ensures) len (first .ensures .0) in (
+      (size-allowed (s .pre .0) (size .ensures), wanted-inputs (sized placed)),
+      ((found .headed, found .listSize), rw (first .kept .1 .1 .0) room),
+    )
 
 stored : tie.Need-returns
 stored c =
     let second = c .before .before .before .before .store-second in
-    let first = c .before .before .before .before .before .before .before .before .before .before .store-first in
-    let found = c .before .before .before .before .before .before .before .before .before .before .before .before .before .before .before .before .before .find-positions .ensures in
-    let sized = c .before .before .before .before .before .before .before .before .before .before .before .before .before .before .before .before .before .before .before .before .before in
-    let s = sized .before .before .before in
+    let behind = c .before .before .before .before .before .before .before .before .before .before in
+    let first = behind .store-first in
+    let placed = behind .before .before .before .before .before .before .before in
+    let size = sized placed .selection-size in
+    let s = sized placed .before .before .before in
     let a = s .args in
-    program-whole found (wanted-inputs sized .few) (a .m) (a .n) (s .pre .0 .selected .size) (sized .selection-size .ensures)
+    program-whole (placed .find-positions .ensures) (wanted-inputs (sized placed) .few) (a .m) (a .n) (s .pre .0 .selected .size) (size .ensures)
     (a .program .now) (a .start) (first .ensures .0) (first .ensures .1) (second .ensures)
 
 pub store-program-spec : {M : Type 1} → statement M

@@ -6,10 +6,12 @@ use borrow.Author.Needs.{needs}
 use lib.ListN.{length}
 use lib.Seq.{length-take-le}
 use Rattle.networks.specs.Bits.{storeBits}
-use Rattle.networks.specs.Wanted.{mapping}
+use Rattle.networks.specs.Permutation.{Perm}
+use Rattle.networks.specs.Wanted.{mapping, takerOf}
+use Rattle.networks.specs.Selection.{copyOf}
 use Rattle.networks.specs.Heads.{second-perm}
 use Rattle.selection_bits.specs.ArraysLaws.{over-taken}
-use Rattle.selection_bits.specs.ProgramLaws.{demand-most, network-room, network-bits}
+use Rattle.selection_bits.specs.PartsLaws.{demand-most, network-room, network-bits}
 use Rattle.selection_bits.proofs.program.store_second.Statement.{statement}
 use Rattle.selection_bits.proofs.program.store_second.Tie as tie
 
@@ -24,13 +26,17 @@ part c =
     let s = c .before .before .before .before .before .before .before .before .before .before .before .before in
     sym (length-take-le (s .args .size) (copies .last .1 .1 .1 .0) (omega (arith, copies .kept .1 .1 .1 .0, s .pre .0 .0 .most, s .pre .1 .0 .1)))
 
+-- the positions are one to one
+perm : (s : tie.Start) → let wanted = s .args .wanted .now in
+    Perm (s .args .size) (copyOf (mapping wanted) (length wanted)) (takerOf (s .args .size) (copyOf (mapping wanted) (length wanted)))
+perm s = second-perm (mapping (s .args .wanted .now)) (length (s .args .wanted .now)) (s .args .size) (s .pre .0 .1 .few)
+
 for-network : tie.Need-store-network-requires
 for-network c κs =
     let copies = c .before .before .before .before .before .before .list-copies in
     let s = c .before .before .before .before .before .before .before .before .before .before .before .before .before in
     let a = s .args in
-    let n = length (a .wanted .now) in
-    network-room (second-perm (mapping (a .wanted .now)) n (a .size) (s .pre .0 .1 .few)) (over-taken (a .size) _ (a .list .now) (copies .ensures)) (s .pre .0 .0) (a .start) (length (a .program .now)) (s .pre .1 .1)
+    network-room (perm s) (over-taken (a .size) _ (a .list .now) (copies .ensures)) (s .pre .0 .0) (a .start) (length (a .program .now)) (s .pre .1 .1)
 
 stored : tie.Need-returns
 stored c =
@@ -38,9 +44,8 @@ stored c =
     let copies = c .before .before .before .before .before .before .before .before .before .list-copies in
     let s = c .before .before .before .before .before .before .before .before .before .before .before .before .before .before .before .before in
     let a = s .args in
-    let n = length (a .wanted .now) in
-    network .ensures
-    ∙ ap (storeBits (a .program .now) (a .start)) (network-bits (second-perm (mapping (a .wanted .now)) n (a .size) (s .pre .0 .1 .few)) (over-taken (a .size) _ (a .list .now) (copies .ensures)))
+    let bits = network-bits (perm s) (over-taken (a .size) _ (a .list .now) (copies .ensures)) in
+    network .ensures ∙ ap (storeBits (a .program .now) (a .start)) bits
 
 pub store-second-spec : {M : Type 1} → statement M
 store-second-spec =

@@ -25,8 +25,9 @@ room : tie.Need-returns-2
 unfolding bitsAtFault
 room c =
     let a = c .before .before .before .before .before .before .args in
-    second-answers _ _ _ (none (c .before .before))
-    (c .check-bits .ensures ∙ ap (λ k. bitsAtFault k (a .start) (a .room)) (c .before .selection-count .ensures))
+    let count = c .before .selection-count in
+    let answered : answerNumber (c .check-bits .result) ≡ bitsAtFault (count .result) (a .start) (a .room) = c .check-bits .ensures in
+    second-answers _ _ _ (none (c .before .before)) (answered ∙ ap (λ k. bitsAtFault k (a .start) (a .room)) (count .ensures))
 
 pub check-program-spec : {M : Type 1} → statement M
 check-program-spec =

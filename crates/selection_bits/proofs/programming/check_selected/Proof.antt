@@ -38,7 +38,8 @@ again : tie.Need-loop-again Inv-loop μ-loop
 again c =
     let at = c .before .before .before .before .before in
     let a = at .before .before .args in
-    (omega arith, selected-passed (a .m) (a .wanted .now) (at .loop .o) (at .loop .inv .1) (selected-is (a .m) (a .wanted .now) (at .loop .o) (omega arith) (omega arith)))
+    let allowed = selected-is (a .m) (a .wanted .now) (at .loop .o) (omega arith) (omega arith) in
+    (omega arith, selected-passed (a .m) (a .wanted .now) (at .loop .o) (at .loop .inv .1) allowed)
 
 all : tie.Need-returns-3 Inv-loop μ-loop
 unfolding selectedFault

@@ -18,7 +18,8 @@ use Rattle.selection_bits.proofs.programming.program_selection.Tie as t
 
 -- where the checks are done, none fails
 module _ (c : tie.After-enum-told) where
-  none : let a = c .before .before .before .before .before .args in 0 ≡ selectionProgramAtFault (a .m) (a .n) (a .wanted .now) 0 (length (a .program .now))
+  none : let a = c .before .before .before .before .before .args in
+      0 ≡ selectionProgramAtFault (a .m) (a .n) (a .wanted .now) 0 (length (a .program .now))
   none = ap answerNumber (sym (c .enum-told .given .1)) ∙ c .before .before .check-program .ensures
 
   passes : let a = c .before .before .before .before .before .args in SelectionPasses (a .m) (a .n) (a .wanted .now) 0 (length (a .program .now))
@@ -37,7 +38,8 @@ refused : tie.Need-returns
 refused c =
     let f = c .before .f .given in
     let a = c .before .before .before .before .before .before .args in
-    let e = ap answerNumber (sym (f .1)) ∙ c .before .before .before .check-program .ensures ∙ selection-fault-at (a .m) (a .n) (a .wanted .now) (length (a .program .now)) in
+    let front = selection-fault-at (a .m) (a .n) (a .wanted .now) (length (a .program .now)) in
+    let e = ap answerNumber (sym (f .1)) ∙ c .before .before .before .check-program .ensures ∙ front in
     (e, filled-refused (f .0 .0) _ _ _ e)
 
 done : tie.Need-returns-2

@@ -18,10 +18,12 @@ use Rattle.selection_bits.proofs.programming.program_selection_at.Tie a
 
 -- where the checks are done, none fails
 module _ (c : tie.After-enum-told) where
-  none : let a = c .before .before .before .before .before .args in 0 ≡ selectionProgramAtFault (a .m) (a .n) (a .wanted .now) (a .start) (length (a .program .now))
+  none : let a = c .before .before .before .before .before .args in
+      0 ≡ selectionProgramAtFault (a .m) (a .n) (a .wanted .now) (a .start) (length (a .program .now))
   none = ap answerNumber (sym (c .enum-told .given .1)) ∙ c .before .before .check-program .ensures
 
-  passes : let a = c .before .before .before .before .before .args in SelectionPasses (a .m) (a .n) (a .wanted .now) (a .start) (length (a .program .now))
+  passes : let a = c .before .before .before .before .before .args in
+      SelectionPasses (a .m) (a .n) (a .wanted .now) (a .start) (length (a .program .now))
   passes = selection-program-passes (sym none)
 
 starts : tie.Need-sub-store-program

@@ -26,7 +26,7 @@ use Rattle.networks.specs.Counting.{oneIf}
 use Rattle.networks.specs.CountingLaws.{passed}
 use Rattle.networks.specs.Completion.{completed, RisingCompletion}
 use Rattle.networks.specs.CompletionLaws.{taken-here, taken-nowhere}
-use Rattle.networks.specs.Selection.{copies, isWanted, headOf, isHead, positionOf, copyOf, chainProgram}
+use Rattle.networks.specs.Selection.{copies, isWanted, headOf, isHead, positionOf, chainProgram}
 use Rattle.networks.specs.Selection.{wholeCount, selectionLevel, selectionCount, selectionBits}
 use Rattle.networks.specs.SelectionLaws.{inputs-fit, outputs-fit}
 use Rattle.networks.specs.SelectionRouting.{selected-lt, selection-by-lists}
@@ -36,9 +36,33 @@ use Rattle.sizes.specs.SizesLaws.{SizeIs, size-is, power-allowed, side-level}
 use Rattle.permutation_bits.specs.ProgramCalls.{programAtResult}
 use Rattle.permutation_bits.specs.ProgramLaws.{program-at-succeeds, program-stored}
 use Rattle.selection_bits.specs.SelectionProgramLaws.{SelectionPasses}
-use Rattle.selection_bits.specs.Arrays.{Demand, Holds, isCounted, headBy, HeadsFit, positionBy, Positioned, NetworkRoom, networkBits, chainBits, Found}
+use Rattle.selection_bits.specs.Arrays.{Demand, Holds, isCounted, headBy, HeadsFit, positionBy, Positioned, NetworkRoom, Found}
+use Rattle.selection_bits.specs.Arrays.{networkBits, chainBit, chainBits, firstBits, firstCount, secondBits}
 use Rattle.selection_bits.specs.ArraysLaws.{over-front, over-taken}
 use Rattle.selection_bits.specs.CopiesLaws.{copies-none}
+
+-- ---- heads
+
+module _ (want : ℕ → ℕ) (n N : ℕ) (fits : n ≤ N) where
+  -- the input at a position is a wanted one exactly if the position is a head
+  wanted-at-head : (p : ℕ) → p < N → isWanted want n (takerOf N (positionOf want n N) p) ≡ isHead want n N p
+  wanted-at-head p l = go (passed (isWanted want n x))
+    where
+      x : ℕ
+      x = takerOf N (positionOf want n N) p
+
+      there : positionOf want n N x ≡ p
+      there = first-perm want n N fits .to p
+
+      low : x < N
+      low = perm-lt (first-perm want n N fits) p l
+
+      go : (isWanted want n x ≡ true) ⊎ (isWanted want n x ≡ false) → isWanted want n x ≡ isHead want n N p
+      go (inl e) =
+          e ∙ sym (taken-here (isWanted want n) (headOf want n) N p x low e (sym (position-rule want n N fits .given x low e) ∙ there))
+      go (inr e) =
+          e ∙ sym (taken-nowhere (isWanted want n) (headOf want n) N p
+          (λ y m h q. position-rule want n N fits .to-left x low e .other y m h (q ∙ sym there)))
 
 -- ---- positions by counts
 
@@ -52,7 +76,7 @@ module _ (want : ℕ → ℕ) (n : ℕ) {counts : List ℕ} (H : Holds (copies w
   counted-wanted : isCounted counts ≡ isWanted want n
   counted-wanted = fun-ext (λ j. ap (ltb 0) (H .each j))
 
-  pub head-is : (j : ℕ) → headBy counts j ≡ headOf want n j
+  head-is : (j : ℕ) → headBy counts j ≡ headOf want n j
   unfolding headBy headOf
   head-is zero = refl
   head-is (suc j) = ap₂ _+_ (head-is j) (H .each j)
@@ -60,34 +84,13 @@ module _ (want : ℕ → ℕ) (n : ℕ) {counts : List ℕ} (H : Holds (copies w
   pub heads-fit : n ≤ maxSize → HeadsFit counts
   heads-fit few = record { size = H .size; each = λ j. omega (arith, head-is j, head-le want n j) }
 
-  module _ (N : ℕ) (fits : n ≤ N) where
-    pub positioned : Positioned N counts
-    positioned =
-        let h = same-completion N counted-wanted (fun-ext head-is) (first-perm want n N fits, position-rule want n N fits) in
-        record { once = h .0; rule = h .1 }
+  pub positioned : (N : ℕ) → n ≤ N → Positioned N counts
+  positioned N fits =
+      let h = same-completion N counted-wanted (fun-ext head-is) (first-perm want n N fits, position-rule want n N fits) in
+      record { once = h .0; rule = h .1 }
 
-    pub positions-are : positionBy counts N ≡ positionOf want n N
-    positions-are = ap₂ (completed N) counted-wanted (fun-ext head-is)
-
-    -- the input at a position is a wanted one exactly if the position is a head
-    wanted-at-head : (p : ℕ) → p < N → isWanted want n (takerOf N (positionOf want n N) p) ≡ isHead want n N p
-    wanted-at-head p l = go (passed (isWanted want n x))
-      where
-        x : ℕ
-        x = takerOf N (positionOf want n N) p
-
-        there : positionOf want n N x ≡ p
-        there = first-perm want n N fits .to p
-
-        low : x < N
-        low = perm-lt (first-perm want n N fits) p l
-
-        go : (isWanted want n x ≡ true) ⊎ (isWanted want n x ≡ false) → isWanted want n x ≡ isHead want n N p
-        go (inl e) =
-            e ∙ sym (taken-here (isWanted want n) (headOf want n) N p x low e (sym (position-rule want n N fits .given x low e) ∙ there))
-        go (inr e) =
-            e ∙ sym (taken-nowhere (isWanted want n) (headOf want n) N p
-            (λ y m h q. position-rule want n N fits .to-left x low e .other y m h (q ∙ sym there)))
+  positions-are : (N : ℕ) → positionBy counts N ≡ positionOf want n N
+  positions-are N = ap₂ (completed N) counted-wanted (fun-ext head-is)
 
 -- ---- what is found
 
@@ -115,7 +118,7 @@ found {N} {wanted} {counts} {heads} {list} W H heads₀ list₀ sh sl eh el =
           ap (λ a. getD a (mapping wanted x) 0) eh ∙ over-front N (headBy counts) heads₀ (mapping wanted x) (selected-lt (W .inputs) x l)
           ∙ head-is want n H (mapping wanted x));
       listSize = sl;
-      listed = over-taken N _ list₀ el ∙ ap (λ g. wantedOf N (takerOf N g)) (positions-are want n H N (W .few));
+      listed = over-taken N _ list₀ el ∙ ap (λ g. wantedOf N (takerOf N g)) (positions-are want n H N);
     }
 
 -- ---- a network
@@ -130,8 +133,9 @@ pub network-stored : {list : List ℕ} {start : ℕ} (program : List ℕ) → Ne
     → programAtResult (length list) list start program ≡ storeBits program start (networkBits list)
 network-stored {list} {start} program R =
     let p = R .size .power in
-    program-stored (length list) list start program
-    (rw p at (program-at-succeeds (levelOf (length list)) {wanted = list} start (length program) (R .size .level) (rw p (R .names)) (rw p (R .fits)))) .1
+    let level : ℕ = levelOf (length list) in
+    let done = program-at-succeeds level {wanted = list} start (length program) (R .size .level) (rw p (R .names)) (rw p (R .fits)) in
+    program-stored (length list) list start program (rw p at done) .1
 
 -- the list of a one-to-one mapping
 module _ {N : ℕ} {π ρ : ℕ → ℕ} (P : Perm N π ρ) {list : List ℕ} (e : list ≡ wantedOf N π) where
@@ -156,18 +160,20 @@ module _ {N : ℕ} {wanted counts heads list : List ℕ} (F : Found N wanted cou
   listed-at : (p : ℕ) → p < N → getD (take N list) p 0 ≡ suc (takerOf N (positionOf want n N) p)
   listed-at p l = ap (λ a. getD a p 0) (F .listed) ∙ getD-listOf N _ p 0 l
 
+  chain-bit-is : (i : ℕ) → i + 1 < N → isCounted counts (getD (take N list) (i + 1) 0 - 1) ≡ isHead want n N (suc i)
+  chain-bit-is i p =
+      let x = getD (take N list) (i + 1) 0 - 1 in
+      let input : x ≡ takerOf N (positionOf want n N) (i + 1) = omega (arith, listed-at (i + 1) p) in
+      ap (ltb 0) (F .counted .each x) ∙ ap (isWanted want n) input ∙ wanted-at-head want n N fits (i + 1) p ∙ ap (isHead want n N) (add-one i)
+
   chain-is : (level : ℕ) → N ≡ 2 ^ level → chainBits counts (take N list) ≡ chainProgram want n level
   chain-is level e =
       let l : length (take N list) ≡ N = ap length (F .listed) ∙ length-listOf N _ in
-      rw (l, ← e) (listOf-ext (N - 1) _ _ (λ i k.
-      let p : i + 1 < N = omega arith in
-      let input : getD (take N list) (i + 1) 0 - 1 ≡ takerOf N (positionOf want n N) (i + 1) = omega (arith, listed-at (i + 1) p) in
-      ap oneIf (ap (λ (f : ℕ → Bool). f (getD (take N list) (i + 1) 0 - 1)) (counted-wanted want n (F .counted)) ∙ ap (isWanted want n) input
-      ∙ wanted-at-head want n (F .counted) N fits (i + 1) p ∙ ap (isHead want n N) (add-one i))))
+      rw (l, ← e) (listOf-ext (N - 1) _ _ (λ i k. ap oneIf (chain-bit-is i (omega arith))))
 
   -- the first network, the chain, the second network
   parts : (m k : ℕ) → n ≡ k → N ≡ 2 ^ selectionLevel m k
-      → (networkBits (take N list) ++ chainBits counts (take N list)) ++ wantedBits (levelOf N) (wantedOf N (copyOf want n)) ≡ selectionBits m k wanted
+      → firstBits counts (take N list) ++ secondBits N wanted ≡ selectionBits m k wanted
   parts m k size e =
       let level : ℕ = selectionLevel m k in
       let same : levelOf N ≡ level = ap ceilLog e ∙ ceilLog-power level in
@@ -177,14 +183,13 @@ module _ {N : ℕ} {wanted counts heads list : List ℕ} (F : Found N wanted cou
   -- stored one behind the other
   pub program-whole : (m k : ℕ) → n ≡ k → N ≡ 2 ^ selectionLevel m k → (program : List ℕ) (start : ℕ) {first last : List ℕ} {second : ℕ}
       → let L : List ℕ = take N list in
-      second ≡ start + (permutationCount (levelOf (length L)) + (length L - 1))
-      → first ≡ storeBits program start (networkBits L ++ chainBits counts L)
-      → last ≡ storeBits first second (wantedBits (levelOf N) (wantedOf N (copyOf want n)))
+      second ≡ start + firstCount (length L) → first ≡ storeBits program start (firstBits counts L) → last ≡ storeBits first second (secondBits N wanted)
       → last ≡ storeBits program start (selectionBits m k wanted)
   program-whole m k size e program start at one two =
       let L : List ℕ = take N list in
-      rw (two, at, one) (stored-behind program start (networkBits L ++ chainBits counts L) _ _
-      (length-append (networkBits L) (chainBits counts L) ∙ ap₂ _+_ (length-wantedBits (levelOf (length L)) L) (length-listOf (length L - 1) _))
+      let sizes = ap₂ _+_ (length-wantedBits (levelOf (length L)) L) (length-listOf (length L - 1) (chainBit counts L)) in
+      rw (two, at, one) (stored-behind program start (firstBits counts L) (secondBits N wanted) (firstCount (length L))
+      (length-append (networkBits L) (chainBits counts L) ∙ sizes)
       ∙ ap (storeBits program start) (parts m k size e))
 
 -- ---- where the checks pass
@@ -198,12 +203,16 @@ module _ {m n : ℕ} {wanted : List ℕ} {start room : ℕ} (P : SelectionPasses
       let W = P .selected in
       let size = W .size in
       record {
-        inputs = record { size = refl; low = λ o l. W .low o (rw (← size) l); high = λ o l. omega (arith, W .high o (rw (← size) l), inputs-fit m n) };
+        inputs = record {
+          size = refl;
+          low = λ o l. W .low o (rw (← size) l);
+          high = λ o l. omega (arith, W .high o (rw (← size) l), inputs-fit m n);
+        };
         few = omega (arith, outputs-fit m n);
         most = size-allowed .most;
       }
 
-  count-by-parts : permutationCount (levelOf N) + (N - 1) + permutationCount (levelOf N) ≡ selectionCount m n
+  count-by-parts : firstCount N + permutationCount (levelOf N) ≡ selectionCount m n
   unfolding selectionCount wholeCount
   count-by-parts = rw (e, ceilLog-power (selectionLevel m n)) (add-assoc (permutationCount (selectionLevel m n)) _ _)
 
@@ -211,6 +220,5 @@ module _ {m n : ℕ} {wanted : List ℕ} {start room : ℕ} (P : SelectionPasses
   first-room = omega (arith, count-by-parts, P .fits)
 
   -- behind the first network's bits and the chain's
-  pub second-room : {k second : ℕ} → k ≡ N → second ≡ start + (permutationCount (levelOf k) + (k - 1))
-      → second + permutationCount (levelOf N) ≤ 8 * room
+  pub second-room : {k second : ℕ} → k ≡ N → second ≡ start + firstCount k → second + permutationCount (levelOf N) ≤ 8 * room
   second-room l s = rw (s, l) (omega (arith, count-by-parts, P .fits))
