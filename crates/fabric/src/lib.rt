@@ -1,0 +1,7 @@
+// The contact fabric: counting, its table for three counts, and the run of any table with any program. Every call takes all inputs, refuses by
+// document 01's numbers in its order, and on a refusal changes no buffer.
+pub use fabric_rows::CountAnswer;
+pub use fabric_rows::Counts;
+pub use fabric_rows::count_fabric;
+pub use fabric_rows::write_fabric;
+pub use run::run;

@@ -1,0 +1,86 @@
+-- `fabric_rows::writing::put_fabric` meets its contract: the header, then part after part in its own stretch. Assumes nothing.
+use mathlib.Core.List.{List}
+use Prim.Native.Nat.{ℕ}
+use borrow.Author.Needs.{needs}
+use lib.ListN.{replicate}
+use Rattle.fault.specs.PartsLaws.{withPart}
+use Rattle.plan.specs.Record.{maxGates}
+use Rattle.universal.specs.Tables.{header}
+use Rattle.fabric_rows.specs.declared.writing.Layout.{Layout}
+use Rattle.fabric_rows.specs.Writing.{maxPins}
+use Rattle.fabric_rows.specs.WritingLaws.{Begun, PinsDone, GatesDone, pin-room, gates-room, output-room, table-written}
+use Rattle.fabric_rows.proofs.writing.put_fabric.Statement.{statement}
+use Rattle.fabric_rows.proofs.writing.put_fabric.Tie as tie
+
+-- the way back from S(K, v) to U(K), to S(u, 2K), to the header, to the layout
+abbrev gates : tie.After-put-outputs → tie.After-put-gates
+gates c = c .before .before .before .before .before .before .before
+
+abbrev pins : tie.After-put-gates → tie.After-put-pins
+pins c = c .before .before .before .before .before .before .before
+
+abbrev headed : tie.After-put-pins → tie.After-put-header
+headed c = c .before .before .before .before .before
+
+abbrev laid : tie.After-put-header → tie.After-layout-of
+laid c = c .before .before
+
+abbrev layout : tie.After-put-header → Layout
+layout c = laid c .layout-of .result
+
+-- the steps
+begun : (c : tie.After-put-header) → (
+    let a = laid c .before .before .args in
+    Begun (a .u) (a .k) (a .v) (layout c) (a .table .now) (c .put-header .last .1 .1 .1 .0))
+begun c = record { passes = laid c .before .before .pre; layout = laid c .layout-of .ensures; headed = c .put-header .ensures }
+
+abbrev pinRows : tie.After-put-pins → List ℕ
+pinRows c = withPart header (headed c .put-header .last .1 .1 .1 .0) (c .put-pins .last .1 .1 .0)
+
+pins-done : (c : tie.After-put-pins) → (
+    let h = headed c in
+    PinsDone (laid h .before .before .args .u) (layout h) (h .put-header .last .1 .1 .1 .0) (replicate maxPins 0) (c .put-pins .last .1 .1 .0)
+    (c .put-pins .last .1 .1 .1 .0))
+pins-done c = record { rows = c .put-pins .ensures .0; pins = c .put-pins .ensures .1 }
+
+abbrev gateRows : tie.After-put-gates → List ℕ
+gateRows c = withPart (layout (headed (pins c)) .universal) (pinRows (pins c)) (c .put-gates .last .1 .1 .0)
+
+gates-done : (c : tie.After-put-gates) → (
+    let p = pins c in
+    GatesDone (layout (headed p)) (pinRows p) (p .put-pins .last .1 .1 .1 .0) (replicate maxGates 0) (c .put-gates .last .1 .1 .0)
+    (c .put-gates .last .1 .1 .1 .1 .0))
+gates-done c = record { rows = c .put-gates .ensures .0; outs = c .put-gates .ensures .1 }
+
+for-pins : tie.Need-put-pins-requires
+for-pins c κs = pin-room (begun (c .before .before .before .before))
+
+for-gates : tie.Need-put-gates-requires
+for-gates c κs =
+    let p = c .before .before .before .before .before .before in
+    let kept = p .put-pins .kept .1 .1 .1 .0 in
+    rw kept (gates-room (begun (headed p)) (pins-done p))
+
+for-outputs : tie.Need-put-outputs-requires
+for-outputs c κs =
+    let g = c .before .before .before .before .before .before in
+    output-room (begun (headed (pins g))) (pins-done (pins g)) (gates-done g)
+
+written : tie.Need-returns
+written c =
+    let o = c .before .before in
+    let g = gates o in
+    table-written (begun (headed (pins g))) (pins-done (pins g)) (gates-done g) (o .put-outputs .ensures)
+
+pub put-fabric-spec : {M : Type 1} → statement M
+put-fabric-spec =
+    tie.close
+    (tie.spec
+    (λ c κs. search needs) (λ c κs. search needs)
+    -- S(u, 2K) and its stretch
+    (λ c. search needs) (λ c. search needs) (λ c. search needs) (λ c. search needs) for-pins
+    -- U(K) and its stretch
+    (λ c. search needs) (λ c. search needs) (λ c. search needs) (λ c. search needs) (λ c. search needs) (λ c. search needs) for-gates
+    -- S(K, v) and its stretch
+    (λ c. search needs) (λ c. search needs) (λ c. search needs) (λ c. search needs) (λ c. search needs) for-outputs
+    (λ c. search needs) written)

@@ -1,0 +1,351 @@
+-- Writing the fabric's table, in the code's order: the header, the rows of S(u, 2K), of U(K), of S(K, v), and the output wires follow each other,
+-- and what each part gives feeds the next.
+use mathlib.Core.Path.{_≡_, refl, sym, ap, ap₂, _∙_}
+use mathlib.Core.List.{List, [], _∷_, _++_, append-assoc}
+use Prim.Native.Nat.{ℕ, zero, suc, _+_, _-_, _*_, _^_, _<_, _≤_}
+use native.Mathlib.Nat.{not-suc-le-zero}
+use native.Mathlib.Numerals.{add-one}
+use native.Mathlib.Omega.{arith}
+use borrow.Rule.Slice.PartMut.{mid-len}
+use lib.ListN.{length, set, take, drop, length-append}
+use lib.Pow.{pow-mono}
+use lib.Seq.{take-at, take-all, length-take-le}
+use Rattle.lists.specs.Lists.{listOf}
+use Rattle.lists.specs.ListsLaws.{listOf-ext}
+use Rattle.fault.specs.Buffers.{over}
+use Rattle.fault.specs.PartsLaws.{partOf, withPart, length-over, over-part}
+use Rattle.plan.specs.Record.{maxInputs, maxGates, maxOutputs}
+use Rattle.plan.specs.FaultsLaws.{CountsWithin}
+use Rattle.networks.specs.Rows.{stride, flat}
+use Rattle.networks.specs.RowsLaws.{flat-append}
+use Rattle.networks.specs.Selection.{selectionRows, selectionOuts, selectionCount, selectionWires}
+use Rattle.networks.specs.SelectionLaws.{length-selectionOuts}
+use Rattle.elements.specs.Wires.{maxWires, wiresPut}
+use Rattle.elements.specs.WiresLaws.{wires-put}
+use Rattle.selection_rows.specs.SelectionWriteLaws.{SelectionWritePasses}
+use Rattle.universal.specs.Selector.{pinCount, selection}
+use Rattle.universal.specs.Universal.{universalCount, universalWires, universalOuts, universalRows}
+use Rattle.universal.specs.UniversalLaws.{length-universalOuts}
+use Rattle.universal.specs.Fabric.{gateLevel, inputWires, fabricPins, universalNext, outputNext, gateOuts, fabricRows, fabricOuts}
+use Rattle.universal.specs.Fabric.{fabricCount, fabricWires, fabricTable}
+use Rattle.universal.specs.FabricLaws.{length-inputWires, inputs-below, gates-below, fabric-within, length-fabricTable}
+use Rattle.universal.specs.Tables.{header}
+use Rattle.fabric_rows.specs.declared.counting.FabricParts.{FabricParts}
+use Rattle.fabric_rows.specs.declared.writing.Layout.{Layout}
+use Rattle.fabric_rows.specs.FabricCalls.{tableLength}
+use Rattle.fabric_rows.specs.Counting.{FabricPartsAre}
+use Rattle.fabric_rows.specs.Writing.{maxPins, FabricPasses, LayoutIs, PinRoom, GatesRoom, OutputRoom}
+use Rattle.fabric_rows.specs.BlockLaws.{length-selection}
+use Rattle.fabric_rows.specs.UniversalWriteLaws.{length-universal}
+
+-- ---- where the parts begin
+
+-- what the code computes from the parts' counts
+pub record LaidOut (u v : ℕ) (p : FabricParts) (l : Layout) : Type 0 where
+  pub isRows : l .rows ≡ p .pins .rows + p .universal .rows + p .outputs .rows
+  pub isLevel : l .level ≡ p .gates .level
+  pub isPlaces : l .places ≡ p .gates .places
+  pub arePins : l .pins ≡ 2 * p .gates .places
+  pub universalAt : l .universal ≡ header + stride * p .pins .rows
+  pub outputsAt : l .outputs ≡ header + stride * (p .pins .rows + p .universal .rows)
+  pub endAt : l .end ≡ stride * p .outputs .rows
+  pub isLength : l .length ≡ header + stride * l .rows + v
+  pub universalFrom : l .«universal_next» .0 ≡ 1 + u + p .pins .wires
+  pub outputFrom : l .«output_next» .0 ≡ 1 + u + p .pins .wires + p .universal .wires
+
+pub layout-is : {u k v : ℕ} {p : FabricParts} {l : Layout} → CountsWithin u k v → FabricPartsAre u k v p → LaidOut u v p l → LayoutIs u k v l
+unfolding fabricCount fabricWires
+layout-is {u} {k} {v} {p} {l} within parts at =
+    let few = fabric-within u k v within in
+    let g = parts .gatesAre in
+    let pinRows = parts .pinsAre .isRows in
+    let pinWires = parts .pinsAre .isWires in
+    let gateRows = parts .universalIs .rowsAre .isRows in
+    let gateWires = parts .universalIs .wiresAre .isWires in
+    let outRows = parts .outputsAre .isRows in
+    let isRows : l .rows ≡ fabricCount u k v = omega (arith, at .isRows) in
+    record {
+      isRows = isRows;
+      fewRows = omega (arith, few .rows);
+      isLevel = at .isLevel ∙ g .isLevel;
+      lowLevel = omega (arith, at .isLevel, g .lowLevel);
+      isPlaces = at .isPlaces ∙ g .isPlaces;
+      somePlaces = omega (arith, at .isPlaces, g .somePlaces);
+      fewPlaces = omega (arith, at .isPlaces, g .fewPlaces);
+      arePins = at .arePins ∙ ap (λ n. 2 * n) (g .isPlaces);
+      universalAt = omega (arith, at .universalAt);
+      outputsAt = omega (arith, at .universalAt, at .outputsAt);
+      endAt = omega (arith, at .endAt);
+      isLength = at .isLength ∙ ap (λ n. header + stride * n + v) isRows;
+      whole = omega (arith, at .isLength, at .isRows, at .outputsAt, at .endAt);
+      universalFrom = omega (arith, at .universalFrom);
+      outputFrom = omega (arith, at .outputFrom);
+      wires = omega (arith, few .wires);
+    }
+
+-- ---- the header
+
+pub header-put : (u v rows : ℕ) (T : List ℕ) → header ≤ length T → set (set (set T 0 u) 1 v) 2 rows ≡ over (u ∷ v ∷ rows ∷ []) T
+header-put u v rows [] h = absurd (omega arith)
+header-put u v rows (a ∷ []) h = absurd (omega arith)
+header-put u v rows (a ∷ b ∷ []) h = absurd (omega arith)
+header-put u v rows (a ∷ b ∷ c ∷ T) h = refl
+
+-- ---- the pins: the wires 1 to u stand in the front of the list A
+
+module _ {u count rows pins : ℕ} {A : List ℕ} (I : List ℕ) (room : PinRoom u count rows pins) (long : length I ≡ maxInputs) (put : A ≡ wiresPut u 1 1 I) where
+  inputs-put : take u A ≡ inputWires u
+  unfolding inputWires
+  inputs-put =
+      let few = room .inputs in
+      let same : listOf u (λ i. 1 + 1 * i) ≡ inputWires u = listOf-ext u _ _ (λ i l. omega arith) in
+      let e = put ∙ wires-put u 1 1 I (record { room = omega arith; each = λ i l. omega arith }) ∙ ap (λ l. over l I) same in
+      rw e (take-at (inputWires u) (drop (length (inputWires u)) I) u (length-inputWires u))
+
+  pub pins-pass : SelectionWritePasses u count (take u A) (u + 1) rows pins
+  pins-pass = rw (inputs-put, add-one u) (room .passes)
+
+  pub pins-put : (R₀ R P₀ P : List ℕ)
+      → (R ≡ over (flat (selectionRows u count (take u A) (u + 1))) R₀) × (P ≡ over (selectionOuts u count (take u A) (u + 1)) P₀)
+      → (R ≡ over (flat (selectionRows u count (inputWires u) (suc u))) R₀) × (P ≡ over (selectionOuts u count (inputWires u) (suc u)) P₀)
+  pins-put R₀ R P₀ P w = rw (inputs-put, add-one u) at w
+
+-- ---- the outputs: R is the table's part after the rows of S(K, v), L its list of output wires, F the stretch behind the rows
+
+pub outputs-put : {places v end next : ℕ} {gates : List ℕ} (R₀ R L₀ L F : List ℕ) → OutputRoom places v end next gates (length R₀)
+    → (R ≡ over (flat (selectionRows places v (take places gates) next)) R₀) × (L ≡ over (selectionOuts places v (take places gates) next) L₀)
+    → F ≡ over (take (length (partOf end R)) (take v L)) (partOf end R)
+    → withPart end R F ≡ over (flat (selectionRows places v (take places gates) next) ++ selectionOuts places v (take places gates) next) R₀
+outputs-put {places} {v} {end} {next} {gates} R₀ R L₀ L F room done copied =
+    let ins = take places gates in
+    let A = flat (selectionRows places v ins next) in
+    let O = selectionOuts places v ins next in
+    let a : length A ≡ end = length-selection places v ins next ∙ sym (room .endAt) in
+    let o : length O ≡ v = length-selectionOuts places v ins next in
+    let enough = room .enough in
+    let long : length R ≡ length R₀ = ap length (done .0) ∙ length-over A R₀ (omega arith) in
+    let rest : length (partOf end R) ≡ length R₀ - end = mid-len end (length R) R (omega arith) ∙ ap (λ n. n - end) long in
+    let front : take v L ≡ O = rw (done .1) (take-at O (drop (length O) L₀) v o) in
+    let all : take (length (partOf end R)) (take v L) ≡ O = ap (take (length (partOf end R))) front ∙ take-all (length (partOf end R)) O (omega arith) in
+    over-part A R₀ R end a (omega arith) (done .0) O F (omega arith) (copied ∙ ap (λ l. over l (partOf end R)) all)
+
+-- ---- the steps. T is the table, with a number for each step, F what a callee was lent of it; P and O the lists of pins and of the gates' wires
+
+pub record Begun (u k v : ℕ) (l : Layout) (T₀ T₁ : List ℕ) : Type 0 where
+  pub passes : FabricPasses u k v (length T₀)
+  pub layout : LayoutIs u k v l
+  pub headed : T₁ ≡ over (u ∷ v ∷ l .rows ∷ []) T₀
+
+pub record PinsDone (u : ℕ) (l : Layout) (T₁ P₀ F₂ P₂ : List ℕ) : Type 0 where
+  pub rows : F₂ ≡ over (flat (selectionRows u (l .pins) (inputWires u) (suc u))) (partOf header T₁)
+  pub pins : P₂ ≡ over (selectionOuts u (l .pins) (inputWires u) (suc u)) P₀
+
+pub record GatesDone (l : Layout) (T₂ P₂ O₀ F₃ O₃ : List ℕ) : Type 0 where
+  pub rows :
+      F₃ ≡ over (flat (universalRows selection (l .level) (take (pinCount (l .level)) P₂) (l .«universal_next» .0))) (partOf (l .universal) T₂)
+  pub outs : O₃ ≡ over (universalOuts selection (l .level) (l .«universal_next» .0)) O₀
+
+module _ {u k v : ℕ} {l : Layout} {T₀ T₁ : List ℕ} (begun : Begun u k v l T₀ T₁) where
+  abbrev n : ℕ
+  n = gateLevel k
+
+  at : LayoutIs u k v l
+  at = begun .layout
+
+  abbrev H : List ℕ
+  H = u ∷ v ∷ l .rows ∷ []
+
+  enough : l .length ≤ length T₀
+  enough = omega (arith, at .isLength, begun .passes .enough)
+
+  length-T₁ : length T₁ ≡ length T₀
+  length-T₁ = ap length (begun .headed) ∙ length-over H T₀ (omega (arith, enough, at .isLength))
+
+  count-is : selectionCount u (l .pins) ≡ selectionCount u (pinCount n)
+  count-is = ap (selectionCount u) (at .arePins)
+
+  wires-are : selectionWires u (l .pins) ≡ selectionWires u (pinCount n)
+  wires-are = ap (selectionWires u) (at .arePins)
+
+  few-pins : (1 ≤ l .pins) × (l .pins ≤ maxPins)
+  few-pins =
+      let pins : l .pins ≡ 2 * l .places = at .arePins ∙ ap (λ m. 2 * m) (sym (at .isPlaces)) in
+      (omega (arith, at .somePlaces), omega (arith, at .fewPlaces))
+
+  pub pin-room : PinRoom u (l .pins) (length (partOf header T₁)) maxPins
+  pin-room =
+      let counts = begun .passes .counts in
+      let pins = few-pins in
+      record {
+        inputs = counts .inputs;
+        passes = record {
+          sides = record {
+            someInputs = counts .someInputs;
+            inputs = omega (arith, counts .inputs);
+            someOutputs = pins .0;
+            outputs = pins .1;
+          };
+          inputs = length-inputWires u;
+          made = inputs-below u;
+          wires = λ _. omega (arith, wires-are, at .wires);
+          rowRoom = rw (mid-len header (length T₁) T₁ (omega arith))
+              (omega (arith, count-is, length-T₁, enough, at .whole, at .outputsAt, at .universalAt));
+          outputRoom = pins .1;
+        };
+      }
+
+  -- after S(u, 2K)
+  module _ {P₀ F₂ P₂ : List ℕ} (pinned : PinsDone u l T₁ P₀ F₂ P₂) where
+    abbrev A : List ℕ
+    A = flat (selectionRows u (pinCount n) (inputWires u) (suc u))
+
+    abbrev T₂ : List ℕ
+    T₂ = withPart header T₁ F₂
+
+    length-A : header + length A ≡ l .universal
+    length-A = omega (arith, length-selection u (pinCount n) (inputWires u) (suc u), at .universalAt)
+
+    pins-rows : T₂ ≡ over (H ++ A) T₀
+    pins-rows =
+        over-part H T₀ T₁ header refl (omega (arith, enough, at .isLength)) (begun .headed) A F₂
+        (omega (arith, length-A, enough, at .whole, at .outputsAt))
+        (pinned .rows ∙ ap (λ m. over (flat (selectionRows u m (inputWires u) (suc u))) (partOf header T₁)) (at .arePins))
+
+    length-first : length (H ++ A) ≡ l .universal
+    length-first = length-append H A ∙ length-A
+
+    length-T₂ : length T₂ ≡ length T₀
+    length-T₂ = ap length pins-rows ∙ length-over (H ++ A) T₀ (omega (arith, length-first, enough, at .whole, at .outputsAt))
+
+    pins-are : take (pinCount (l .level)) P₂ ≡ fabricPins u k
+    pins-are =
+        let outs = selectionOuts u (l .pins) (inputWires u) (suc u) in
+        let long : length outs ≡ pinCount (l .level) =
+        length-selectionOuts u (l .pins) (inputWires u) (suc u) ∙ at .arePins ∙ ap pinCount (sym (at .isLevel)) in
+        rw (pinned .pins) (take-at outs (drop (length outs) P₀) (pinCount (l .level)) long)
+        ∙ ap (λ m. selectionOuts u m (inputWires u) (suc u)) (at .arePins)
+
+    rows-at : universalCount selection (l .level) ≡ universalCount selection n
+    rows-at = ap (universalCount selection) (at .isLevel)
+
+    pub gates-room : GatesRoom (l .level) (l .«universal_next» .0) (length (partOf (l .universal) T₂)) maxPins maxGates
+    gates-room =
+        let power : 2 ^ l .level ≡ l .places = ap (λ m. 2 ^ m) (at .isLevel) ∙ sym (at .isPlaces) in
+        let few = at .fewPlaces in
+        record {
+          fits = record {
+            small = at .lowLevel;
+            wires = omega (arith, at .universalFrom, ap (universalWires selection) (at .isLevel), at .wires);
+            rowRoom = rw (mid-len (l .universal) (length T₂) T₂ (omega arith)) (omega (arith, length-T₂, rows-at, enough, at .whole, at .outputsAt));
+            pinRoom = omega arith;
+            outRoom = omega arith;
+            selectedRoom = omega arith;
+          };
+        }
+
+    pub gates-start : l .universal ≤ length T₂
+    gates-start = omega (arith, length-T₂, enough, at .whole, at .outputsAt)
+
+    -- after U(K)
+    module _ {O₀ F₃ O₃ : List ℕ} (gated : GatesDone l T₂ P₂ O₀ F₃ O₃) where
+      abbrev B : List ℕ
+      B = flat (universalRows selection n (fabricPins u k) (universalNext u k))
+
+      abbrev T₃ : List ℕ
+      T₃ = withPart (l .universal) T₂ F₃
+
+      length-B : length B ≡ stride * universalCount selection n
+      length-B = length-universal n (fabricPins u k) (universalNext u k)
+
+      gate-rows : F₃ ≡ over B (partOf (l .universal) T₂)
+      gate-rows =
+          gated .rows
+          ∙ ap (λ ps. over (flat (universalRows selection (l .level) ps (l .«universal_next» .0))) (partOf (l .universal) T₂)) pins-are
+          ∙ ap₂ (λ m k′. over (flat (universalRows selection m (fabricPins u k) k′)) (partOf (l .universal) T₂)) (at .isLevel) (at .universalFrom)
+
+      gates-rows : T₃ ≡ over ((H ++ A) ++ B) T₀
+      gates-rows =
+          over-part (H ++ A) T₀ T₂ (l .universal) length-first (omega (arith, enough, at .whole, at .outputsAt)) pins-rows B F₃
+          (omega (arith, length-B, enough, at .whole, at .outputsAt)) gate-rows
+
+      length-second : length ((H ++ A) ++ B) ≡ l .outputs
+      length-second = length-append (H ++ A) B ∙ omega (arith, length-first, length-B, at .outputsAt)
+
+      length-T₃ : length T₃ ≡ length T₀
+      length-T₃ = ap length gates-rows ∙ length-over ((H ++ A) ++ B) T₀ (omega (arith, length-second, enough, at .whole))
+
+      gates-are : take (l .places) O₃ ≡ gateOuts u k
+      gates-are =
+          let outs = universalOuts selection (l .level) (l .«universal_next» .0) in
+          let long : length outs ≡ l .places =
+          length-universalOuts selection (l .level) (l .«universal_next» .0) ∙ ap (λ m. 2 ^ m) (at .isLevel) ∙ sym (at .isPlaces) in
+          rw (gated .outs) (take-at outs (drop (length outs) O₀) (l .places) long)
+          ∙ ap₂ (universalOuts selection) (at .isLevel) (at .universalFrom)
+
+      pub outputs-start : l .outputs ≤ length T₃
+      outputs-start = omega (arith, length-T₃, enough, at .whole)
+
+      pub output-room : OutputRoom (l .places) v (l .end) (l .«output_next» .0) O₃ (length (partOf (l .outputs) T₃))
+      output-room =
+          let counts = begun .passes .counts in
+          let endIs : l .end ≡ stride * selectionCount (l .places) v =
+          at .endAt ∙ ap (λ m. stride * selectionCount m v) (sym (at .isPlaces)) in
+          let rest : length (partOf (l .outputs) T₃) ≡ length T₀ - l .outputs =
+          mid-len (l .outputs) (length T₃) T₃ (omega arith) ∙ ap (λ m. m - l .outputs) length-T₃ in
+          record {
+            passes = record {
+              sides = record {
+                someInputs = at .somePlaces;
+                inputs = omega (arith, at .fewPlaces);
+                someOutputs = counts .someOutputs;
+                outputs = omega (arith, counts .outputs);
+              };
+              inputs = ap length gates-are ∙ length-universalOuts selection n (universalNext u k) ∙ sym (at .isPlaces);
+              made = rw (gates-are, at .outputFrom) (gates-below u k v);
+              wires = λ _. omega (arith, at .outputFrom, ap (λ m. selectionWires m v) (at .isPlaces), at .wires);
+              rowRoom = omega (arith, rest, enough, at .whole);
+              outputRoom = counts .outputs;
+            };
+            endAt = endIs;
+            enough = omega (arith, rest, enough, at .whole);
+          }
+
+      -- after S(K, v)
+      module _ {F₄ : List ℕ} (out : F₄ ≡ over (flat (selectionRows (l .places) v (take (l .places) O₃) (l .«output_next» .0))
+          ++ selectionOuts (l .places) v (take (l .places) O₃) (l .«output_next» .0)) (partOf (l .outputs) T₃)) where
+        abbrev C : List ℕ
+        C = flat (selectionRows (2 ^ n) v (gateOuts u k) (outputNext u k)) ++ fabricOuts u k v
+
+        output-rows : F₄ ≡ over C (partOf (l .outputs) T₃)
+        unfolding fabricOuts
+        output-rows =
+            out
+            ∙ ap (λ (gs : List ℕ). over (flat (selectionRows (l .places) v gs (l .«output_next» .0))
+            ++ selectionOuts (l .places) v gs (l .«output_next» .0)) (partOf (l .outputs) T₃)) gates-are
+            ∙ ap₂ (λ m k′. over (flat (selectionRows m v (gateOuts u k) k′) ++ selectionOuts m v (gateOuts u k) k′) (partOf (l .outputs) T₃))
+            (at .isPlaces) (at .outputFrom)
+
+        length-C : length C ≡ l .end + v
+        unfolding fabricOuts
+        length-C =
+            length-append (flat (selectionRows (2 ^ n) v (gateOuts u k) (outputNext u k))) (fabricOuts u k v)
+            ∙ omega (
+              arith,
+              length-selection (2 ^ n) v (gateOuts u k) (outputNext u k),
+              length-selectionOuts (2 ^ n) v (gateOuts u k) (outputNext u k),
+              at .endAt,
+            )
+
+        table-parts : ((H ++ A) ++ B) ++ C ≡ fabricTable u k v
+        unfolding fabricTable fabricRows
+        table-parts =
+            append-assoc (H ++ A) B C
+            ∙ append-assoc H A (B ++ C)
+            ∙ ap (λ m. u ∷ v ∷ m ∷ (A ++ (B ++ C))) (at .isRows)
+            ∙ ap (λ (t : List ℕ). u ∷ v ∷ fabricCount u k v ∷ t) (simp (flat-append, append-assoc))
+
+        pub table-written : withPart (l .outputs) T₃ F₄ ≡ over (fabricTable u k v) T₀
+        table-written =
+            over-part ((H ++ A) ++ B) T₀ T₃ (l .outputs) length-second (omega (arith, enough, at .whole)) gates-rows C F₄
+            (omega (arith, length-C, enough, at .whole)) output-rows
+            ∙ ap (λ t. over t T₀) table-parts
