@@ -1,6 +1,7 @@
 /*
  * Mukdalis, the contact fabric library: plans, their faults and their evaluation; the permutation
- * network P and the selection network S of the block library, their rows and their programs.
+ * network P and the selection network S of the block library, their rows and their programs; the
+ * fabric of three counts and the run of a fabric table.
  *
  * Every call takes all inputs and refuses bad ones. It answers a number: 0 for done, any other
  * the row of the refusal table below whose check failed first. A refusal writes through no
@@ -193,6 +194,62 @@ uint32_t mkd_selection_write(uint32_t m, uint32_t n, const uint16_t *inputs, siz
  */
 uint32_t mkd_selection_program(uint32_t m, uint32_t n, const uint16_t *wanted, size_t wanted_len,
                                uint8_t *program, size_t program_len);
+
+/* The answer of a counting: of the fabric of u, k and v. */
+struct mkd_counts {
+    uint32_t number; /* 0, or the refusal */
+    uint32_t rows;
+    uint32_t wires; /* 0 is constant zero, 1 to u the inputs, then those that the rows make */
+    uint32_t bits;  /* program bits */
+};
+
+/*
+ * Counts the rows, wires and program bits of the fabric of u inputs, k gates and v outputs.
+ *
+ * Refusals, in this order: 2, 3, 4. The other counts are then 0.
+ */
+struct mkd_counts mkd_count(uint32_t u, uint32_t k, uint32_t v);
+
+/*
+ * Writes the table of the fabric of u inputs, k gates and v outputs: 16-bit entries u, v, R (its
+ * rows); then kind, left wire, right wire per row; then the v output wires. The stated length is
+ * 3 + 3R + v. At most R is 31,489, the length 94,534 and the fabric's wires 58,180.
+ *
+ * Kinds 1 (X) and 2 (Y) are as in P and S. Kind 3 (G), a gate, makes one wire, the next unmade
+ * one, and has four program bits, its table, lowest bit first: with left bit a and right bit b the
+ * wire carries bit 2a + b of the table.
+ *
+ * Let K be the smallest power of two not below k. The rows are those of S(u, 2K) on the inputs, of
+ * U(K) on the 2K pins that it gives, and of S(K, v) on U(K)'s outputs. U(1) is a G on its two
+ * pins. Otherwise U(K) is, in this row order: the upper U(K / 2) on pins 1 to K; S(K / 2, K) on its
+ * outputs; K rows of kind 2, left wire pin K + j, right wire output j of that S; the lower
+ * U(K / 2) on what these make. U(K)'s outputs are the upper's, then the lower's.
+ *
+ * Refusals, in this order: 2, 3, 4; 11 if table_len is below the stated length. A refusal leaves
+ * table as it was.
+ */
+uint32_t mkd_fabric(uint32_t u, uint32_t k, uint32_t v, uint16_t *table, size_t table_len);
+
+/*
+ * Runs a fabric table with a program on an input row: entry i of row is the bit of input i, and
+ * each row of the table does what its kind says, in order. The first entries of work become the
+ * bits, 0 or 1, of all wires, that of wire w at place w, and the first v entries of result those
+ * of the output wires.
+ *
+ * Any table of the form that mkd_fabric writes is run, with u and v its first two entries. Program
+ * bits follow the rows and lie in bytes as P's do; spare bits of the last byte are 0. The stated
+ * length of work is one entry a wire, that of result v.
+ *
+ * Refusals, in this order: 13 if the table is malformed, that is, has less than 3 entries, u or v
+ * not 1 to 64, another length than 3 + 3R + v, a kind not 1 to 3, a row's wire that is not made
+ * before that row, an output wire that is not made, or more than 65,536 wires; 14 if program_len
+ * is not the table's bits divided by 8, rounded up, or a spare bit is set; 12 if row_len is not u
+ * or an entry of row is not 0 or 1; 11 if work_len or result_len is below its stated length. A
+ * refusal leaves work and result as they were.
+ */
+uint32_t mkd_run(const uint16_t *table, size_t table_len, const uint8_t *program,
+                 size_t program_len, const uint8_t *row, size_t row_len, uint8_t *work,
+                 size_t work_len, uint8_t *result, size_t result_len);
 
 #ifdef __cplusplus
 }

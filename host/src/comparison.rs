@@ -4,6 +4,7 @@
 //! and how often each call gave each number.
 
 mod blocks;
+mod fabric;
 mod files;
 mod memory;
 
@@ -36,10 +37,13 @@ enum Call {
     SelectionWriting,
     SelectionProgramming,
     SelectionDelivery,
+    Counting,
+    Fabric,
+    Run,
 }
 
 /// Each call's name, and the numbers that it must have given at least once.
-const CALLS: [(&str, &[usize]); 9] = [
+const CALLS: [(&str, &[usize]); 12] = [
     ("reading", &[0, 1, 2, 3, 4, 5, 6, 7, 8, 9, 10]),
     ("plan faults", &[0, 2, 3, 4, 7, 8, 9]),
     ("evaluation", &[0, 2, 3, 4, 7, 8, 9, 11, 12]),
@@ -49,6 +53,9 @@ const CALLS: [(&str, &[usize]); 9] = [
     ("writing S", &[0, 2, 4, 11, 12, 13]),
     ("programming S", &[0, 2, 4, 9, 11, 12]),
     ("delivery by S", &[0]),
+    ("counting", &[0, 2, 3, 4]),
+    ("fabric", &[0, 2, 3, 4, 11]),
+    ("run", &[0, 11, 12, 13, 14]),
 ];
 
 /// What ends a comparison: a case with both answers, or a number that was never given.
@@ -72,6 +79,7 @@ impl Comparison {
         files::compare(&mut comparison, &mut random)?;
         memory::compare(&mut comparison, &mut random)?;
         blocks::compare(&mut comparison, &mut random)?;
+        fabric::compare(&mut comparison, &mut random)?;
         comparison.check_seen()?;
         Ok(comparison)
     }

@@ -1,10 +1,11 @@
 //! Safe calls of the library's exports, which `include/mukdalis.h` documents.
 //!
-//! `plan_read`, `plan_fault`, `plan_evaluate`, `permutation_write`, `permutation_program`,
-//! `selection_write` and `selection_program` give each answer as it comes. `read`, `check`,
-//! `evaluate`, `write_permutation`, `program_permutation`, `write_selection` and
-//! `program_selection` give it as a `Result`.
+//! Each answer as it comes: `plan_read`, `plan_fault`, `plan_evaluate`, `permutation_write`,
+//! `permutation_program`, `selection_write`, `selection_program`, `count`, `fabric`, `run`. As a
+//! `Result`: `read`, `check`, `evaluate`, `write_permutation`, `program_permutation`,
+//! `write_selection`, `program_selection`, `count_fabric`, `write_fabric`, `run_fabric`.
 
+use crate::fabric::Size;
 use crate::fault::{Fault, Refusal};
 use crate::plan::Plan;
 
@@ -15,6 +16,16 @@ pub struct Read {
     pub number: u32,
     pub at: u64,
     pub plan: Plan,
+}
+
+/// What a counting gives: number 0 with a fabric's counts, or a refusal with counts 0.
+#[repr(C)]
+#[derive(Clone, Copy, Debug, PartialEq, Eq)]
+pub struct Counts {
+    pub number: u32,
+    pub rows: u32,
+    pub wires: u32,
+    pub bits: u32,
 }
 
 extern "C" {
@@ -62,6 +73,20 @@ extern "C" {
         wanted_len: usize,
         program: *mut u8,
         program_len: usize,
+    ) -> u32;
+    fn mkd_count(u: u32, k: u32, v: u32) -> Counts;
+    fn mkd_fabric(u: u32, k: u32, v: u32, table: *mut u16, table_len: usize) -> u32;
+    fn mkd_run(
+        table: *const u16,
+        table_len: usize,
+        program: *const u8,
+        program_len: usize,
+        row: *const u8,
+        row_len: usize,
+        work: *mut u8,
+        work_len: usize,
+        result: *mut u8,
+        result_len: usize,
     ) -> u32;
 }
 
@@ -173,6 +198,39 @@ pub fn selection_program(m: u32, n: u32, wanted: &[u16], program: &mut [u8]) -> 
     }
 }
 
+/// `mkd_count`: the counts of a fabric, or the number of the refusal.
+pub fn count(u: u32, k: u32, v: u32) -> Counts {
+    // SAFETY: all goes by value, and every value is allowed.
+    unsafe { mkd_count(u, k, v) }
+}
+
+/// `mkd_fabric`: the number of the refusal, or 0.
+pub fn fabric(u: u32, k: u32, v: u32, table: &mut [u16]) -> u32 {
+    // SAFETY: the pointer and length are a slice's that is borrowed for writing; the call stays
+    // within it and keeps no pointer.
+    unsafe { mkd_fabric(u, k, v, table.as_mut_ptr(), table.len()) }
+}
+
+/// `mkd_run`: the number of the refusal, or 0.
+pub fn run(table: &[u16], program: &[u8], row: &[u8], work: &mut [u8], result: &mut [u8]) -> u32 {
+    // SAFETY: the pointers and lengths are slices', of which the two written overlap no other
+    // since they are borrowed for writing; the call stays within them and keeps no pointer.
+    unsafe {
+        mkd_run(
+            table.as_ptr(),
+            table.len(),
+            program.as_ptr(),
+            program.len(),
+            row.as_ptr(),
+            row.len(),
+            work.as_mut_ptr(),
+            work.len(),
+            result.as_mut_ptr(),
+            result.len(),
+        )
+    }
+}
+
 /// The plan of a plan file.
 pub fn read(file: &[u8]) -> Result<Plan, Refusal> {
     let Read { number, at, plan } = plan_read(file);
@@ -227,6 +285,36 @@ pub fn write_selection(
 /// the first bytes of `program`.
 pub fn program_selection(m: u32, n: u32, wanted: &[u16], program: &mut [u8]) -> Result<(), Fault> {
     done(selection_program(m, n, wanted, program))
+}
+
+/// The size of the fabric of these counts.
+pub fn count_fabric(u: u32, k: u32, v: u32) -> Result<Size, Fault> {
+    let Counts {
+        number,
+        rows,
+        wires,
+        bits,
+    } = count(u, k, v);
+    done(number)?;
+    Ok(Size { rows, wires, bits })
+}
+
+/// Writes the table of the fabric of these counts to the first 3 + 3R + v entries of `table`, R
+/// being its rows.
+pub fn write_fabric(u: u32, k: u32, v: u32, table: &mut [u16]) -> Result<(), Fault> {
+    done(fabric(u, k, v, table))
+}
+
+/// Runs a fabric table with a program on an input row. Every wire's bit goes to the first entries
+/// of `work`, the bits of the v output wires to those of `result`.
+pub fn run_fabric(
+    table: &[u16],
+    program: &[u8],
+    row: &[u8],
+    work: &mut [u8],
+    result: &mut [u8],
+) -> Result<(), Fault> {
+    done(run(table, program, row, work, result))
 }
 
 /// An export's number: 0 is done, any other a row of the refusal table.

@@ -4,6 +4,7 @@
 //! from document 01 alone. `comparison` runs both on many cases and stops at the first difference.
 //! `contracts` checks the crates' public contracts.
 
+pub mod fabric;
 pub mod fault;
 pub mod plan;
 

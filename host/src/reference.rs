@@ -7,3 +7,7 @@ pub mod elements;
 mod blocks;
 pub mod permutation;
 pub mod selection;
+
+pub mod fabric;
+pub mod program;
+pub mod run;

@@ -1,7 +1,8 @@
-//! Random accepted plans and their files, and calls of the block library, from which the comparison
-//! makes its cases.
+//! Random accepted plans and their files, calls of the block library, and fabric tables, from which
+//! the comparison makes its cases.
 
 pub mod blocks;
+pub mod fabric;
 pub mod permutation;
 pub mod selection;
 

@@ -1,9 +1,13 @@
 //! The safe calls of the library, as another Rust program would use them.
 
 use mukdalis::exports;
+use mukdalis::fabric::Size;
 use mukdalis::fault::{Fault, Refusal};
 
 const NOT: [u8; 10] = [1, 0, 1, 0, 1, 0, 4, 1, 2, 0];
+
+/// The bench sheet's fabric (1,1,1).
+const FABRIC: [u16; 16] = [1, 1, 4, 1, 1, 0, 2, 2, 3, 1, 2, 4, 3, 5, 6, 7];
 
 #[test]
 fn a_plan_is_read_checked_and_evaluated() {
@@ -94,4 +98,52 @@ fn refused_selections_have_their_words() {
     assert_eq!(program(3, 2, &[1; 3]), Err(Fault::Contact));
     assert_eq!(program(3, 2, &[4, 1]), Err(Fault::Source));
     assert_eq!(program(3, 2, &[1, 1]), Err(Fault::Short));
+}
+
+#[test]
+fn fabrics_are_counted() {
+    let size = |rows, wires, bits| Ok(Size { rows, wires, bits });
+    assert_eq!(exports::count_fabric(1, 1, 1), size(4, 8, 7));
+    assert_eq!(exports::count_fabric(2, 2, 1), size(23, 40, 29));
+    assert_eq!(exports::count_fabric(3, 3, 2), size(85, 147, 97));
+    let most = size(31_489, 58_180, 32_257);
+    assert_eq!(exports::count_fabric(64, 256, 64), most);
+    assert_eq!(exports::count_fabric(65, 0, 0), Err(Fault::Inputs));
+    assert_eq!(exports::count_fabric(64, 257, 0), Err(Fault::Gates));
+    assert_eq!(exports::count_fabric(64, 256, 65), Err(Fault::Outputs));
+}
+
+/// Hex 08 is the program of NOT.
+#[test]
+fn a_fabric_is_written_and_run() {
+    let mut table = [9; 17];
+    assert_eq!(exports::write_fabric(1, 1, 1, &mut table), Ok(()));
+    assert_eq!(table[..16], FABRIC);
+    assert_eq!(table[16], 9);
+
+    let (mut work, mut result) = ([9; 9], [9; 2]);
+    let run = exports::run_fabric(&FABRIC, &[0x08], &[1], &mut work, &mut result);
+    assert_eq!(run, Ok(()));
+    assert_eq!(work, [0, 1, 1, 0, 1, 1, 1, 0, 9]);
+    assert_eq!(result, [0, 9]);
+}
+
+#[test]
+fn refused_fabrics_and_runs_have_their_words() {
+    let short = exports::write_fabric(1, 1, 1, &mut [9; 15]);
+    assert_eq!(short, Err(Fault::Short));
+
+    let run = |table: &[u16], program: &[u8], row: &[u8], work: &mut [u8]| {
+        exports::run_fabric(table, program, row, work, &mut [9])
+    };
+    assert_eq!(
+        run(&FABRIC[..15], &[8], &[1], &mut [9; 8]),
+        Err(Fault::Fabric)
+    );
+    assert_eq!(
+        run(&FABRIC, &[0x88], &[1], &mut [9; 8]),
+        Err(Fault::Program)
+    );
+    assert_eq!(run(&FABRIC, &[8], &[2], &mut [9; 8]), Err(Fault::Contact));
+    assert_eq!(run(&FABRIC, &[8], &[1], &mut [9; 7]), Err(Fault::Short));
 }

@@ -88,15 +88,64 @@ static int selections_fail(void)
     return 0;
 }
 
+/* The fabric (1, 1, 1), and its run with the program of NOT. */
+static int fabrics_fail(void)
+{
+    const uint16_t written[17] = {1, 1, 4, 1, 1, 0, 2, 2, 3, 1, 2, 4, 3, 5, 6, 7, 9};
+    const uint8_t bits[8] = {0, 0, 0, 0, 0, 0, 0, 1};
+    const uint8_t not_program[1] = {0x08};
+    const uint8_t row[1] = {0};
+    struct mkd_counts refused = mkd_count(1, 257, 1);
+    struct mkd_counts counts = mkd_count(64, 256, 64);
+    uint16_t table[17];
+    uint8_t work[9] = {9, 9, 9, 9, 9, 9, 9, 9, 9};
+    uint8_t result[2] = {9, 9};
+    size_t i;
+
+    for (i = 0; i < 17; i++)
+        table[i] = 9;
+    if (refused.number != MKD_GATES || refused.rows || refused.wires || refused.bits)
+        return fails("too many gates");
+    if (counts.number || counts.rows != 31489 || counts.wires != 58180 || counts.bits != 32257)
+        return fails("a counting");
+    if (mkd_fabric(1, 1, 1, table, 15) != MKD_SHORT || table[0] != 9)
+        return fails("a short table");
+    if (mkd_fabric(1, 1, 1, table, 17) != 0)
+        return fails("a fabric");
+    for (i = 0; i < 17; i++)
+        if (table[i] != written[i])
+            return fails("the table written");
+    if (mkd_run(table, 17, not_program, 1, row, 1, work, 9, result, 2) != MKD_FABRIC)
+        return fails("a longer table");
+    if (mkd_run(table, 16, not_program, 0, row, 1, work, 9, result, 2) != MKD_PROGRAM)
+        return fails("a shorter program");
+    if (mkd_run(table, 16, not_program, 1, row, 0, work, 9, result, 2) != MKD_CONTACT)
+        return fails("a shorter row");
+    if (mkd_run(table, 16, not_program, 1, row, 1, work, 7, result, 2) != MKD_SHORT)
+        return fails("a short work buffer");
+    if (work[0] != 9 || result[0] != 9)
+        return fails("the buffers of a refused run");
+    if (mkd_run(table, 16, not_program, 1, row, 1, work, 9, result, 2) != 0)
+        return fails("a run");
+    for (i = 0; i < 8; i++)
+        if (work[i] != bits[i])
+            return fails("the work written");
+    if (work[8] != 9 || result[0] != 1 || result[1] != 9)
+        return fails("the result written");
+    return 0;
+}
+
 int main(void)
 {
-    if (plans_fail() || permutations_fail() || selections_fail())
+    if (plans_fail() || permutations_fail() || selections_fail() || fabrics_fail())
         return 1;
     printf("%zu %zu %zu", sizeof(struct mkd_gate), offsetof(struct mkd_gate, second),
            offsetof(struct mkd_gate, table));
     printf(" %zu %zu %zu", sizeof(struct mkd_plan), offsetof(struct mkd_plan, gates),
            offsetof(struct mkd_plan, outputs));
-    printf(" %zu %zu %zu\n", sizeof(struct mkd_read), offsetof(struct mkd_read, at),
+    printf(" %zu %zu %zu", sizeof(struct mkd_read), offsetof(struct mkd_read, at),
            offsetof(struct mkd_read, plan));
+    printf(" %zu %zu %zu %zu\n", sizeof(struct mkd_counts), offsetof(struct mkd_counts, rows),
+           offsetof(struct mkd_counts, wires), offsetof(struct mkd_counts, bits));
     return 0;
 }

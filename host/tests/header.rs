@@ -5,7 +5,7 @@ use std::mem::{offset_of, size_of};
 use std::path::Path;
 use std::process::Command;
 
-use mukdalis::exports::Read;
+use mukdalis::exports::{Counts, Read};
 use mukdalis::plan::{Gate, Plan};
 
 /// Compiles `header.c` against the header and the archive, and gives what it prints.
@@ -43,6 +43,10 @@ fn header_and_package_agree() {
         size_of::<Read>(),
         offset_of!(Read, at),
         offset_of!(Read, plan),
+        size_of::<Counts>(),
+        offset_of!(Counts, rows),
+        offset_of!(Counts, wires),
+        offset_of!(Counts, bits),
     ];
     let expected = layout.map(|place| place.to_string()).join(" ");
     assert_eq!(run_c_program().trim_end(), expected);

@@ -1,6 +1,12 @@
 -- The exports' structs in document 01's numbers and values.
+use Rattle.fabric_rows.specs.FabricCalls.{CountOutcome}
+use Rattle.capi.specs.declared.Counted.{Counted}
 use Rattle.plan.specs.PlanFile.{ReadOutcome}
 use Rattle.capi.specs.declared.Read.{Read}
 
 abbrev pub outcomeOf : Read → ReadOutcome
 outcomeOf r = record { number = r .number; at = r .at; plan = r .plan }
+
+-- what the header's struct mkd_counts says
+abbrev pub countsOf : Counted → CountOutcome
+countsOf r = record { number = r .number; rows = r .rows; wires = r .wires; bits = r .bits }

@@ -9,9 +9,11 @@ ghost use Rattle.permutation_rows.specs.WriteCalls.{writeFault, writtenRows, wr
 ghost use Rattle.permutation_bits.specs.ProgramCalls.{programFault, programResult};
 ghost use Rattle.selection_rows.specs.WriteCalls.{selectionWriteFault, selectionWrittenRows, selectionWrittenOutputs};
 ghost use Rattle.selection_bits.specs.ProgramCalls.{selectionProgramFault, selectionProgramResult};
+ghost use Rattle.fabric_rows.specs.FabricCalls.{counting, fabricFault, fabricResult};
 ghost use Rattle.run.specs.RunCalls.{runFault, runWork, runResult};
-ghost use Rattle.capi.specs.Exports.{outcomeOf};
+ghost use Rattle.capi.specs.Exports.{outcomeOf, countsOf};
 use blocks::FabricWire;
+use fabric::CountAnswer;
 use plan::Plan;
 use plan::ReadAnswer;
 
@@ -116,6 +118,45 @@ pub extern "C" fn mkd_selection_program(m: u32, n: u32, wanted: &[u16], program:
     blocks::program_selection(m, n, wanted, program).number()
 }
 
+// The header's struct mkd_counts: number 0 where the fabric was counted, its counts all zero where not.
+#[repr(C)]
+pub struct Counted {
+    pub number: u32,
+    pub rows: u32,
+    pub wires: u32,
+    pub bits: u32,
+}
+
+// The rows, wires and program bits of the fabric of u inputs, k gates and v outputs.
+#[no_mangle]
+pub extern "C" fn mkd_count(u: u32, k: u32, v: u32) -> Counted
+    ensures { λ r. ⌜ countsOf r ≡ counting u k v ⌝ }
+{
+    match fabric::count_fabric(u, k, v) {
+        CountAnswer::Counted(c) => Counted {
+            number: 0,
+            rows: c.rows,
+            wires: c.wires,
+            bits: c.bits,
+        },
+        CountAnswer::Refused(f) => Counted {
+            number: f.number(),
+            rows: 0,
+            wires: 0,
+            bits: 0,
+        },
+    }
+}
+
+// The table of that fabric.
+#[no_mangle]
+pub extern "C" fn mkd_fabric(u: u32, k: u32, v: u32, table: &mut [u16]) -> u32
+    ensures answered { λ r. ⌜ r ≡ fabricFault u k v (length (now (table .entry))) ⌝ }
+    ensures written { λ _. ⌜ now (table .exit) ≡ fabricResult u k v (now (table .entry)) ⌝ }
+{
+    fabric::write_fabric(u, k, v, table).number()
+}
+
 // The run of a table with a program on a row of input contacts.
 #[no_mangle]
 pub extern "C" fn mkd_run(
@@ -129,5 +170,5 @@ pub extern "C" fn mkd_run(
     ensures worked { λ _. ⌜ now (work .exit) ≡ runWork (now (table .entry)) (now (program .entry)) (now (row .entry)) (now (work .entry)) (now (result .entry)) ⌝ }
     ensures written { λ _. ⌜ now (result .exit) ≡ runResult (now (table .entry)) (now (program .entry)) (now (row .entry)) (now (work .entry)) (now (result .entry)) ⌝ }
 {
-    run::run(table, program, row, work, result).number()
+    fabric::run(table, program, row, work, result).number()
 }

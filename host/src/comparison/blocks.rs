@@ -10,7 +10,7 @@ use super::buffer::Buffer;
 use super::show::{show_number, show_programming, show_writing};
 use super::{number, Call, Comparison, Difference, Outcome};
 use crate::random::Random;
-use crate::reference::elements::Wires;
+use crate::reference::elements::{no_gate, Wires};
 use crate::samples::blocks::{Block, Programming, Writing, MOST_WIRES};
 use crate::{exports, reference};
 
@@ -148,7 +148,7 @@ fn compare_delivery(
     let Written { rows, outputs } = compare_writing(comparison, random, writing, 0)?;
     let program = compare_programming(comparison, random, programming, 0)?;
     let before = &values[..writing.next.min(MOST_WIRES) as usize];
-    let wires = Wires::run(&rows, &program, before);
+    let wires = Wires::run(&rows, &program, before, no_gate);
     for (i, (&output, &input)) in outputs.iter().zip(&programming.wanted).enumerate() {
         let wanted = writing.inputs[usize::from(input) - 1];
         if wires.value(output) != wires.value(wanted) {

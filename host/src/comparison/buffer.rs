@@ -1,6 +1,9 @@
-//! A lent buffer as both implementations get it: the same garbage, between the same guards.
+//! A lent buffer as both implementations get it: the same garbage, between the same guards; and
+//! lengths of lent buffers.
 
 use std::fmt::Display;
+
+use crate::random::Random;
 
 /// Entries kept on each side of a lent buffer, which no call may change.
 pub const GUARD: usize = 8;
@@ -66,6 +69,23 @@ impl<T: Clone + PartialEq + Display> Buffer<T> {
         }
         format!("{len} entries; no difference")
     }
+}
+
+/// Lengths of a lent buffer: every one up to past the stated one where that is small, otherwise
+/// some; longer ones, and one that is enough but not in its low 16 bits.
+pub fn buffer_lengths(stated: usize) -> Vec<usize> {
+    let mut lens: Vec<usize> = (0..stated + 3)
+        .filter(|&len| stated <= 20 || len <= 3 || len.abs_diff(stated) <= 4)
+        .collect();
+    lens.extend([stated / 3, stated / 2, 2 * stated, stated + 64, 1 << 16]);
+    lens
+}
+
+/// A number below `len`, often the next one; 0 has none below it.
+pub fn shorter(random: &mut Random, len: usize) -> usize {
+    let most = len.saturating_sub(1);
+    let any = random.between(0, most.min(u16::MAX.into()) as u16).into();
+    random.choose(&[most, any, 0])
 }
 
 #[cfg(test)]

@@ -6,6 +6,7 @@ use crate::exports;
 use crate::fault::Fault;
 use crate::plan::{Gate, Plan};
 use crate::samples::blocks::{Programming, Writing};
+use crate::samples::fabric::Run;
 
 pub fn show_number(number: u32) -> String {
     match Fault::from_number(number) {
@@ -61,6 +62,23 @@ pub fn show_writing(case: &Writing) -> String {
 
 pub fn show_programming(case: &Programming) -> String {
     format!("{:?} wanted {}", case.block, show_list(&case.wanted))
+}
+
+pub fn show_counts([u, k, v]: [u32; 3]) -> String {
+    format!("u {u} k {k} v {v}")
+}
+
+/// A run; of a long table or program only the start.
+pub fn show_run(case: &Run) -> String {
+    let (table, program) = (&case.table, &case.program);
+    format!(
+        "table {} entries {:?}\nprogram {} bytes {:02x?}\nrow {}",
+        table.len(),
+        &table[..table.len().min(300)],
+        program.len(),
+        &program[..program.len().min(100)],
+        hex(&case.row)
+    )
 }
 
 fn show_list(list: &[u16]) -> String {

@@ -7,7 +7,7 @@ use super::show::show_number;
 use super::{Call, Comparison, CALLS, NUMBERS};
 
 /// The calls that share a table.
-const SUBJECTS: [&[Call]; 3] = [
+const SUBJECTS: [&[Call]; 4] = [
     &[Call::Reading, Call::Faults, Call::Evaluation],
     &[
         Call::PermutationWriting,
@@ -19,6 +19,7 @@ const SUBJECTS: [&[Call]; 3] = [
         Call::SelectionProgramming,
         Call::SelectionDelivery,
     ],
+    &[Call::Counting, Call::Fabric, Call::Run],
 ];
 
 impl fmt::Display for Comparison {
@@ -30,10 +31,11 @@ impl fmt::Display for Comparison {
         let files = self.cases(Call::Reading);
         let permutations = self.cases(Call::PermutationDelivery);
         let selections = self.cases(Call::SelectionDelivery);
+        let (fabrics, runs) = (self.cases(Call::Fabric), self.cases(Call::Run));
         writeln!(
             out,
             "compared {total} cases, {files} of them files, {permutations} permutations, \
-             {selections} selections: no difference"
+             {selections} selections, {fabrics} fabrics, {runs} runs: no difference"
         )
     }
 }

@@ -1,5 +1,5 @@
-//! What the calls of P and S have in common: the checks of lists, wires and lent buffers, and the
-//! writing into these.
+//! What the calls of P and S, and those over them, have in common: the checks of lists, wires and
+//! lent buffers, and the writing into these.
 
 use super::elements::{entries, pack, Drawing, LAST_WIRE};
 use crate::fault::Fault;
@@ -44,10 +44,12 @@ pub fn write(
 
 /// Packs program bits into the lent buffer. Check: 11.
 pub fn write_program(bits: &[bool], program: &mut [u8]) -> Result<(), Fault> {
-    let bytes = pack(bits);
-    if program.len() < bytes.len() {
-        return Err(Fault::Short);
-    }
-    program[..bytes.len()].copy_from_slice(&bytes);
+    fill(program, &pack(bits))
+}
+
+/// Writes entries to the start of the lent buffer. Check: 11.
+pub fn fill<T: Copy>(buffer: &mut [T], entries: &[T]) -> Result<(), Fault> {
+    let start = buffer.get_mut(..entries.len()).ok_or(Fault::Short)?;
+    start.copy_from_slice(entries);
     Ok(())
 }

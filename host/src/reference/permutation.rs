@@ -188,7 +188,7 @@ fn partner(place: usize) -> usize {
 
 #[cfg(test)]
 mod tests {
-    use super::super::elements::Wires;
+    use super::super::elements::{no_gate, Wires};
     use super::*;
     use crate::random::Random;
     use crate::samples::blocks::{Block, SIZES};
@@ -255,7 +255,7 @@ mod tests {
     fn assert_delivers(network: &(Vec<u16>, Vec<u16>), wanted: &[u16]) {
         let (rows, outputs) = network;
         let numbers: Vec<u16> = (0..=wanted.len() as u16).collect();
-        let wires = Wires::run(rows, &programmed(wanted), &numbers);
+        let wires = Wires::run(rows, &programmed(wanted), &numbers, no_gate);
         let delivered: Vec<u16> = outputs.iter().map(|&wire| wires.value(wire)).collect();
         assert_eq!(delivered, wanted);
     }

@@ -51,7 +51,7 @@ pub fn evaluate(plan: &Plan, row: &[u8], result: &mut [u8]) -> Result<(), Fault>
     if let Some(fault) = fault(plan) {
         return Err(fault);
     }
-    if !is_row(row, plan.inputs) {
+    if !is_row(row, plan.inputs.into()) {
         return Err(Fault::Contact);
     }
     if result.len() < usize::from(plan.output_count) {
@@ -104,7 +104,7 @@ impl Reader<'_> {
 
     /// One of u, k and v.
     fn count(&mut self, most: usize, fault: Fault) -> Result<u16, Refusal> {
-        self.number(|count| is_count(count, most), fault)
+        self.number(|count| is_count(count.into(), most), fault)
     }
 
     /// The gate whose wire is `own`: its map byte, then the fields whose map bit stands.
@@ -155,8 +155,8 @@ fn refusal(fault: Fault, at: usize) -> Refusal {
     }
 }
 
-fn is_count(count: u16, most: usize) -> bool {
-    (1..=most).contains(&usize::from(count))
+pub fn is_count(count: usize, most: usize) -> bool {
+    (1..=most).contains(&count)
 }
 
 /// An operand is a wire below the gate's own.
@@ -170,8 +170,8 @@ fn is_gate_wire(wire: u16, plan: &Plan) -> bool {
 }
 
 /// A row of input contacts is u entries, each 0 or 1.
-fn is_row(row: &[u8], inputs: u16) -> bool {
-    row.len() == usize::from(inputs) && row.iter().all(|&entry| entry <= 1)
+pub fn is_row(row: &[u8], inputs: usize) -> bool {
+    row.len() == inputs && row.iter().all(|&entry| entry <= 1)
 }
 
 /// 2, 3 or 4.
@@ -182,7 +182,7 @@ fn count_fault(plan: &Plan) -> Option<Fault> {
         (plan.output_count, Plan::MAX_OUTPUTS, Fault::Outputs),
     ]
     .into_iter()
-    .find(|&(count, most, _)| !is_count(count, most))
+    .find(|&(count, most, _)| !is_count(count.into(), most))
     .map(|(_, _, fault)| fault)
 }
 
@@ -212,11 +212,11 @@ fn first_output_fault(plan: &Plan) -> Option<Fault> {
         .map(|_| Fault::Source)
 }
 
-fn used_gates(plan: &Plan) -> &[Gate] {
+pub fn used_gates(plan: &Plan) -> &[Gate] {
     &plan.gates[..usize::from(plan.gate_count)]
 }
 
-fn used_outputs(plan: &Plan) -> &[u16] {
+pub fn used_outputs(plan: &Plan) -> &[u16] {
     &plan.outputs[..usize::from(plan.output_count)]
 }
 
@@ -227,9 +227,14 @@ fn wire_bits(plan: &Plan, row: &[u8]) -> Vec<u8> {
     for gate in used_gates(plan) {
         let a = bits[usize::from(gate.first)];
         let b = bits[usize::from(gate.second)];
-        bits.push(gate.table >> (2 * a + b) & 1);
+        bits.push(gate_bit(gate.table, a, b));
     }
     bits
+}
+
+/// A gate's bit from its table and its operands' bits.
+pub fn gate_bit(table: u8, a: u8, b: u8) -> u8 {
+    table >> (2 * a + b) & 1
 }
 
 #[cfg(test)]

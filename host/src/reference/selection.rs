@@ -122,7 +122,7 @@ impl Positions {
 
 #[cfg(test)]
 mod tests {
-    use super::super::elements::Wires;
+    use super::super::elements::{no_gate, Wires};
     use super::*;
     use crate::random::Random;
     use crate::samples::blocks::Block;
@@ -196,7 +196,7 @@ mod tests {
         let mut bytes = vec![0x5a; Block::S(m, n).program_bytes()];
         assert_eq!(program(m, n, wanted, &mut bytes), Ok(()));
         let numbers: Vec<u16> = (0..=m as u16).collect();
-        let wires = Wires::run(&rows, &bytes, &numbers);
+        let wires = Wires::run(&rows, &bytes, &numbers, no_gate);
         let delivered: Vec<u16> = outputs.iter().map(|&wire| wires.value(wire)).collect();
         assert_eq!(delivered, wanted);
     }

@@ -1,5 +1,6 @@
 //! Calls at and beside the limits of the sizes, the wires, the lists' lengths and the buffers'.
 
+use super::super::buffer::buffer_lengths;
 use super::super::{first_failing, Comparison, Outcome};
 use super::{compare_programming, compare_writing};
 use crate::fault::Fault;
@@ -153,16 +154,6 @@ fn input_wires(comparison: &mut Comparison, random: &mut Random, blocks: &[Block
         }
     }
     Ok(())
-}
-
-/// Lengths of a lent buffer: every one up to past the stated one where that is small, otherwise
-/// some; longer ones, and one that is enough but not in its low 16 bits.
-fn buffer_lengths(stated: usize) -> Vec<usize> {
-    let mut lens: Vec<usize> = (0..stated + 3)
-        .filter(|&len| stated <= 20 || len <= 3 || len.abs_diff(stated) <= 4)
-        .collect();
-    lens.extend([stated / 3, stated / 2, 2 * stated, stated + 64, 1 << 16]);
-    lens
 }
 
 fn row_and_output_lengths(

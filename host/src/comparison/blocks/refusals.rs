@@ -1,5 +1,6 @@
 //! Every choice of checks that fail at once.
 
+use super::super::buffer::shorter;
 use super::super::{first_failing, Comparison, Outcome};
 use super::{compare_programming, compare_writing};
 use crate::fault::Fault;
@@ -103,13 +104,6 @@ fn fail(
         compare_programming(comparison, random, &programming, due)?;
     }
     Ok(())
-}
-
-/// A number below `len`, often the next one; 0 has none below it.
-fn shorter(random: &mut Random, len: usize) -> usize {
-    let most = len.saturating_sub(1);
-    let any = random.between(0, most as u16).into();
-    random.choose(&[most, any, 0])
 }
 
 /// The block with a number of inputs, of P with a size, that it cannot have.
