@@ -1,7 +1,7 @@
 -- The exports' structs in document 01's numbers and values.
 use Rattle.fabric_rows.specs.FabricCalls.{CountOutcome}
 use Rattle.capi.specs.declared.Counted.{Counted}
-use Rattle.plan.specs.PlanFile.{ReadOutcome}
+use Rattle.reading.specs.PlanFile.{ReadOutcome}
 use Rattle.capi.specs.declared.Read.{Read}
 
 abbrev pub outcomeOf : Read → ReadOutcome

@@ -2,20 +2,21 @@
 // 0 where it was done. A slice is a pointer and a length there. A refusal writes through no pointer.
 ghost use mathlib.Core.Path.{_≡_};
 ghost use lib.ListN.{length};
-ghost use Rattle.plan.specs.PlanFile.{planRead};
 ghost use Rattle.plan.specs.Faults.{planFault};
 ghost use Rattle.plan.specs.Evaluation.{evaluateFault, evaluateResult};
+ghost use Rattle.reading.specs.PlanFile.{planRead};
 ghost use Rattle.permutation_rows.specs.WriteCalls.{writeFault, writtenRows, writtenOutputs};
 ghost use Rattle.permutation_bits.specs.ProgramCalls.{programFault, programResult};
 ghost use Rattle.selection_rows.specs.WriteCalls.{selectionWriteFault, selectionWrittenRows, selectionWrittenOutputs};
 ghost use Rattle.selection_bits.specs.ProgramCalls.{selectionProgramFault, selectionProgramResult};
 ghost use Rattle.fabric_rows.specs.FabricCalls.{counting, fabricFault, fabricResult};
+ghost use Rattle.fabric_bits.specs.ProgramCalls.{planProgramFault, planProgramResult};
 ghost use Rattle.run.specs.RunCalls.{runFault, runWork, runResult};
 ghost use Rattle.capi.specs.Exports.{outcomeOf, countsOf};
 use blocks::FabricWire;
 use fabric::CountAnswer;
 use plan::Plan;
-use plan::ReadAnswer;
+use reading::ReadAnswer;
 
 // The header's struct mkd_read: number and offset 0 where a plan was read, the plan all zero where not.
 #[repr(C)]
@@ -30,7 +31,7 @@ pub struct Read {
 pub extern "C" fn mkd_plan_read(file: &[u8]) -> Read
     ensures { λ r. ⌜ outcomeOf r ≡ planRead (now (file .entry)) ⌝ }
 {
-    let read = plan::read_plan(file);
+    let read = reading::read_plan(file);
     let answer = read.answer;
     let record = read.plan;
     match answer {
@@ -155,6 +156,15 @@ pub extern "C" fn mkd_fabric(u: u32, k: u32, v: u32, table: &mut [u16]) -> u32
     ensures written { λ _. ⌜ now (table .exit) ≡ fabricResult u k v (now (table .entry)) ⌝ }
 {
     fabric::write_fabric(u, k, v, table).number()
+}
+
+// The program bits of a plan.
+#[no_mangle]
+pub extern "C" fn mkd_program(plan: Plan, program: &mut [u8]) -> u32
+    ensures answered { λ r. ⌜ r ≡ planProgramFault plan (length (now (program .entry))) ⌝ }
+    ensures written { λ _. ⌜ now (program .exit) ≡ planProgramResult plan (now (program .entry)) ⌝ }
+{
+    fabric::program_plan(plan, program).number()
 }
 
 // The run of a table with a program on a row of input contacts.

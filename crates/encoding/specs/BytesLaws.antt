@@ -9,11 +9,11 @@ use Rattle.plan.specs.declared.record.Gate.{Gate}
 use Rattle.plan.specs.declared.record.Plan.{Plan}
 use Rattle.plan.specs.Record.{maxInputs, maxGates, maxOutputs, gateAt, outputAt, gateWire}
 use Rattle.plan.specs.Rules.{operandAllowed}
-use Rattle.plan.specs.PlanFile.{mapBit}
 use Rattle.plan.specs.Faults.{Accepted}
-use Rattle.encoding.specs.Encoding.{byte, word, whereStanding, encodeGate, joined, encode, LeavesOutDefaults, Choice, OfBytes}
 use Rattle.plan.specs.RulesLaws.{count-bounds, map-bound, operand-bounds, table-bound, source-bounds}
 use Rattle.plan.specs.FaultsLaws.{AllowedGate, accepted-allowed}
+use Rattle.reading.specs.PlanFile.{mapBit}
+use Rattle.encoding.specs.Encoding.{byte, word, whereStanding, encodeGate, joined, encode, LeavesOutDefaults, Choice, OfBytes}
 
 -- numbers written in one and two bytes
 byte-bytes : (n : ℕ) → n < 256 → OfBytes (byte n)

@@ -4,13 +4,13 @@ use mathlib.Core.Path.{_≡_}
 use mathlib.Core.Bool.{Bool, true, false, cond}
 use mathlib.Core.List.{List, [], _∷_, _++_}
 use lib.ListN.{getD}
+use Rattle.lists.specs.Lists.{listOf}
 use Rattle.plan.specs.declared.record.Gate.{Gate}
 use Rattle.plan.specs.declared.record.Plan.{Plan}
 use Rattle.plan.specs.Record.{gateAt, outputAt, gateWire, planOf}
 use Rattle.plan.specs.Rules.{mapAllowed}
-use Rattle.plan.specs.PlanFile.{mapBit}
 use Rattle.plan.specs.Faults.{Accepted}
-use Rattle.lists.specs.Lists.{listOf}
+use Rattle.reading.specs.PlanFile.{mapBit}
 
 -- a one-byte number
 abbrev pub byte : ℕ → List ℕ

@@ -16,16 +16,16 @@ use Rattle.plan.specs.declared.record.PlanWire.{PlanWire}
 use Rattle.plan.specs.Record.{maxInputs, maxGates, maxOutputs, wire, zeroGate, planOf, gateAt, outputAt, gateWire}
 use Rattle.plan.specs.RecordLaws.{getD-places}
 use Rattle.plan.specs.Rules.{countAllowed, mapAllowed, operandAllowed, tableAllowed, sourceAllowed}
-use Rattle.plan.specs.Parsing.{Parsed, got}
-use Rattle.plan.specs.PlanFile.{mapBit, gateStep, outputStep, notStub, atEnd, planFile, outcome, planRead}
 use Rattle.plan.specs.Faults.{Accepted}
+use Rattle.plan.specs.RulesLaws.{count-bounds, default-allowed}
+use Rattle.plan.specs.FaultsLaws.{AllowedGate, AllowedPlan, accepted-allowed}
+use Rattle.reading.specs.Parsing.{Parsed, got}
+use Rattle.reading.specs.PlanFile.{mapBit, gateStep, outputStep, notStub, atEnd, planFile, outcome, planRead}
 use Rattle.encoding.specs.Encoding.{byte, word, whereStanding, encodeGate, joined, encode, LeavesOutDefaults, Choice, used, OfBytes, Encoded}
 use Rattle.encoding.specs.ListLaws.{joined-length, joined-shorter, used-places}
 use Rattle.encoding.specs.ReadingLaws.{Stands, stands-append, stands-split, nothing-stands, whole-stands, stands-to-end, stands-length}
 use Rattle.encoding.specs.ReadingLaws.{byte-coded, word-coded, field-reads, standing-reads, in-order-reads}
 use Rattle.encoding.specs.ReadingLaws.{Gives, gives, refuses, gives-then, by-test, field-gives, standing-gives, Items, in-order-gives}
-use Rattle.plan.specs.RulesLaws.{count-bounds, default-allowed}
-use Rattle.plan.specs.FaultsLaws.{AllowedGate, AllowedPlan, accepted-allowed}
 
 -- a gate is read where its bytes stand
 gate-reads : (s : List ℕ) (own m : ℕ) (g : Gate) (at next : ℕ) → AllowedGate own g → LeavesOutDefaults own m g

@@ -5,9 +5,9 @@ use mathlib.Core.Path.{_≡_, refl, _∙_}
 use mathlib.Core.List.{List}
 use lib.ListN.{length, getD, take, length-append}
 use lib.Seq.{take-suc, take-length}
+use Rattle.lists.specs.Lists.{listOf}
 use Rattle.plan.specs.Record.{places}
 use Rattle.plan.specs.RecordLaws.{getD-places}
-use Rattle.lists.specs.Lists.{listOf}
 use Rattle.encoding.specs.Encoding.{joined}
 
 -- equal bytes of each item

@@ -12,10 +12,10 @@ use lib.Dec.{ltb, lit≤}
 use lib.ListN.{length, getD, drop, length-append, length-drop, drop-of-length-le, List·getD-append}
 use lib.Seq.{drop-length, drop-drop, drop-append-seam, drop-cons, getD-drop, getD-at}
 use borrow.Author.Tests.{ltb-false, le-ltb}
+use Rattle.lists.specs.Lists.{listOf}
 use Rattle.fault.specs.declared.Fault.{Fault}
 use Rattle.fault.specs.ChecksLaws.{number-positive}
-use Rattle.plan.specs.Parsing.{Parsed, got, refused, Step, followed, field, wordAt, byteAt, standing, inOrder}
-use Rattle.lists.specs.Lists.{listOf}
+use Rattle.reading.specs.Parsing.{Parsed, got, refused, Step, followed, field, wordAt, byteAt, standing, inOrder}
 use Rattle.encoding.specs.ListLaws.{joined-same}
 use Rattle.encoding.specs.Encoding.{byte, word, joined, whereStanding, OfBytes}
 

@@ -1,1 +1,1 @@
-// No code: the encodings of a plan as files, and the theorem that the reader of crate plan reads exactly these.
+// No code: the encodings of a plan as files, and the theorem that the reader reads exactly these.

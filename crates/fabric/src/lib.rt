@@ -1,5 +1,6 @@
-// The contact fabric: counting, its table for three counts, and the run of any table with any program. Every call takes all inputs, refuses by
+// The contact fabric: counting, its table for three counts, a plan's program bits, and the run of any table with any program. Every call takes all inputs, refuses by
 // document 01's numbers in its order, and on a refusal changes no buffer.
+pub use fabric_bits::program_plan;
 pub use fabric_rows::CountAnswer;
 pub use fabric_rows::Counts;
 pub use fabric_rows::count_fabric;

@@ -2,26 +2,33 @@
 use Prim.Native.Nat.{ℕ}
 use mathlib.Core.Path.{refl}
 use mathlib.Core.List.{List, [], _∷_, _++_}
+use lib.ListN.{length, replicate}
 use Rattle.plan.specs.declared.record.Gate.{Gate}
 use Rattle.plan.specs.declared.record.PlanWire.{PlanWire}
 use Rattle.plan.specs.declared.record.Plan.{Plan}
 use Rattle.plan.specs.Record.{places, zeroPlan}
 use Rattle.plan.specs.Rules.{countAllowed, mapAllowed, operandAllowed, tableAllowed, sourceAllowed}
-use Rattle.plan.specs.Parsing.{field, inOrder}
-use Rattle.plan.specs.PlanFile.{gateStep, notStub, atEnd, planFile, ReadOutcome, planRead}
+use Rattle.reading.specs.Parsing.{field, inOrder}
+use Rattle.reading.specs.PlanFile.{gateStep, notStub, atEnd, planFile, ReadOutcome, planRead}
 use Rattle.lists.specs.Lists.{listOf}
-use Rattle.fault.specs.Checks.{firstOf}
+use Rattle.fault.specs.Checks.{firstOf, roomFault}
+use Rattle.plan.specs.Faults.{countsFault, gateFault, outputFault, planFault}
 use Rattle.powers.specs.Powers.{firstFit, ceilLog, ceilPower}
 use Rattle.networks.specs.Bits.{setBit, storeBits, pack}
-use Rattle.networks.specs.Permutation.{permutationCount, partner, iterate, walk, key, least, lowest, side, pick, inHalf, permutationBits}
+use Rattle.networks.specs.Permutation.{permutationCount, inputRows, outputRows, firsts, seconds, permutationRows, permutationOuts, partner, iterate, walk, key, least, lowest, side, pick, inHalf, permutationBits}
 use Rattle.networks.specs.Wanted.{mapping, takerOf, inverse, wantedBits}
 use Rattle.networks.specs.Counting.{countOf, nthOf}
 use Rattle.networks.specs.Completion.{isTaken, completed}
-use Rattle.networks.specs.Selection.{selectionLevel, wholeCount, selectionCount, wanting, headOf, copyOf, wholeProgram, selectionBits}
+use Rattle.networks.specs.Selection.{selectionLevel, padded, chainWire, chainRows, chainOuts, wholeRows, wholeOuts, wholeCount, wholeWires, selectionRows, selectionOuts, selectionCount, selectionWires, wanting, headOf, copyOf, wholeProgram, selectionBits}
 use Rattle.sizes.specs.Sizes.{sizeAllowed, sideAllowed, sidesFault}
 use Rattle.elements.specs.Checks.{listFault, bitsFault}
 use Rattle.permutation_bits.specs.ProgramCalls.{notAmong, sourceFault, wantedFault, programFault, programResult}
 use Rattle.selection_bits.specs.ProgramCalls.{selectedFault, selectionWantedFault, selectionProgramFault, selectionProgramResult}
+use Rattle.networks.specs.Rows.{entries, flat, choose}
+use Rattle.universal.specs.Universal.{mixRows, wiresFrom, universalCount, universalWires, universalTakes, universalRows, universalOuts, tableProgram, isOf, wantedGate, wantedGates, mixBits, universalBits}
+use Rattle.universal.specs.Fabric.{inputWires, fabricRows, fabricOuts, fabricCount, fabricWires, fabricTakes, fabricTable, paddedGate, wantedInput, wantedInputs, wantedOutputs, planBits, planProgram}
+use Rattle.fabric_rows.specs.FabricCalls.{counting, fabricFault, fabricResult}
+use Rattle.fabric_bits.specs.ProgramCalls.{planProgramFault, planProgramResult}
 use Rattle.figures.specs.Figure.{Figure, Holds, passes, passes-holds}
 
 -- a record as a row of numbers: the counts, every gate's place, every output's place
@@ -65,6 +72,32 @@ selects m n wanted bits = record {
   stated = 0 ∷ pack bits;
 }
 
+-- the fabric of three counts has so many rows, wires and program bits
+unfoldable pub counts : ℕ → ℕ → ℕ → ℕ → ℕ → ℕ → Figure
+unfolding countAllowed countsFault fabricCount fabricWires fabricTakes universalCount universalWires universalTakes selectionLevel wholeCount
+    wholeWires selectionCount selectionWires permutationCount
+counts u k v rows wires bits = record {
+  computed = let c = counting u k v in c .number ∷ c .rows ∷ c .wires ∷ c .bits ∷ [];
+  stated = 0 ∷ rows ∷ wires ∷ bits ∷ [];
+}
+
+-- writing the fabric of three counts succeeds in an empty table of so many entries, and makes it these entries
+unfoldable pub fabricates : ℕ → ℕ → ℕ → List ℕ → Figure
+unfolding fabricFault roomFault
+fabricates u k v entries = record {
+  computed = fabricFault u k v (length entries) ∷ fabricResult u k v (replicate (length entries) 0);
+  stated = 0 ∷ entries;
+}
+
+-- programming the plan of a file succeeds in bytes of ones, and makes them these bytes
+unfoldable pub planned : List ℕ → List ℕ → Figure
+unfolding planRead planFile notStub atEnd gateStep field inOrder places mapAllowed operandAllowed tableAllowed sourceAllowed planFault gateFault
+    outputFault planProgramFault
+planned file bytes = record {
+  computed = let p = planRead file .plan in planProgramFault p (length bytes) ∷ planProgramResult p (replicate (length bytes) 255);
+  stated = 0 ∷ bytes;
+}
+
 -- a header that passes leaves a file of six bytes cut before its first map byte, and a map byte 7 one of seven bytes cut before its
 -- first operand
 unfoldable pub benchSheet : List Figure
@@ -92,9 +125,21 @@ benchSheet =
     -- S(2,2) wanting 2,2: 1 0 0; wanting 2,1: 0 1 1
     ∷ selects 2 2 (2 ∷ 2 ∷ []) (1 ∷ 0 ∷ 0 ∷ [])
     ∷ selects 2 2 (2 ∷ 1 ∷ []) (0 ∷ 1 ∷ 1 ∷ [])
+    -- counts (u, k, v) → rows, wires, bits
+    ∷ counts 1 1 1 4 8 7
+    ∷ counts 2 2 1 23 40 29
+    ∷ counts 3 3 2 85 147 97
+    -- fabric (1,1,1): 1 1 4, 1 1 0, 2 2 3, 1 2 4, 3 5 6, 7
+    ∷ fabricates 1 1 1 (1 ∷ 1 ∷ 4 ∷ 1 ∷ 1 ∷ 0 ∷ 2 ∷ 2 ∷ 3 ∷ 1 ∷ 2 ∷ 4 ∷ 3 ∷ 5 ∷ 6 ∷ 7 ∷ [])
+    -- plan hex 01 00 01 00 01 00 04 01 02 00 (NOT): program hex 08
+    ∷ planned (1 ∷ 0 ∷ 1 ∷ 0 ∷ 1 ∷ 0 ∷ 4 ∷ 1 ∷ 2 ∷ 0 ∷ []) (8 ∷ [])
     ∷ []
 
 -- the claim
 pub bench-sheet : Holds benchSheet
-unfolding benchSheet passes refuses programs selects selectionLevel wholeCount selectionCount wanting headOf copyOf wholeProgram selectionBits countOf nthOf isTaken completed permutationCount partner iterate walk key least lowest side pick inHalf permutationBits mapping takerOf inverse wantedBits
+unfolding benchSheet passes refuses programs selects counts fabricates planned selectionRows selectionOuts wholeRows wholeOuts padded chainWire
+    chainRows chainOuts inputRows outputRows firsts seconds permutationRows permutationOuts entries flat inputWires fabricRows fabricOuts fabricTable
+    mixRows wiresFrom universalRows universalOuts paddedGate wantedInput wantedInputs wantedOutputs planBits planProgram tableProgram isOf wantedGate
+    wantedGates mixBits universalBits choose selectionLevel wholeCount selectionCount wanting headOf copyOf wholeProgram selectionBits countOf nthOf
+    isTaken completed permutationCount partner iterate walk key least lowest side pick inHalf permutationBits mapping takerOf inverse wantedBits
 bench-sheet = passes-holds benchSheet refl

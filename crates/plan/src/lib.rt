@@ -1,11 +1,8 @@
-// Plans: the record in memory, reading one from a file, its faults, and what it gives on a row of inputs.
-// For any bytes the reader says, with proof, whether they are a plan, which fault they have and where; for any record in memory
-// `plan_fault` says whether it is an accepted plan, and `evaluate` what it gives.
-// Nothing here knows of fabrics.
-mod cursor;
+// Plans: the record in memory, the rules of its parts, its faults, and what it gives on a row of inputs.
+// For any record in memory `plan_fault` says, with proof, whether it is an accepted plan, and `evaluate` what it gives.
+// Nothing here reads files or knows of fabrics.
 mod evaluation;
 mod faults;
-mod reading;
 mod record;
 mod rules;
 
@@ -13,10 +10,11 @@ pub use evaluation::contact_fault;
 pub use evaluation::evaluate;
 pub use faults::counts_fault;
 pub use faults::plan_fault;
-pub use reading::PlanRead;
-pub use reading::ReadAnswer;
-pub use reading::read_plan;
 pub use record::Gate;
 pub use record::Plan;
 pub use record::PlanWire;
 pub use rules::count_allowed;
+pub use rules::map_allowed;
+pub use rules::operand_allowed;
+pub use rules::source_allowed;
+pub use rules::table_allowed;

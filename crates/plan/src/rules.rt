@@ -14,14 +14,14 @@ pub fn count_allowed(count: u32, limit: usize) -> bool
 }
 
 // Whether a map byte has no bit above the three fields.
-pub(crate) fn map_allowed(map: u8) -> bool
+pub fn map_allowed(map: u8) -> bool
     ensures { λ r. ⌜ r ≡ mapAllowed map ⌝ }
 {
     map <= 7
 }
 
 // Whether the wire may be an operand of the gate whose own wire is own.
-pub(crate) fn operand_allowed(own: PlanWire, wire: PlanWire) -> bool
+pub fn operand_allowed(own: PlanWire, wire: PlanWire) -> bool
     ensures { λ r. ⌜ r ≡ operandAllowed (own .0) (wire .0) ⌝ }
 {
     if wire.0 == 0 {
@@ -31,14 +31,14 @@ pub(crate) fn operand_allowed(own: PlanWire, wire: PlanWire) -> bool
 }
 
 // Whether a table has no bit above the four lines.
-pub(crate) fn table_allowed(table: u8) -> bool
+pub fn table_allowed(table: u8) -> bool
     ensures { λ r. ⌜ r ≡ tableAllowed table ⌝ }
 {
     table <= 15
 }
 
 // Whether the wire is a gate's, in a plan with so many inputs and gates.
-pub(crate) fn source_allowed(inputs: u16, gates: u16, wire: PlanWire) -> bool
+pub fn source_allowed(inputs: u16, gates: u16, wire: PlanWire) -> bool
     ensures { λ r. ⌜ r ≡ sourceAllowed inputs gates (wire .0) ⌝ }
 {
     if wire.0 <= inputs {

@@ -1,0 +1,58 @@
+-- `equivalence::twin::make_twin` meets its contract: what the first two calls wrote is run, and none of the four refuses. Assumes nothing.
+use native.Mathlib.Omega.{arith}
+use mathlib.Core.Path.{_≡_, _∙_}
+use borrow.Author.Needs.{needs}
+use Rattle.equivalence.specs.TwinLaws.{made-table, made-program, made-work, made-evaluated, made-ran}
+use Rattle.equivalence.proofs.twin.make_twin.Statement.{statement}
+use Rattle.equivalence.proofs.twin.make_twin.Tie as tie
+
+-- the buffers have kept their lengths
+written : tie.Need-run-written-requires
+written c κs =
+    let programmed = c .before .before .before .before .before .before in
+    let wrote = programmed .before .before .before .before in
+    let stated = wrote .before .before .before .before .before in
+    let l = stated .lengths-of .ensures in
+    let r = stated .before .before .before .before .before .before .before .pre .rooms in
+    let table = wrote .write-fabric .kept .1 .1 .1 .0 in
+    let program = programmed .program-plan .kept .1 .0 in
+    (omega (arith, l .table, r .tableRoom, table), omega (arith, l .program, r .programRoom, program))
+
+made : tie.Need-returns
+made c =
+    let ev = c .before .before in
+    let ran = ev .before .before .before .before .before .before in
+    let programmed = ran .before .before .before .before .before .before .before in
+    let wrote = programmed .before .before .before .before in
+    let stated = wrote .before .before .before .before .before in
+    let start = stated .before .before .before .before .before .before .before in
+    let a = start .args in
+    let l = stated .lengths-of .ensures in
+    let wrote-is = wrote .write-fabric .ensures .1 in
+    let programmed-is = programmed .program-plan .ensures .1 in
+    let P = a .plan in
+    let R = a .row .now in
+    let W = a .work .now in
+    let T = a .table .now in
+    let B = a .program .now in
+    let E = a .evaluated .now in
+    let N = a .ran .now in (
+      made-table P R T B W E N (start .pre) wrote-is,
+      (
+        made-program P R T B W E N (start .pre) programmed-is,
+        (
+          made-work P R T B W E N (start .pre) (l .table) (l .program) wrote-is programmed-is (ran .run-written .ensures .0),
+          (
+            made-evaluated P R T B W E N (start .pre) (ev .evaluate .ensures .1),
+            made-ran P R T B W E N (start .pre) (l .table) (l .program) wrote-is programmed-is (ran .run-written .ensures .1),
+          ),
+        ),
+      ),
+    )
+
+pub make-twin-spec : {M : Type 1} → statement M
+make-twin-spec =
+    tie.close
+    (tie.spec
+    (λ c κs. search needs) (λ c. search needs) (λ c. search needs) (λ c. search needs) (λ c κs. search needs) (λ c κs. search needs)
+    written (λ c κs. search needs) (λ c. search needs) (λ c. search needs) (λ c. search needs) (λ c. search needs) (λ c. search needs) made)

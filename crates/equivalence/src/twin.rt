@@ -1,0 +1,195 @@
+// The four calls on lent buffers: the fabric's table for the plan's three counts, the plan's program, the run of exactly those entries and
+// bytes, and plan evaluation. Checks come first and touch no buffer.
+ghost use mathlib.Core.Path.{_≡_};
+ghost use Prim.Native.Nat.{_<_, _≤_};
+ghost use lib.ListN.{length, getD, take};
+ghost use Rattle.fault.specs.Number.{answerNumber};
+ghost use Rattle.fault.specs.Buffers.{over};
+ghost use Rattle.plan.specs.Faults.{Accepted};
+ghost use Rattle.plan.specs.Evaluation.{gateBit, planOutputs};
+ghost use Rattle.universal.specs.Fabric.{planProgram};
+ghost use Rattle.universal.specs.Tables.{runWires, runOutputs};
+ghost use Rattle.run.specs.RunCalls.{runWork, runResult};
+ghost use Rattle.equivalence.specs.TwinCalls.{tableOf, twinRoomFault, twinFault, twinTable, twinProgram, twinWork, twinEvaluated, twinRan};
+ghost use Rattle.equivalence.specs.TwinLaws.{LengthsAre, TwinPasses};
+use elements::row_place;
+use fabric_bits::program_plan;
+use fabric_rows::CountAnswer;
+use fabric_rows::count_fabric;
+use fabric_rows::write_fabric;
+use fault::Answer;
+use fault::Fault;
+use plan::Plan;
+use plan::contact_fault;
+use plan::evaluate;
+use plan::plan_fault;
+use run::run;
+
+// The entries before the rows of a table.
+const HEADER: usize = 3;
+
+// The stated lengths of table, program and work.
+struct Lengths {
+    table: usize,
+    program: usize,
+    work: usize,
+}
+
+// The plan's outputs on the row into `evaluated`, the fabric's into `ran`; table, program and work are the fabric's.
+pub fn run_twin(
+    plan: Plan,
+    row: &[u8],
+    table: &mut [u16],
+    program: &mut [u8],
+    work: &mut [u8],
+    evaluated: &mut [u8],
+    ran: &mut [u8],
+) -> Answer
+    ensures answered { λ r. ⌜ answerNumber r ≡ twinFault plan (now (row .entry)) (length (now (table .entry))) (length (now (program .entry))) (length (now (work .entry))) (length (now (evaluated .entry))) (length (now (ran .entry))) ⌝ }
+    ensures table { λ r. ⌜ now (table .exit) ≡ twinTable plan (answerNumber r) (now (table .entry)) ⌝ }
+    ensures program { λ r. ⌜ now (program .exit) ≡ twinProgram plan (answerNumber r) (now (program .entry)) ⌝ }
+    ensures work { λ r. ⌜ now (work .exit) ≡ twinWork plan (answerNumber r) (now (row .entry)) (now (work .entry)) ⌝ }
+    ensures evaluated { λ r. ⌜ now (evaluated .exit) ≡ twinEvaluated plan (answerNumber r) (now (row .entry)) (now (evaluated .entry)) ⌝ }
+    ensures ran { λ r. ⌜ now (ran .exit) ≡ twinRan plan (answerNumber r) (now (row .entry)) (now (ran .entry)) ⌝ }
+    ensures same { λ r. ⌜ (answerNumber r ≡ 0 → (j : _) → j < plan .«output_count» → getD (now (evaluated .exit)) j 0 ≡ getD (now (ran .exit)) j 0) ⌝ }
+{
+    match check_twin(
+        plan,
+        row,
+        table.len(),
+        program.len(),
+        work.len(),
+        evaluated.len(),
+        ran.len(),
+    ) {
+        Answer::Refused(f) => Answer::Refused(f),
+        Answer::Done => {
+            make_twin(plan, row, table, program, work, evaluated, ran);
+            Answer::Done
+        }
+    }
+}
+
+// The checks: plan faults, 12, 11.
+fn check_twin(
+    plan: Plan,
+    row: &[u8],
+    table: usize,
+    program: usize,
+    work: usize,
+    evaluated: usize,
+    ran: usize,
+) -> Answer
+    ensures { λ r. ⌜ answerNumber r ≡ twinFault plan (now (row .entry)) table program work evaluated ran ⌝ }
+{
+    match plan_fault(plan) {
+        Answer::Refused(f) => Answer::Refused(f),
+        Answer::Done => match contact_fault(plan.inputs as usize, row) {
+            Answer::Refused(f) => Answer::Refused(f),
+            Answer::Done => check_rooms(plan, table, program, work, evaluated, ran),
+        },
+    }
+}
+
+// 11 for each of the five lent buffers.
+fn check_rooms(
+    plan: Plan,
+    table: usize,
+    program: usize,
+    work: usize,
+    evaluated: usize,
+    ran: usize,
+) -> Answer
+    requires { ⌜ Accepted plan ⌝ }
+    ensures { λ r. ⌜ answerNumber r ≡ twinRoomFault plan table program work evaluated ran ⌝ }
+{
+    let lengths = lengths_of(plan);
+    let outputs = plan.output_count as usize;
+    if table < lengths.table {
+        return Answer::Refused(Fault::Short);
+    }
+    if program < lengths.program {
+        return Answer::Refused(Fault::Short);
+    }
+    if work < lengths.work {
+        return Answer::Refused(Fault::Short);
+    }
+    if evaluated < outputs {
+        return Answer::Refused(Fault::Short);
+    }
+    if ran < outputs {
+        return Answer::Refused(Fault::Short);
+    }
+    Answer::Done
+}
+
+// The stated lengths, from the fabric's counts.
+fn lengths_of(plan: Plan) -> Lengths
+    requires { ⌜ Accepted plan ⌝ }
+    ensures { λ r. ⌜ LengthsAre plan r ⌝ }
+{
+    match count_fabric(
+        plan.inputs as u32,
+        plan.gate_count as u32,
+        plan.output_count as u32,
+    ) {
+        CountAnswer::Refused(_) => Lengths {
+            table: 0,
+            program: 0,
+            work: 0,
+        },
+        CountAnswer::Counted(c) => Lengths {
+            table: HEADER + row_place(c.rows) + plan.output_count as usize,
+            program: (c.bits as usize + 7) / 8,
+            work: c.wires as usize,
+        },
+    }
+}
+
+// The four calls where all checks pass.
+fn make_twin(
+    plan: Plan,
+    row: &[u8],
+    table: &mut [u16],
+    program: &mut [u8],
+    work: &mut [u8],
+    evaluated: &mut [u8],
+    ran: &mut [u8],
+)
+    requires { ⌜ TwinPasses plan (now row) (length (now table)) (length (now program)) (length (now work)) (length (now evaluated)) (length (now ran)) ⌝ }
+    ensures { λ _. ⌜ now (table .exit) ≡ over (tableOf plan) (now (table .entry)) ⌝ }
+    ensures { λ _. ⌜ now (program .exit) ≡ over (planProgram plan) (now (program .entry)) ⌝ }
+    ensures { λ _. ⌜ now (work .exit) ≡ over (runWires (tableOf plan) (planProgram plan) (now (row .entry))) (now (work .entry)) ⌝ }
+    ensures { λ _. ⌜ now (evaluated .exit) ≡ over (planOutputs 0 gateBit plan (now (row .entry))) (now (evaluated .entry)) ⌝ }
+    ensures { λ _. ⌜ now (ran .exit) ≡ over (runOutputs (tableOf plan) (planProgram plan) (now (row .entry))) (now (ran .entry)) ⌝ }
+{
+    let lengths = lengths_of(plan);
+    let entries = lengths.table;
+    let bytes = lengths.program;
+    write_fabric(
+        plan.inputs as u32,
+        plan.gate_count as u32,
+        plan.output_count as u32,
+        table,
+    );
+    program_plan(plan, program);
+    run_written(table, entries, program, bytes, row, work, ran);
+    evaluate(plan, row, evaluated);
+}
+
+// The run of exactly so many entries and bytes.
+fn run_written(
+    table: &[u16],
+    entries: usize,
+    program: &[u8],
+    bytes: usize,
+    row: &[u8],
+    work: &mut [u8],
+    ran: &mut [u8],
+)
+    requires { ⌜ (entries ≤ length (now table)) × (bytes ≤ length (now program)) ⌝ }
+    ensures { λ _. ⌜ now (work .exit) ≡ runWork (take entries (now (table .entry))) (take bytes (now (program .entry))) (now (row .entry)) (now (work .entry)) (now (ran .entry)) ⌝ }
+    ensures { λ _. ⌜ now (ran .exit) ≡ runResult (take entries (now (table .entry))) (take bytes (now (program .entry))) (now (row .entry)) (now (work .entry)) (now (ran .entry)) ⌝ }
+{
+    run(&table[..entries], &program[..bytes], row, work, ran);
+}

@@ -1,0 +1,117 @@
+-- `fabric_bits::block::program_universal` meets its contract. The measure is the level. The upper half, the part between and the lower half are
+-- stored one behind the other. Assumes nothing.
+use mathlib.Core.Path.{ap, _∙_}
+use mathlib.Core.List.{List}
+use Prim.Native.Nat.{ℕ, _+_, _<_}
+use native.Mathlib.Omega.{arith}
+use borrow.Author.Needs.{needs}
+use borrow.Fn.Kinds.{In}
+use borrow.Fn.PlainCycle.{Measures, is, falls, and}
+use lib.ListN.{length}
+use lib.Pow.{pow-pos}
+use Rattle.networks.specs.Bits.{storeBits}
+use Rattle.fabric_bits.specs.GateLists.{gatesIn, pinsIn}
+use Rattle.fabric_bits.specs.UniversalBitsLaws.{upper-room, between-room, between-fits, lower-room, length-between, between-pins, gate-stored, halves-stored}
+use Rattle.fabric_bits.proofs.block.program_universal.Reads as program-universal
+use Rattle.fabric_bits.proofs.block.program_universal.Kinds as program-universal-kinds
+use Rattle.fabric_bits.proofs.block.+program_universal.Lts-program_universal as program-universal-lts
+use Rattle.fabric_bits.proofs.block.places_at.Reads as places-at-reads
+use Rattle.fabric_bits.proofs.block.program_between.Reads as program-between-reads
+use Rattle.fabric_bits.proofs.block.store_table.Reads as store-table-reads
+use Rattle.fabric_bits.proofs.block.universal_takes.Reads as universal-takes-reads
+use Rattle.fabric_bits.proofs.block.+program_universal.{statement}
+use Rattle.fabric_bits.proofs.block.+program_universal.Tie.{close}
+
+abbrev μ-program-universal : Measures 4 program-universal-kinds.ps ℕ
+μ-program-universal κs a = a .0
+
+abbrev universal-at : ℕ → In 4 program-universal-kinds.ps
+universal-at t = and 4 program-universal-kinds.ps (is 4 program-universal-kinds.ps μ-program-universal t) program-universal.Pre
+
+-- what is known of the calls
+abbrev calls : ℕ → program-universal-lts.Claims
+calls t = (
+  places-at-reads.Asked,
+  places-at-reads.Learnt,
+  universal-takes-reads.Asked,
+  universal-takes-reads.Learnt,
+  and 4 program-universal-kinds.ps (falls 4 program-universal-kinds.ps _<_ μ-program-universal t) program-universal.Pre,
+  program-universal.Post,
+  program-between-reads.Asked,
+  program-between-reads.Learnt,
+  store-table-reads.Asked,
+  store-table-reads.Learnt,
+)
+
+for-upper : (t : ℕ) → program-universal-lts.Need-program-universal-requires (calls t) (universal-at t) program-universal.Post
+for-upper t c κs =
+    let if1 = c .before .before .before .before in
+    let s = if1 .before .before .before .before .before in
+    (omega (arith, s .pre .0, if1 .if1 .taken), upper-room (s .pre .1) (if1 .if1 .taken) (c .before .before .before .places-at .ensures))
+
+for-between : (t : ℕ) → program-universal-lts.Need-program-between-requires (calls t) (universal-at t) program-universal.Post
+for-between t c κs =
+    let upper = c .before .before .before .before .before .before .program-universal in
+    let counted = c .before .before .before .before .before .before .before .before .before in
+    let if1 = counted .before .before in
+    let s = if1 .before .before .before .before .before in
+    let l = if1 .if1 .taken in
+    let places = counted .before .places-at .ensures in (
+      between-room (s .pre .1) l places (upper .kept .1 .1 .1 .1 .1 .0),
+      between-fits (s .pre .1) l places (ap (λ n. s .args .start + n) (counted .universal-takes .ensures .isTakes)) (upper .kept .1 .1 .1 .1 .1 .1 .0),
+    )
+
+for-lower : (t : ℕ) → program-universal-lts.Need-program-universal-requires-2 (calls t) (universal-at t) program-universal.Post
+for-lower t c κs =
+    let between = c .before .before .before .before .before .before in
+    let upper = between .before .before .before .before .before .before .before in
+    let counted = upper .before .before .before in
+    let if1 = counted .before .before in
+    let s = if1 .before .before .before .before .before in
+    let a = s .args in
+    let l = if1 .if1 .taken in
+    let places = counted .before .places-at in
+    let size = length-between (pinsIn (a .before) (a .pins .now)) (a .base) (places .result) in (
+      omega (arith, s .pre .0, l),
+      lower-room (s .pre .1) l (places .ensures) (omega (arith, between .program-between .ensures .0, counted .universal-takes .ensures .isTakes, size))
+          (between .program-between .kept .1 .1 .1 .1 .0 ∙ upper .program-universal .kept .1 .1 .1 .1 .1 .0)
+          (between .program-between .kept .1 .1 .1 .1 .1 .0 ∙ upper .program-universal .kept .1 .1 .1 .1 .1 .1 .0),
+    )
+
+stored : (t : ℕ) → program-universal-lts.Need-returns (calls t) (universal-at t) program-universal.Post
+stored t c =
+    let lower = c .before .before .before .before in
+    let between = lower .before .before .before .before .before .before .before in
+    let upper = between .before .before .before .before .before .before .before in
+    let counted = upper .before .before .before in
+    let if1 = counted .before .before in
+    let s = if1 .before .before .before .before .before in
+    let a = s .args in
+    let pins = a .pins .now in
+    let G = gatesIn (a .before) pins (a .tables .now) in
+    let half = counted .before .places-at .result in
+    let same = between-pins (a .before) pins (a .tables .now) (a .base) half in
+    halves-stored G (a .level) (a .base) (a .start) (a .program .now) (if1 .if1 .taken) (counted .before .places-at .ensures .isPlaces)
+    (upper .program-universal .ensures) (ap (λ n. a .start + n) (counted .universal-takes .ensures .isTakes))
+    (between .program-between .ensures .1 ∙ ap (storeBits (upper .program-universal .last .1 .1 .1 .1 .1 .1 .0) _) same)
+    (between .program-between .ensures .0 ∙ ap (λ (bits : List ℕ). a .start + counted .universal-takes .result + length bits) same)
+    (lower .program-universal2 .ensures)
+
+gate-there : (t : ℕ) → program-universal-lts.Need-shared-slice-read-store-table (calls t) (universal-at t) program-universal.Post
+gate-there t c =
+    let s = c .before .before .before .before .before .before in
+    omega (arith, pow-pos (s .args .level), s .pre .1 .gates, s .pre .1 .tableRoom)
+
+table : (t : ℕ) → program-universal-lts.Need-returns-2 (calls t) (universal-at t) program-universal.Post
+table t c =
+    let if1 = c .before .before .before .before .before in
+    let a = if1 .before .before .before .before .before .args in
+    c .before .before .store-table .ensures
+    ∙ gate-stored (gatesIn (a .before) (a .pins .now) (a .tables .now)) (a .level) (a .base) (a .start) (a .program .now) (if1 .if1 .left)
+
+pub +program-universal-spec : {M : Type 1} → statement M
++program-universal-spec =
+    close μ-program-universal λ t. program-universal-lts.spec (calls t) (universal-at t) program-universal.Post
+    (λ c. search needs) (λ c κs. search needs) (λ c. search needs) (λ c κs. search needs) (λ c. search needs) (λ c. search needs) (for-upper t)
+    (for-between t) (λ c. search needs) (λ c. search needs) (for-lower t) (gate-there t) (λ c κs. search needs) (λ c. search needs)
+    (λ c. search needs) (stored t) (λ c. search needs) (table t)

@@ -1,0 +1,64 @@
+-- `fabric_bits::programming::program_plan` meets its contract: the checks decide, and where none fails the plan's bits are stored in zeroed bytes.
+-- Assumes nothing.
+use mathlib.Core.Path.{_≡_, sym, ap, _∙_}
+use Prim.Native.Nat.{_≤_}
+use native.Mathlib.Omega.{arith}
+use borrow.Author.Needs.{needs}
+use lib.ListN.{length}
+use Rattle.fault.specs.Number.{answerNumber}
+use Rattle.fault.specs.BuffersLaws.{filled-refused, filled-done}
+use Rattle.plan.specs.FaultsLaws.{accepted-counts}
+use Rattle.networks.specs.Bits.{bytesFor, storeBits}
+use Rattle.elements.specs.StoreLaws.{store-zeroed, bytes-filled}
+use Rattle.universal.specs.Fabric.{planBits, planProgram}
+use Rattle.universal.specs.FabricLaws.{length-planBits}
+use Rattle.fabric_bits.specs.ProgramCalls.{planProgramFault}
+use Rattle.fabric_bits.specs.PlanProgramLaws.{ProgramPasses, program-passes}
+use Rattle.fabric_bits.proofs.programming.program_plan.Statement.{statement}
+use Rattle.fabric_bits.proofs.programming.program_plan.Tie as tie
+
+-- where the checks are done, none fails
+module _ (c : tie.After-enum-told) where
+  none : let a = c .before .before .before .before .args in 0 ≡ planProgramFault (a .plan) (length (a .program .now))
+  none = ap answerNumber (sym (c .enum-told .given .1)) ∙ c .before .before .check-program .ensures
+
+  passes : let a = c .before .before .before .before .args in ProgramPasses (a .plan) (length (a .program .now))
+  passes = program-passes _ _ (sym none)
+
+for-length : tie.Need-program-length-requires
+for-length c κs = accepted-counts _ (passes (c .before .before .before) .accepted)
+
+for-bits : tie.Need-store-plan-requires
+for-bits c κs =
+    let filled = c .before .before .before .fill-bytes in
+    let h = passes (c .before .before .before .before .before .before .before .before .before) in
+    (h .accepted, omega (arith, h .fits, filled .kept .0))
+
+refused : tie.Need-returns
+refused c =
+    let f = c .before .f .given in
+    let e = ap answerNumber (sym (f .1)) ∙ c .before .before .before .check-program .ensures in
+    (e, filled-refused (f .0 .0) _ _ _ e)
+
+done : tie.Need-returns-2
+unfolding planProgram
+done c =
+    let stored = c .before .before .store-plan in
+    let filled = c .before .before .before .before .before .before in
+    let measured = filled .before .before .program-length in
+    let told = filled .before .before .before .before .before .before in
+    let a = told .before .before .before .before .args in
+    let bits = planBits (a .plan) in
+    let room : measured .result ≤ length (a .program .now) = omega (arith, passes told .fits, measured .ensures) in
+    let bytes = ap bytesFor (length-planBits (a .plan)) ∙ sym (measured .ensures) in (
+      none told,
+      stored .ensures ∙ ap (λ s. storeBits s 0 bits) (filled .fill-bytes .ensures ∙ bytes-filled _ 0 (a .program .now) room)
+          ∙ store-zeroed bits (a .program .now) _ bytes ∙ filled-done _ _ _ (none told),
+    )
+
+pub program-plan-spec : {M : Type 1} → statement M
+program-plan-spec =
+    tie.close
+    (tie.spec
+    (λ c κs. search needs) (λ c. search needs) (λ c. search needs) (λ c. search needs) (λ c. search needs) (λ c. search needs) for-length
+    (λ c κs. search needs) for-bits refused (λ c. search needs) done)

@@ -1,0 +1,227 @@
+-- U's bits by its levels: how many they are, that what the halves and the part between them store is U's, and that they depend on the operands and
+-- tables of U's own gates alone.
+use mathlib.Core.Path.{_≡_, refl, sym, ap, ap₂, _∙_}
+use mathlib.Core.List.{List, _++_, append-assoc}
+use Prim.Native.Nat.{ℕ, zero, suc, _+_, _-_, _*_, _^_, _≤_, _<_}
+use native.Mathlib.Nat.{not-suc-le-zero, mul-le-mul}
+use native.Mathlib.Numerals.{sub-one}
+use native.Mathlib.Omega.{arith}
+use lib.ListN.{length, take, length-append}
+use lib.Pow.{pow-mono, pow-pos}
+use Rattle.lists.specs.ListsLaws.{listOf-ext}
+use Rattle.plan.specs.Record.{maxGates}
+use Rattle.networks.specs.Rows.{operands}
+use Rattle.networks.specs.Bits.{storeBits}
+use Rattle.networks.specs.BitsLaws.{storeBits-append}
+use Rattle.networks.specs.Counting.{oneIf}
+use Rattle.networks.specs.Selection.{selectionCount, selectionBits}
+use Rattle.networks.specs.SelectionRouting.{length-selectionBits}
+use Rattle.selection_bits.specs.ProgramCalls.{selectionProgramAtResult}
+use Rattle.selection_bits.specs.SelectionProgramLaws.{SelectionPasses, selection-program-at-succeeds}
+use Rattle.elements.specs.ChecksLaws.{stored-done}
+use Rattle.universal.specs.Selector.{pinCount, selection}
+use Rattle.universal.specs.SelectorLaws.{double, selection-shape}
+use Rattle.universal.specs.Universal.{Gates, universalTakes, tableProgram, isOf, wantedGate, wantedGates, mixBits, universalBits}
+use Rattle.universal.specs.UniversalLaws.{universal-takes, universal-count, length-universalBits}
+use Rattle.universal.specs.UniversalProgram.{wanted-selected, length-mixBits}
+use Rattle.fabric_bits.specs.GateLists.{maxGateLevel, gatesIn, pinsIn, isAmong, wantedAmong, betweenBits, PlacesIs, TakesIs, BetweenRoom, BetweenFits, UniversalRoom}
+use Rattle.fabric_bits.specs.GateListsLaws.{among-gates, wanted-among}
+
+-- ---- counts
+
+pub places-are : (level : ℕ) {places : ℕ} → level ≤ maxGateLevel → places ≡ 2 ^ level → PlacesIs level places
+places-are level few e = record { isPlaces = e; some = rw e (pow-pos level); most = rw e (pow-mono few) }
+
+-- what the count of U's bits is made of
+pub record TakesParts (level places : ℕ) : Type 0 where
+  pub square : level * level ≤ 64
+  pub product : places * (level * level + level) ≤ 18432
+  pub all : TakesIs level (places * (level * level + level) + 2 * places - 1 + 3 * places)
+
+pub takes-parts : (level : ℕ) {places : ℕ} → level ≤ maxGateLevel → PlacesIs level places → TakesParts level places
+takes-parts level {places} few P =
+    let square : level * level ≤ 8 * 8 = mul-le-mul few few in
+    let both : level * level + level ≤ 72 = omega arith in
+    let product : places * (level * level + level) ≤ 256 * 72 = mul-le-mul (P .most) both in
+    let rows : places * (level * level + level) ≡ 2 ^ level * (level * level + level) = ap (λ k. k * (level * level + level)) (P .isPlaces) in
+    record {
+      square = square;
+      product = product;
+      all = record { isTakes = omega (arith, universal-takes selection level, universal-count level, P .isPlaces, P .some); few = omega (arith, P .most) };
+    }
+
+-- a level above 0 by its halves
+pub record Halving (level : ℕ) : Type 0 where
+  pub double : 2 ^ level ≡ 2 * 2 ^ (level - 1)
+  pub takes : universalTakes selection level
+      ≡ universalTakes selection (level - 1) + (selectionCount (2 ^ (level - 1)) (pinCount (level - 1)) + (pinCount (level - 1) + universalTakes selection (level - 1)))
+
+pub halving : (level : ℕ) → 0 < level → Halving level
+unfolding universalTakes
+halving zero l = absurd (not-suc-le-zero l)
+halving (suc n) l = record { double = rw (sub-one (suc n)) (double n); takes = rw (sub-one (suc n)) refl }
+
+-- what the parts of such a level are lent
+module _ {level base before pins tables wanted start room half : ℕ} (R : UniversalRoom level base before pins tables wanted start room) (l : 0 < level)
+    (P : PlacesIs (level - 1) half) where
+  takes-half : universalTakes selection level
+      ≡ universalTakes selection (level - 1) + (selectionCount half (operands * half) + (operands * half + universalTakes selection (level - 1)))
+  takes-half =
+      halving level l .takes
+      ∙ ap (λ h. universalTakes selection (level - 1) + (selectionCount h (operands * h) + (operands * h + universalTakes selection (level - 1))))
+      (sym (P .isPlaces))
+
+  all-gates : base + (half + half) ≤ maxGates
+  all-gates = omega (arith, halving level l .double, P .isPlaces, R .gates)
+
+  pub upper-room : UniversalRoom (level - 1) base before pins tables wanted start room
+  upper-room = record {
+    small = omega (arith, R .small);
+    inputs = R .inputs;
+    gates = omega (arith, all-gates, P .isPlaces);
+    pinRoom = R .pinRoom;
+    tableRoom = R .tableRoom;
+    wantedRoom = R .wantedRoom;
+    few = omega (arith, takes-half, R .few);
+    fits = omega (arith, takes-half, R .fits);
+  }
+
+  pub between-room : {w : ℕ} → w ≡ wanted → BetweenRoom before base half pins w
+  between-room e = record {
+    inputs = R .inputs;
+    some = P .some;
+    gates = omega (arith, all-gates);
+    pinRoom = R .pinRoom;
+    wantedRoom = omega (arith, all-gates, R .wantedRoom);
+  }
+
+  pub between-fits : {between r : ℕ} → between ≡ start + universalTakes selection (level - 1) → r ≡ room → BetweenFits half between r
+  between-fits eb er = record { few = omega (arith, takes-half, R .few); fits = omega (arith, takes-half, R .fits) }
+
+  pub lower-room : {lower w r : ℕ} → lower ≡ start + universalTakes selection (level - 1) + (selectionCount half (operands * half) + operands * half)
+      → w ≡ wanted → r ≡ room → UniversalRoom (level - 1) (base + half) before pins tables w lower r
+  lower-room el ew er = record {
+    small = omega (arith, R .small);
+    inputs = R .inputs;
+    gates = omega (arith, all-gates, P .isPlaces);
+    pinRoom = R .pinRoom;
+    tableRoom = R .tableRoom;
+    wantedRoom = ew ∙ R .wantedRoom;
+    few = omega (arith, takes-half, R .few);
+    fits = omega (arith, takes-half, R .fits);
+  }
+
+-- ---- S's call, where it has nothing to refuse
+
+pub selection-stored : {m n start : ℕ} {wanted : List ℕ} (program : List ℕ) → SelectionPasses m n wanted start (length program)
+    → selectionProgramAtResult m n wanted start program ≡ storeBits program start (selectionBits m n wanted)
+selection-stored {m} {n} {start} {wanted} program P =
+    let s = P .sides in
+    let none = selection-program-at-succeeds m n start (length program) (s .someInputs) (s .inputs) (s .someOutputs) (s .outputs) (P .selected) (P .fits) in
+    sym (stored-done _ start (selectionBits m n wanted) program (sym none))
+
+-- ---- between the halves
+
+pub length-between : (G : Gates) (base h : ℕ) → length (betweenBits G base h) ≡ selectionCount h (operands * h) + operands * h
+unfolding betweenBits
+length-between G base h =
+    length-append (selectionBits h (operands * h) (wantedGates G base h)) _
+    ∙ ap₂ (λ a b. a + b) (length-selectionBits h (operands * h) (wantedGates G base h)) (length-mixBits G base h)
+
+pub between-passes : {before base h pins room₀ : ℕ} (G : Gates) (wanted : List ℕ) {start room : ℕ} → BetweenRoom before base h pins room₀
+    → BetweenFits h start room → take (2 * h) wanted ≡ wantedGates G base h → SelectionPasses h (2 * h) (take (2 * h) wanted) start room
+between-passes {h} G wanted R F e = record {
+  sides = record { someInputs = R .some; inputs = omega arith; someOutputs = omega arith; outputs = omega arith };
+  selected = rw e (wanted-selected G _ h (R .some));
+  fits = omega (arith, F .fits);
+}
+
+pub between-stored : (G : Gates) (base h start : ℕ) (s₀ : List ℕ) {choices : ℕ} {wanted s₁ s₂ : List ℕ} → wanted ≡ wantedGates G base h
+    → s₁ ≡ storeBits s₀ start (selectionBits h (2 * h) wanted) → choices ≡ start + selectionCount h (2 * h)
+    → s₂ ≡ storeBits s₁ choices (mixBits G base h) → s₂ ≡ storeBits s₀ start (betweenBits G base h)
+unfolding betweenBits
+between-stored G base h start s₀ {choices} {wanted} {s₁} {s₂} ew e₁ ec e₂ =
+    let S = selectionBits h (2 * h) (wantedGates G base h) in
+    let first : s₁ ≡ storeBits s₀ start S = e₁ ∙ ap (λ w. storeBits s₀ start (selectionBits h (2 * h) w)) ew in
+    let at : choices ≡ start + length S = ec ∙ ap (λ n. start + n) (sym (length-selectionBits h (2 * h) (wantedGates G base h))) in
+    e₂ ∙ ap₂ (λ s p. storeBits s p (mixBits G base h)) first at ∙ sym (storeBits-append s₀ start S (mixBits G base h))
+
+-- the tables do not matter there
+pub between-pins : (before : ℕ) (pins tables : List ℕ) (base h : ℕ)
+    → betweenBits (pinsIn before pins) base h ≡ betweenBits (gatesIn before pins tables) base h
+unfolding betweenBits wantedGates wantedGate mixBits isOf
+between-pins before pins tables base h = refl
+
+-- ---- the whole
+
+-- U(1)
+pub gate-stored : (G : Gates) (level base start : ℕ) (s₀ : List ℕ) → level ≤ 0
+    → storeBits s₀ start (tableProgram (G .table base)) ≡ storeBits s₀ start (universalBits selection G level base)
+unfolding universalBits
+gate-stored G zero base start s₀ l = refl
+gate-stored G (suc n) base start s₀ l = absurd (not-suc-le-zero l)
+
+-- the upper half, the part between, the lower half
+halves-at : (G : Gates) (n base start : ℕ) (s₀ : List ℕ) {h between lower : ℕ} {s₁ s₂ s₃ : List ℕ} → h ≡ 2 ^ n
+    → s₁ ≡ storeBits s₀ start (universalBits selection G n base)
+    → between ≡ start + universalTakes selection n → s₂ ≡ storeBits s₁ between (betweenBits G base h)
+    → lower ≡ between + length (betweenBits G base h) → s₃ ≡ storeBits s₂ lower (universalBits selection G n (base + h))
+    → s₃ ≡ storeBits s₀ start (universalBits selection G (suc n) base)
+unfolding universalBits betweenBits
+halves-at G n base start s₀ {h} {between} {lower} {s₁} {s₂} {s₃} eh e₁ eb e₂ el e₃ =
+    let U = universalBits selection G n base in
+    let B = betweenBits G base (2 ^ n) in
+    let L = universalBits selection G n (base + 2 ^ n) in
+    let first = storeBits s₀ start U in
+    let at : between ≡ start + length U = eb ∙ ap (λ k. start + k) (sym (length-universalBits selection selection-shape G n base)) in
+    let second : s₂ ≡ storeBits first between B = e₂ ∙ ap₂ (λ s k. storeBits s between (betweenBits G base k)) e₁ eh in
+    e₃ ∙ ap (λ k. storeBits s₂ lower (universalBits selection G n (base + k))) eh
+    ∙ ap₂ (λ s p. storeBits s p L) second (el ∙ ap (λ k. between + length (betweenBits G base k)) eh)
+    ∙ sym (storeBits-append first between B L)
+    ∙ ap (λ p. storeBits first p (B ++ L)) at
+    ∙ sym (storeBits-append s₀ start U (B ++ L))
+    ∙ ap (λ t. storeBits s₀ start (U ++ t)) (append-assoc (selectionBits (2 ^ n) (pinCount n) (wantedGates G base (2 ^ n))) (mixBits G base (2 ^ n)) L)
+
+pub halves-stored : (G : Gates) (level base start : ℕ) (s₀ : List ℕ) {h between lower : ℕ} {s₁ s₂ s₃ : List ℕ} → 0 < level → h ≡ 2 ^ (level - 1)
+    → s₁ ≡ storeBits s₀ start (universalBits selection G (level - 1) base)
+    → between ≡ start + universalTakes selection (level - 1) → s₂ ≡ storeBits s₁ between (betweenBits G base h)
+    → lower ≡ between + length (betweenBits G base h) → s₃ ≡ storeBits s₂ lower (universalBits selection G (level - 1) (base + h))
+    → s₃ ≡ storeBits s₀ start (universalBits selection G level base)
+halves-stored G level base start s₀ l eh e₁ eb e₂ el e₃ =
+    let whole : suc (level - 1) ≡ level = omega arith in
+    halves-at G (level - 1) base start s₀ eh e₁ eb e₂ el e₃ ∙ ap (λ n. storeBits s₀ start (universalBits selection G n base)) whole
+
+-- ---- gates past U's own never matter
+
+-- gates that agree on all operands and tables below a limit
+pub record SameGates (limit : ℕ) (G H : Gates) : Type 0 where
+  pub before : G .before ≡ H .before
+  pub operand : (q : ℕ) → q < operands * limit → G .operand q ≡ H .operand q
+  pub table : (g : ℕ) → g < limit → G .table g ≡ H .table g
+
+module _ (limit : ℕ) (G H : Gates) (same : SameGates limit G H) where
+  wanted-same : (base h : ℕ) → base + (h + h) ≤ limit → wantedGates G base h ≡ wantedGates H base h
+  unfolding wantedGates
+  wanted-same base h l = listOf-ext (operands * h) _ _ (λ j m.
+      sym (wanted-among G base h _)
+      ∙ ap₂ (λ b w. wantedAmong (b + base) h w) (same .before) (same .operand (operands * (base + h) + j) (omega arith))
+      ∙ wanted-among H base h _)
+
+  mix-same : (base h : ℕ) → base + (h + h) ≤ limit → mixBits G base h ≡ mixBits H base h
+  unfolding mixBits
+  mix-same base h l = listOf-ext (operands * h) _ _ (λ j m. ap oneIf (
+      sym (among-gates G base h _)
+      ∙ ap₂ (λ b w. isAmong (b + base) h w) (same .before) (same .operand (operands * (base + h) + j) (omega arith))
+      ∙ among-gates H base h _))
+
+  pub universal-same : (n base : ℕ) → base + 2 ^ n ≤ limit → universalBits selection G n base ≡ universalBits selection H n base
+  unfolding universalBits
+  universal-same zero base l = ap tableProgram (same .table base (omega arith))
+  universal-same (suc n) base l =
+      let half : base + (2 ^ n + 2 ^ n) ≤ limit = omega (arith, double n) in
+      rw (
+        universal-same n base (omega arith),
+        universal-same n (base + 2 ^ n) (omega arith),
+        wanted-same base (2 ^ n) half,
+        mix-same base (2 ^ n) half,
+      )

@@ -1,0 +1,129 @@
+// The program bits of a plan. Checks come first and touch no buffer. The call holds three arrays, 2,304 bytes, and lends them to all that
+// works under it.
+ghost use mathlib.Core.Path.{_≡_};
+ghost use Prim.Native.Nat.{_+_, _*_, _^_, _≤_};
+ghost use lib.ListN.{length};
+ghost use Rattle.fault.specs.Number.{answerNumber};
+ghost use Rattle.plan.specs.Faults.{Accepted};
+ghost use Rattle.networks.specs.Bits.{storeBits};
+ghost use Rattle.networks.specs.Selection.{selectionCount, selectionBits};
+ghost use Rattle.selection_bits.specs.SelectionProgramLaws.{SelectionPasses};
+ghost use Rattle.universal.specs.Fabric.{gateLevel, fabricTakes, wantedOutputs, planBits};
+ghost use Rattle.fabric_bits.specs.ProgramCalls.{planProgramFault, planProgramResult};
+ghost use Rattle.fabric_bits.specs.GateLists.{maxPins, inputsWanted, gatesProgram, GatesRoom};
+use crate::block::places_at;
+use crate::block::program_universal;
+use crate::block::store_selection;
+use crate::block::universal_takes;
+use crate::checks::check_program;
+use crate::checks::program_length;
+use crate::gates::list_inputs;
+use crate::gates::list_outputs;
+use crate::gates::load_gates;
+use elements::fill_bytes;
+use fault::Answer;
+use plan::Plan;
+use powers::ceil_log;
+use sizes::selection_count;
+
+// The pins of the largest fabric, two for each gate.
+const PINS: usize = 2 * Plan::MAX_GATES;
+
+// The program of the plan, from the front of `program`. Spare bits of its last byte are 0.
+pub fn program_plan(plan: Plan, program: &mut [u8]) -> Answer
+    ensures answered { λ r. ⌜ answerNumber r ≡ planProgramFault plan (length (now (program .entry))) ⌝ }
+    ensures written { λ _. ⌜ now (program .exit) ≡ planProgramResult plan (now (program .entry)) ⌝ }
+{
+    match check_program(plan, program.len()) {
+        Answer::Refused(f) => Answer::Refused(f),
+        Answer::Done => {
+            let length = program_length(
+                plan.inputs as u32,
+                plan.gate_count as u32,
+                plan.output_count as u32,
+            );
+            fill_bytes(program, length, 0);
+            store_plan(plan, program);
+            Answer::Done
+        }
+    }
+}
+
+// The plan's bits, stored from bit 0 on. A pin past the plan's gates is on input 1, and a gate past them has table 0.
+fn store_plan(plan: Plan, program: &mut [u8])
+    requires { ⌜ Accepted plan ⌝ }
+    requires { ⌜ fabricTakes (plan .inputs) (plan .«gate_count») (plan .«output_count») ≤ 8 * length (now program) ⌝ }
+    ensures { λ _. ⌜ now (program .exit) ≡ storeBits (now (program .entry)) 0 (planBits plan) ⌝ }
+{
+    let mut pins = [1u16; PINS];
+    let mut tables = [0u8; Plan::MAX_GATES];
+    let mut wanted = [0u16; PINS];
+    load_gates(plan, &mut pins, &mut tables);
+    let next = store_gates(
+        plan.inputs,
+        plan.gate_count,
+        &pins,
+        &tables,
+        &mut wanted,
+        program,
+    );
+    store_outputs(plan, &mut wanted, program, next);
+}
+
+// The bits of S(u, 2K) and of U(K) for the gates that the lists give, stored from bit 0 on. Gives the bit behind them.
+fn store_gates(
+    inputs: u16,
+    gates: u16,
+    pins: &[u16],
+    tables: &[u8],
+    wanted: &mut [u16],
+    program: &mut [u8],
+) -> usize
+    requires { ⌜ GatesRoom inputs gates (now pins) (now tables) (length (now wanted)) (length (now program)) ⌝ }
+    ensures behind { λ r. ⌜ r ≡ length (gatesProgram inputs gates (now (pins .entry)) (now (tables .entry))) ⌝ }
+    ensures stored { λ _. ⌜ now (program .exit) ≡ storeBits (now (program .entry)) 0 (gatesProgram inputs gates (now (pins .entry)) (now (tables .entry))) ⌝ }
+{
+    let level = ceil_log(gates as u32);
+    let next = store_inputs(inputs, 2 * places_at(level), pins, wanted, program);
+    program_universal(
+        level,
+        0,
+        inputs as usize,
+        pins,
+        tables,
+        wanted,
+        program,
+        next,
+    );
+    next + universal_takes(level)
+}
+
+// The bits of S(u, 2K) for the inputs that the pins want, stored from bit 0 on. Gives the bit behind them.
+fn store_inputs(
+    inputs: u16,
+    count: usize,
+    pins: &[u16],
+    wanted: &mut [u16],
+    program: &mut [u8],
+) -> usize
+    requires { ⌜ SelectionPasses inputs count (inputsWanted inputs (now pins) count) 0 (length (now program)) ⌝ }
+    requires { ⌜ (count ≤ length (now pins)) × (count ≤ length (now wanted)) ⌝ }
+    ensures behind { λ r. ⌜ r ≡ selectionCount inputs count ⌝ }
+    ensures stored { λ _. ⌜ now (program .exit) ≡ storeBits (now (program .entry)) 0 (selectionBits inputs count (inputsWanted inputs (now (pins .entry)) count)) ⌝ }
+{
+    list_inputs(inputs, count, pins, wanted);
+    store_selection(inputs as usize, count, wanted, program, 0);
+    selection_count(inputs as u32, count as u32)
+}
+
+// The bits of S(K, v) for the gates that the outputs name, stored from bit `start` on.
+fn store_outputs(plan: Plan, wanted: &mut [u16], program: &mut [u8], start: usize)
+    requires { ⌜ Accepted plan ⌝ }
+    requires { ⌜ length (now wanted) ≡ maxPins ⌝ }
+    requires { ⌜ start + selectionCount (2 ^ gateLevel (plan .«gate_count»)) (plan .«output_count») ≤ 8 * length (now program) ⌝ }
+    ensures { λ _. ⌜ now (program .exit) ≡ storeBits (now (program .entry)) start (selectionBits (2 ^ gateLevel (plan .«gate_count»)) (plan .«output_count») (wantedOutputs plan)) ⌝ }
+{
+    list_outputs(plan, wanted);
+    let places = places_at(ceil_log(plan.gate_count as u32));
+    store_selection(places, plan.output_count as usize, wanted, program, start);
+}

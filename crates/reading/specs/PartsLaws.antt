@@ -1,0 +1,98 @@
+-- Laws of the parts. A loop that reads n items to their places has, after i of them, read the first i items and holds them with the other
+-- places zero; the header, then the body, is the whole file.
+use mathlib.Core.Path.{_≡_, refl, sym, ap, _∙_}
+use mathlib.Core.List.{List, [], _∷_, _++_}
+use Prim.Native.Nat.{ℕ, suc, _+_, _<_, _≤_}
+use native.Mathlib.Omega.{arith}
+use native.Mathlib.Numerals.{add-one}
+use lib.ListN.{length, set, length-append}
+use Rattle.fault.specs.declared.Fault.{Fault}
+use Rattle.plan.specs.declared.record.Gate.{Gate}
+use Rattle.plan.specs.declared.record.Plan.{Plan}
+use Rattle.plan.specs.declared.record.PlanWire.{PlanWire}
+use Rattle.plan.specs.Record.{maxInputs, maxGates, maxOutputs, wire, zeroGate, places, planOf, zeroPlan}
+use Rattle.plan.specs.RecordLaws.{places-more}
+use Rattle.plan.specs.Rules.{countAllowed}
+use Rattle.plan.specs.RulesLaws.{count-bounds}
+use Rattle.reading.specs.Parsing.{Parsed, got, refused, Step, followed, _>>=_, wordAt, inOrder}
+use Rattle.reading.specs.ParsingLaws.{field-allowed, item-got, item-refused, still-refused}
+use Rattle.reading.specs.PlanFile.{countField, planFile}
+use Rattle.reading.specs.Parts.{withGates, withOutputs, countsPart, headerPart, gatesPart, outputsPart, endPart, bodyPart, Blank}
+
+-- i items are read, from the cursor `start` up to `at`, and stand in their places
+pub record ReadSoFar {A : Type 0} (item : ℕ → Step A) (s : List ℕ) (start n : ℕ) (none : A) (i : ℕ) (held : List A) (at : ℕ) : Type 0 where
+  pub items : List A
+  pub count : length items ≡ i
+  pub parsed : inOrder item i s start ≡ got items at
+  pub placed : held ≡ places n none items
+
+module _ {A : Type 0} (item : ℕ → Step A) (s : List ℕ) (start n : ℕ) (none : A) where
+  pub none-read : (held : List A) → held ≡ places n none [] → ReadSoFar item s start n none 0 held start
+  unfolding inOrder
+  none-read held e = record { items = []; count = refl; parsed = refl; placed = e }
+
+  pub one-more : (i : ℕ) (held : List A) (at next : ℕ) (x : A) → i < n
+      → ReadSoFar item s start n none i held at → got x next ≡ item i s at → ReadSoFar item s start n none (i + 1) (set held i x) next
+  one-more i held at next x h r e = record {
+    items = r .items ++ (x ∷ []);
+    count = length-append (r .items) (x ∷ []) ∙ ap (λ m. m + 1) (r .count);
+    parsed = rw (add-one i) (item-got item s start i (r .items) x at next (r .parsed) (sym e));
+    placed = ap (λ l. set l i x) (r .placed) ∙ places-more n none (r .items) x i (r .count) h;
+  }
+
+  pub one-refused : (k i : ℕ) (held : List A) (at m o : ℕ) → i < k
+      → ReadSoFar item s start n none i held at → refused m o ≡ item i s at → refused m o ≡ inOrder item k s start
+  one-refused k i held at m o h r e =
+      sym (still-refused item s start k (suc i) m o h (item-refused item s start i (r .items) at m o (r .parsed) (sym e)))
+
+  pub all-read : (k i : ℕ) (held : List A) (at : ℕ) → i ≡ k → (r : ReadSoFar item s start n none i held at)
+      → got (r .items) at ≡ inOrder item k s start
+  all-read k i held at e r = rw (← e) (sym (r .parsed))
+
+-- two records have the same counts
+pub record SameCounts (p q : Plan) : Type 0 where
+  pub inputs : p .inputs ≡ q .inputs
+  pub gates : p .«gate_count» ≡ q .«gate_count»
+  pub outputs : p .«output_count» ≡ q .«output_count»
+
+pub gates-held : (p q : Plan) (gs : List Gate) → SameCounts q p → q .gates ≡ places maxGates zeroGate gs → q .outputs ≡ p .outputs
+    → q ≡ withGates p gs
+gates-held p q gs c e o = λ i. record {
+  inputs = c .inputs i;
+  «gate_count» = c .gates i;
+  «output_count» = c .outputs i;
+  gates = e i;
+  outputs = o i;
+}
+
+pub outputs-held : (p q : Plan) (os : List PlanWire) → SameCounts q p → q .gates ≡ p .gates → q .outputs ≡ places maxOutputs (wire 0) os
+    → q ≡ withOutputs p os
+outputs-held p q os c e o = λ i. record {
+  inputs = c .inputs i;
+  «gate_count» = c .gates i;
+  «output_count» = c .outputs i;
+  gates = e i;
+  outputs = o i;
+}
+
+-- counts within the limits, every place zero
+pub blank-of : (u k v : ℕ) → u ≤ maxInputs → k ≤ maxGates → v ≤ maxOutputs → Blank (planOf u k v [] [])
+blank-of u k v hu hk hv = record { limited = record { inputs = hu; gates = hk; outputs = hv }; noGates = refl; noOutputs = refl }
+
+pub zero-blank : Blank zeroPlan
+zero-blank = blank-of 0 0 0 (omega arith) (omega arith) (omega arith)
+
+-- a count that was read is within its limit
+pub count-within : (limit : ℕ) (f : Fault) (s : List ℕ) (at n next : ℕ) → got n next ≡ countField limit f s at → n ≤ limit
+count-within limit f s at n next e = count-bounds limit n (field-allowed 2 wordAt (countAllowed limit) f s at n next e) .1
+
+-- steps may be grouped either way
+assoc : {A B C : Type 0} (f : A → Step B) (g : B → Step C) (s : List ℕ) (x : Parsed A)
+    → followed g s (followed f s x) ≡ followed (λ a s at. followed g s (f a s at)) s x
+assoc f g s (got a at) = refl
+assoc f g s (refused n at) = refl
+
+-- the header, then the body
+pub whole-file : (s : List ℕ) → planFile s 0 ≡ (headerPart >>= bodyPart) s 0
+unfolding planFile headerPart countsPart bodyPart gatesPart outputsPart endPart
+whole-file s = simp assoc
