@@ -1,7 +1,7 @@
 /*
  * Mukdalis, the contact fabric library: plans, their faults and their evaluation; the permutation
  * network P and the selection network S of the block library, their rows and their programs; the
- * fabric of three counts and the run of a fabric table.
+ * fabric of three counts, a plan's program for it, and the run of a fabric table.
  *
  * Every call takes all inputs and refuses bad ones. It answers a number: 0 for done, any other
  * the row of the refusal table below whose check failed first. A refusal writes through no
@@ -229,6 +229,25 @@ struct mkd_counts mkd_count(uint32_t u, uint32_t k, uint32_t v);
  * table as it was.
  */
 uint32_t mkd_fabric(uint32_t u, uint32_t k, uint32_t v, uint16_t *table, size_t table_len);
+
+/*
+ * Programs the fabric of a plan's counts: run with this program, its outputs on every input row
+ * are the plan's.
+ *
+ * Let K be as in mkd_fabric. Pins 2g - 1 and 2g are gate g's first and second operand. S(u, 2K) is
+ * programmed so that each pin wants the operand if that is an input, otherwise input 1. Gates past
+ * k have table 0, and both pins want input 1. In U(K), if K is above 1, pin j of the lower U(K / 2)
+ * wants the operand of pin K + j from S(K / 2, K), and its row of kind 2 has bit 1, if that is one
+ * of the upper's gates; otherwise it wants the first of these, with bit 0. For the upper and the
+ * lower U(K / 2) likewise. S(K, v) is programmed so that each output wants the gate that it names.
+ *
+ * Program bits follow the rows and lie in bytes as P's do; spare bits of the last byte are 0. The
+ * stated length is the fabric's bits divided by 8, rounded up: at most 4,033.
+ *
+ * Refusals, in this order: the plan faults; 11 if program_len is below the stated length. A refusal
+ * leaves program as it was.
+ */
+uint32_t mkd_program(struct mkd_plan plan, uint8_t *program, size_t program_len);
 
 /*
  * Runs a fabric table with a program on an input row: entry i of row is the bit of input i, and

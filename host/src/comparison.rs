@@ -7,6 +7,7 @@ mod blocks;
 mod fabric;
 mod files;
 mod memory;
+mod program;
 
 mod buffer;
 mod show;
@@ -25,7 +26,7 @@ use crate::{exports, reference};
 /// One place for each number of the refusal table, and place 0 for done.
 const NUMBERS: usize = Fault::TABLE.len() + 1;
 
-/// A call that is compared, or the run of what two calls wrote.
+/// A call that is compared, or the run of what several calls wrote.
 #[derive(Clone, Copy)]
 enum Call {
     Reading,
@@ -40,10 +41,13 @@ enum Call {
     Counting,
     Fabric,
     Run,
+    Program,
+    PlanInFabric,
+    PlanRun,
 }
 
 /// Each call's name, and the numbers that it must have given at least once.
-const CALLS: [(&str, &[usize]); 12] = [
+const CALLS: [(&str, &[usize]); 15] = [
     ("reading", &[0, 1, 2, 3, 4, 5, 6, 7, 8, 9, 10]),
     ("plan faults", &[0, 2, 3, 4, 7, 8, 9]),
     ("evaluation", &[0, 2, 3, 4, 7, 8, 9, 11, 12]),
@@ -56,6 +60,9 @@ const CALLS: [(&str, &[usize]); 12] = [
     ("counting", &[0, 2, 3, 4]),
     ("fabric", &[0, 2, 3, 4, 11]),
     ("run", &[0, 11, 12, 13, 14]),
+    ("program bits", &[0, 2, 3, 4, 7, 8, 9, 11]),
+    ("plans", &[0]),
+    ("plans' runs", &[0]),
 ];
 
 /// What ends a comparison: a case with both answers, or a number that was never given.
@@ -80,6 +87,7 @@ impl Comparison {
         memory::compare(&mut comparison, &mut random)?;
         blocks::compare(&mut comparison, &mut random)?;
         fabric::compare(&mut comparison, &mut random)?;
+        program::compare(&mut comparison, &mut random)?;
         comparison.check_seen()?;
         Ok(comparison)
     }

@@ -1,9 +1,10 @@
 //! Safe calls of the library's exports, which `include/mukdalis.h` documents.
 //!
 //! Each answer as it comes: `plan_read`, `plan_fault`, `plan_evaluate`, `permutation_write`,
-//! `permutation_program`, `selection_write`, `selection_program`, `count`, `fabric`, `run`. As a
-//! `Result`: `read`, `check`, `evaluate`, `write_permutation`, `program_permutation`,
-//! `write_selection`, `program_selection`, `count_fabric`, `write_fabric`, `run_fabric`.
+//! `permutation_program`, `selection_write`, `selection_program`, `count`, `fabric`, `program`,
+//! `run`. As a `Result`: `read`, `check`, `evaluate`, `write_permutation`, `program_permutation`,
+//! `write_selection`, `program_selection`, `count_fabric`, `write_fabric`, `program_plan`,
+//! `run_fabric`.
 
 use crate::fabric::Size;
 use crate::fault::{Fault, Refusal};
@@ -76,6 +77,7 @@ extern "C" {
     ) -> u32;
     fn mkd_count(u: u32, k: u32, v: u32) -> Counts;
     fn mkd_fabric(u: u32, k: u32, v: u32, table: *mut u16, table_len: usize) -> u32;
+    fn mkd_program(plan: Plan, program: *mut u8, program_len: usize) -> u32;
     fn mkd_run(
         table: *const u16,
         table_len: usize,
@@ -211,6 +213,14 @@ pub fn fabric(u: u32, k: u32, v: u32, table: &mut [u16]) -> u32 {
     unsafe { mkd_fabric(u, k, v, table.as_mut_ptr(), table.len()) }
 }
 
+/// `mkd_program`: the number of the refusal, or 0.
+pub fn program(plan: &Plan, program: &mut [u8]) -> u32 {
+    // SAFETY: the plan goes by value, and every value of its fields is allowed; the pointer and
+    // length are a slice's that is borrowed for writing; the call stays within it and keeps no
+    // pointer.
+    unsafe { mkd_program(*plan, program.as_mut_ptr(), program.len()) }
+}
+
 /// `mkd_run`: the number of the refusal, or 0.
 pub fn run(table: &[u16], program: &[u8], row: &[u8], work: &mut [u8], result: &mut [u8]) -> u32 {
     // SAFETY: the pointers and lengths are slices', of which the two written overlap no other
@@ -303,6 +313,11 @@ pub fn count_fabric(u: u32, k: u32, v: u32) -> Result<Size, Fault> {
 /// being its rows.
 pub fn write_fabric(u: u32, k: u32, v: u32, table: &mut [u16]) -> Result<(), Fault> {
     done(fabric(u, k, v, table))
+}
+
+/// Writes the plan's program for the fabric of its counts to the first of `bytes`.
+pub fn program_plan(plan: &Plan, bytes: &mut [u8]) -> Result<(), Fault> {
+    done(program(plan, bytes))
 }
 
 /// Runs a fabric table with a program on an input row. Every wire's bit goes to the first entries

@@ -11,3 +11,5 @@ pub mod selection;
 pub mod fabric;
 pub mod program;
 pub mod run;
+
+pub mod twintest;

@@ -1,10 +1,12 @@
 //! Random accepted plans and their files, calls of the block library, and fabric tables, from which
-//! the comparison makes its cases.
+//! the comparisons make their cases.
 
 pub mod blocks;
 pub mod fabric;
 pub mod permutation;
+pub mod plans;
 pub mod selection;
+pub mod twintest;
 
 use crate::plan::{Gate, Plan};
 use crate::random::Random;
@@ -102,6 +104,8 @@ pub enum Standing {
 }
 
 impl Standing {
+    pub const ALL: [Standing; 3] = [Standing::None, Standing::Some, Standing::All];
+
     fn decide(self, random: &mut Random) -> bool {
         match self {
             Standing::None => false,
@@ -109,6 +113,13 @@ impl Standing {
             Standing::All => true,
         }
     }
+}
+
+/// The file of a random accepted plan, with any fields standing.
+pub fn accepted_file(random: &mut Random, counts: Counts) -> PlanFile {
+    let plan = accepted_plan(random, counts);
+    let standing = random.choose(&Standing::ALL);
+    PlanFile::new(random, &plan, standing)
 }
 
 /// A field of a plan file, with what decides whether a value of it is good.

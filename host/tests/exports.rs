@@ -113,6 +113,17 @@ fn fabrics_are_counted() {
     assert_eq!(exports::count_fabric(64, 256, 65), Err(Fault::Outputs));
 }
 
+#[test]
+fn a_plan_is_programmed() {
+    let mut plan = exports::read(&NOT).expect("the file is a plan");
+    let mut program = [9; 2];
+    assert_eq!(exports::program_plan(&plan, &mut program), Ok(()));
+    assert_eq!(program, [0x08, 9]);
+    assert_eq!(exports::program_plan(&plan, &mut []), Err(Fault::Short));
+    plan.gates[0].first = 2;
+    assert_eq!(exports::program_plan(&plan, &mut []), Err(Fault::Operand));
+}
+
 /// Hex 08 is the program of NOT.
 #[test]
 fn a_fabric_is_written_and_run() {

@@ -93,11 +93,12 @@ static int fabrics_fail(void)
 {
     const uint16_t written[17] = {1, 1, 4, 1, 1, 0, 2, 2, 3, 1, 2, 4, 3, 5, 6, 7, 9};
     const uint8_t bits[8] = {0, 0, 0, 0, 0, 0, 0, 1};
-    const uint8_t not_program[1] = {0x08};
     const uint8_t row[1] = {0};
+    struct mkd_read read = mkd_plan_read(not_plan, sizeof not_plan);
     struct mkd_counts refused = mkd_count(1, 257, 1);
     struct mkd_counts counts = mkd_count(64, 256, 64);
     uint16_t table[17];
+    uint8_t not_program[2] = {9, 9};
     uint8_t work[9] = {9, 9, 9, 9, 9, 9, 9, 9, 9};
     uint8_t result[2] = {9, 9};
     size_t i;
@@ -115,6 +116,12 @@ static int fabrics_fail(void)
     for (i = 0; i < 17; i++)
         if (table[i] != written[i])
             return fails("the table written");
+    if (mkd_program(read.plan, not_program, 0) != MKD_SHORT || not_program[0] != 9)
+        return fails("a short program");
+    if (mkd_program(read.plan, not_program, 2) != 0)
+        return fails("a plan's programming");
+    if (not_program[0] != 0x08 || not_program[1] != 9)
+        return fails("the plan's program written");
     if (mkd_run(table, 17, not_program, 1, row, 1, work, 9, result, 2) != MKD_FABRIC)
         return fails("a longer table");
     if (mkd_run(table, 16, not_program, 0, row, 1, work, 9, result, 2) != MKD_PROGRAM)

@@ -15,6 +15,12 @@ pub struct Buffer<T> {
     found: Vec<T>,
 }
 
+/// What each wrote.
+pub struct Both<T> {
+    pub reference: Vec<T>,
+    pub library: Vec<T>,
+}
+
 impl<T: Clone + PartialEq + Display> Buffer<T> {
     /// A buffer of `len` entries of this garbage.
     pub fn new(len: usize, garbage: impl FnMut() -> T) -> Buffer<T> {
@@ -42,7 +48,16 @@ impl<T: Clone + PartialEq + Display> Buffer<T> {
 
     /// The first `written` entries that the library wrote.
     pub fn into_written(self, written: usize) -> Vec<T> {
-        self.found[GUARD..GUARD + written].to_vec()
+        self.into_both(written).library
+    }
+
+    /// The first `written` entries that each wrote.
+    pub fn into_both(self, written: usize) -> Both<T> {
+        let entries = GUARD..GUARD + written;
+        Both {
+            reference: self.expected[entries.clone()].to_vec(),
+            library: self.found[entries].to_vec(),
+        }
     }
 
     /// Whether both left the same, and all but the first `written` entries as they were.

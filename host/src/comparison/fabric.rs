@@ -5,7 +5,7 @@ mod damage;
 mod runs;
 mod tables;
 
-use super::buffer::Buffer;
+use super::buffer::{Both, Buffer};
 use super::show::{show_counts, show_number, show_run};
 use super::{number, Call, Comparison, Difference, Outcome};
 use crate::fault::Fault;
@@ -70,15 +70,15 @@ fn compare_counting(comparison: &mut Comparison, counts: [u32; 3], due: u32) -> 
     Ok(())
 }
 
-/// Compares the writing of a fabric whose answer is to be `due`, and gives the table that the
-/// library wrote.
-fn compare_table(
+/// Compares the writing of a fabric whose answer is to be `due`, and gives the table that each
+/// wrote.
+pub fn compare_table(
     comparison: &mut Comparison,
     random: &mut Random,
     counts: [u32; 3],
     len: usize,
     due: u32,
-) -> Result<Vec<u16>, Difference> {
+) -> Result<Both<u16>, Difference> {
     let [u, k, v] = counts;
     let mut table = Buffer::new(len, || random.word() as u16);
     let answer = reference::fabric::write(u, k, v, table.expected());
@@ -99,7 +99,7 @@ fn compare_table(
         ]));
     }
     comparison.count(Call::Fabric, due);
-    Ok(table.into_written(entries))
+    Ok(table.into_both(entries))
 }
 
 /// Compares a run whose answer is to be `due`, or what the reference answers if nothing is.

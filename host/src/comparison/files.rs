@@ -4,9 +4,9 @@ use super::show::{hex, show_plan};
 use super::{Comparison, Difference, Outcome};
 use crate::plan::Plan;
 use crate::random::Random;
-use crate::samples::{accepted_plan, Counts, PlanFile, Standing, LIMIT_COUNTS, LONGEST_FILE};
-
-const STANDINGS: [Standing; 3] = [Standing::None, Standing::Some, Standing::All];
+use crate::samples::{
+    accepted_file, accepted_plan, Counts, PlanFile, Standing, LIMIT_COUNTS, LONGEST_FILE,
+};
 
 pub fn compare(comparison: &mut Comparison, random: &mut Random) -> Outcome {
     sound_files(comparison, random)?;
@@ -21,15 +21,9 @@ pub fn compare(comparison: &mut Comparison, random: &mut Random) -> Outcome {
     random_bytes(comparison, random)
 }
 
-fn file_of(random: &mut Random, counts: Counts) -> PlanFile {
-    let plan = accepted_plan(random, counts);
-    let standing = random.choose(&STANDINGS);
-    PlanFile::new(random, &plan, standing)
-}
-
 fn small_file(random: &mut Random) -> PlanFile {
     let counts = Counts::small(random);
-    file_of(random, counts)
+    accepted_file(random, counts)
 }
 
 /// A file of any size, now and then a longest one.
@@ -39,7 +33,7 @@ fn any_file(random: &mut Random) -> PlanFile {
         return PlanFile::new(random, &plan, Standing::All);
     }
     let counts = Counts::random(random);
-    file_of(random, counts)
+    accepted_file(random, counts)
 }
 
 /// Files of accepted plans are read as those plans. What was read is evaluated.
@@ -48,7 +42,7 @@ fn sound_files(comparison: &mut Comparison, random: &mut Random) -> Outcome {
     for _ in 0..20_000 {
         let counts = Counts::random(random);
         let plan = accepted_plan(random, counts);
-        for standing in STANDINGS {
+        for standing in Standing::ALL {
             let file = PlanFile::new(random, &plan, standing);
             if comparison.reading(&file.bytes)? != Some(plan) {
                 return Err(not_as_written(comparison, &plan, &file));
@@ -81,7 +75,7 @@ fn counts_at_limits(comparison: &mut Comparison, random: &mut Random) -> Outcome
                     k.clamp(1, most_gates),
                     v.clamp(1, most_outputs),
                 );
-                let mut file = file_of(random, counts).bytes;
+                let mut file = accepted_file(random, counts).bytes;
                 let header = [u, k, v].map(u16::to_le_bytes).concat();
                 file[..header.len()].copy_from_slice(&header);
                 comparison.reading(&header)?;

@@ -171,7 +171,7 @@ fn other_counts(comparison: &mut Comparison, random: &mut Random) -> Outcome {
 
 /// One place of a plan set to another value.
 #[derive(Clone, Copy)]
-enum Change {
+pub enum Change {
     Inputs(u16),
     GateCount(u16),
     OutputCount(u16),
@@ -182,7 +182,7 @@ enum Change {
 }
 
 impl Change {
-    fn apply(self, plan: &mut Plan) {
+    pub fn apply(self, plan: &mut Plan) {
         match self {
             Change::Inputs(u) => plan.inputs = u,
             Change::GateCount(k) => plan.gate_count = k,
@@ -197,7 +197,7 @@ impl Change {
 
 /// Changes that each give a plan a fault: of the counts, and of the first, a middle and the last
 /// gate and output. Those of the place after the last one, which is unused, give none.
-fn faulty_changes(plan: &Plan) -> Vec<Change> {
+pub fn faulty_changes(plan: &Plan) -> Vec<Change> {
     let (u, k, v) = (plan.inputs, plan.gate_count, plan.output_count);
     let Counts(most_inputs, most_gates, most_outputs) = Counts::MOST;
     let mut changes = Vec::new();

@@ -7,7 +7,7 @@ use super::show::show_number;
 use super::{Call, Comparison, CALLS, NUMBERS};
 
 /// The calls that share a table.
-const SUBJECTS: [&[Call]; 4] = [
+const SUBJECTS: [&[Call]; 5] = [
     &[Call::Reading, Call::Faults, Call::Evaluation],
     &[
         Call::PermutationWriting,
@@ -20,6 +20,7 @@ const SUBJECTS: [&[Call]; 4] = [
         Call::SelectionDelivery,
     ],
     &[Call::Counting, Call::Fabric, Call::Run],
+    &[Call::Program, Call::PlanInFabric, Call::PlanRun],
 ];
 
 impl fmt::Display for Comparison {
@@ -32,10 +33,12 @@ impl fmt::Display for Comparison {
         let permutations = self.cases(Call::PermutationDelivery);
         let selections = self.cases(Call::SelectionDelivery);
         let (fabrics, runs) = (self.cases(Call::Fabric), self.cases(Call::Run));
+        let plans = self.cases(Call::PlanInFabric);
         writeln!(
             out,
             "compared {total} cases, {files} of them files, {permutations} permutations, \
-             {selections} selections, {fabrics} fabrics, {runs} runs: no difference"
+             {selections} selections, {fabrics} fabrics, {runs} runs, {plans} plans in their \
+             fabrics: no difference"
         )
     }
 }

@@ -35,7 +35,7 @@ fn own_fabrics(comparison: &mut Comparison, random: &mut Random) -> Outcome {
             let Counts(u, _, v) = Counts::random(random);
             let counts = [u.into(), gates_of(random, size), v.into()];
             let len = table_len(counts[0], counts[1], counts[2]);
-            let table = compare_table(comparison, random, counts, len, 0)?;
+            let table = compare_table(comparison, random, counts, len, 0)?.library;
             for _ in 0..6 {
                 let case = Run::of(random, &table);
                 run(comparison, random, case)?;
