@@ -30,6 +30,7 @@ rt ci | tee "$verdict"
 rt staticlib capi
 cargo test --quiet --release --manifest-path host/Cargo.toml
 cargo run --quiet --release --manifest-path host/Cargo.toml --bin compare
+cargo run --quiet --release --manifest-path host/Cargo.toml --bin check_twintest target/bin/twintest
 cargo run --quiet --release --manifest-path host/Cargo.toml --bin check_contracts .
 
 # The block library goes to the relay-card maker by itself: blocks and the crates under it, proved in a copy that holds nothing else.

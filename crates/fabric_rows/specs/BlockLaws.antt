@@ -1,19 +1,17 @@
 -- The rows and wires that the parts of one level of U write, as their definitions have them.
 use mathlib.Core.Path.{_≡_, refl, sym, ap, ap₂, _∙_}
-use mathlib.Core.List.{List, [], _∷_, _++_, append-assoc, append-nil}
+use mathlib.Core.List.{List, [], _∷_}
 use Prim.Native.Nat.{ℕ, zero, suc, _+_, _-_, _*_, _%_, _^_, _<_, _≤_}
 use native.Mathlib.Nat.{not-suc-le-zero}
 use native.Mathlib.Numerals.{sub-one}
 use native.Mathlib.Omega.{arith}
-use lib.ListN.{length, getD, set, take, drop, length-append, List·getD-append}
-use lib.Pow.{pow-mono}
+use lib.ListN.{length, getD, set, take, List·getD-append}
 use lib.Seq.{getD-take}
-use Rattle.lists.specs.Lists.{listOf}
 use Rattle.lists.specs.ListsLaws.{listOf-ext}
 use Rattle.fault.specs.Buffers.{over}
 use Rattle.fault.specs.PartsLaws.{partOf, withPart, over-part}
 use Rattle.plan.specs.Record.{maxGates}
-use Rattle.networks.specs.Rows.{Y, Gate, stride, entries, flat, rowOf}
+use Rattle.networks.specs.Rows.{Y, stride, entries, flat, rowOf}
 use Rattle.networks.specs.RowsLaws.{flat-append, length-flat}
 use Rattle.networks.specs.Selection.{selectionRows, selectionOuts, selectionCount, selectionWires}
 use Rattle.networks.specs.SelectionLaws.{length-selectionRows, selection-totals, length-selectionOuts}
@@ -22,14 +20,15 @@ use Rattle.elements.specs.Wires.{maxWires, wiresPut}
 use Rattle.elements.specs.WiresLaws.{wires-put, wire-after}
 use Rattle.elements.specs.Rows.{kindNumber, rowPut, pairRows, rowsPut}
 use Rattle.elements.specs.RowsLaws.{row-on, length-pairRows, length-flat-pairs, rows-put}
-use Rattle.selection_rows.specs.WriteCalls.{selectionWriteFault}
+use Rattle.selection_rows.specs.WriteCalls.{selectionWriteFault, selectionWrittenRows, selectionWrittenOutputs}
 use Rattle.selection_rows.specs.SelectionWriteLaws.{SelectionWritePasses, selection-write-succeeds}
 use Rattle.universal.specs.Selector.{pinCount, selection}
 use Rattle.universal.specs.SelectorLaws.{double}
 use Rattle.universal.specs.Universal.{wiresFrom, universalCount, universalWires, universalOuts, universalRows}
 use Rattle.fabric_rows.specs.declared.counting.BlockCounts.{BlockCounts}
 use Rattle.fabric_rows.specs.declared.block.Parts.{Parts}
-use Rattle.fabric_rows.specs.Counting.{maxGateLevel, PlacesIs, UniversalCounts, SelectionCounts}
+use Rattle.fabric_rows.specs.Counting.{PlacesIs, UniversalCounts, SelectionCounts}
+use Rattle.fabric_rows.specs.CountingLaws.{places-is}
 use Rattle.fabric_rows.specs.Block.{besideRows, middleRows, MixRoom, MiddleRoom, UniversalWires, PartsAt}
 
 -- ---- a level above 0 by the level below
@@ -63,9 +62,6 @@ pub record Placed (next half : ℕ) (upper select : BlockCounts) (p : Parts) : T
   pub mixFrom : p .«mix_next» .0 ≡ next + (upper .wires + select .wires)
   pub lowerFrom : p .«lower_next» .0 ≡ next + (upper .wires + select .wires + 2 * half)
 
-power-few : (level : ℕ) → level ≤ maxGateLevel → 2 ^ level ≤ maxGates
-power-few level h = pow-mono h
-
 module _ {level next half : ℕ} {upper select : BlockCounts} (w : UniversalWires level next) (h : PlacesIs (level - 1) half)
     (u : UniversalCounts (level - 1) upper) (s : SelectionCounts half (2 * half) select) where
   count-is : select .rows ≡ selection .count (level - 1)
@@ -85,6 +81,7 @@ module _ {level next half : ℕ} {upper select : BlockCounts} (w : UniversalWire
   pub parts-at : {p : Parts} → Placed next half upper select p → PartsAt level next p
   parts-at {p} at =
       let power = step-power level (w .some) in
+      let few : 2 ^ level ≤ maxGates = places-is (w .small) refl .fewPlaces in
       let isHalf = h .isPlaces in
       let rows = u .rowsAre .isRows in
       let wires = u .wiresAre .isWires in
@@ -93,12 +90,12 @@ module _ {level next half : ℕ} {upper select : BlockCounts} (w : UniversalWire
         pinsAre = omega (arith, at .pinsAre, at .halfIs);
         double = omega (arith, power, at .halfIs);
         some = omega (arith, at .halfIs, h .somePlaces);
-        few = omega (arith, power, at .pinsAre, power-few level (w .small));
+        few = omega (arith, power, at .pinsAre);
         selectAt = omega (arith, at .selectAt);
         mixAt = omega (arith, at .mixAt, count-is);
         lowerAt = omega (arith, at .lowerAt, at .selectAt, at .mixAt, at .pinsAre);
         whole = omega (arith, at .lowerAt, count-is, step-count level (w .some));
-        near = omega (arith, at .lowerAt, u .rowsAre .fewRows, s .fewRows, power, power-few level (w .small));
+        near = omega (arith, at .lowerAt, u .rowsAre .fewRows, s .fewRows, power);
         selectFrom = omega (arith, at .selectFrom);
         mixFrom = omega (arith, at .mixFrom, made-is);
         lowerFrom = omega (arith, at .lowerFrom, made-is);
@@ -122,10 +119,13 @@ gate-out next (x ∷ l) h = refl
 
 -- ---- the selection block: its checks pass
 
-pub selection-passes : {m n : ℕ} {ins : List ℕ} {next rows outputs : ℕ} → SelectionWritePasses m n ins next rows outputs
-    → selectionWriteFault m n ins next rows outputs ≡ 0
-selection-passes w =
-    selection-write-succeeds _ _ _ _ _ _ (w .sides) (w .inputs) (w .made) (w .wires) (w .rowRoom) (w .outputRoom)
+pub selection-put : (m n : ℕ) (ins : List ℕ) (next : ℕ) (R₀ T₀ R T : List ℕ) → SelectionWritePasses m n ins next (length R₀) (length T₀)
+    → (R ≡ selectionWrittenRows m n ins next R₀ T₀) × (T ≡ selectionWrittenOutputs m n ins next R₀ T₀)
+    → (R ≡ over (flat (selectionRows m n ins next)) R₀) × (T ≡ over (selectionOuts m n ins next) T₀)
+selection-put m n ins next R₀ T₀ R T w e =
+    let none : selectionWriteFault m n ins next (length R₀) (length T₀) ≡ 0 =
+    selection-write-succeeds m n ins next (length R₀) (length T₀) (w .sides) (w .inputs) (w .made) (w .wires) (w .rowRoom) (w .outputRoom) in
+    rw none at e
 
 pub length-selection : (m n : ℕ) (ins : List ℕ) (next : ℕ) → length (flat (selectionRows m n ins next)) ≡ stride * selectionCount m n
 length-selection m n ins next = length-flat (selection-totals m n ins next .family) ∙ ap (λ k. stride * k) (length-selectionRows m n ins next)

@@ -1,5 +1,5 @@
 -- What the functions under counting say of their numbers.
-use Prim.Native.Nat.{ℕ, _*_, _^_, _≤_}
+use Prim.Native.Nat.{ℕ, _^_, _≤_}
 use mathlib.Core.Path.{_≡_}
 use Rattle.plan.specs.Record.{maxGates}
 use Rattle.networks.specs.Selection.{selectionCount, selectionWires}
@@ -64,4 +64,3 @@ pub record FabricCounts (u k v : ℕ) (c : Counts) : Type 0 where
   pub isRows : c .rows ≡ fabricCount u k v
   pub isWires : c .wires ≡ fabricWires u k v
   pub isBits : c .bits ≡ fabricTakes u k v
-  pub fewRows : c .rows ≤ 31489

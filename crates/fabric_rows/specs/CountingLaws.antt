@@ -8,19 +8,18 @@ use Rattle.fault.specs.declared.Fault.{Fault}
 use Rattle.fault.specs.Number.{faultNumber}
 use Rattle.fault.specs.ChecksLaws.{number-positive}
 use Rattle.plan.specs.Record.{maxGates}
-use Rattle.plan.specs.FaultsLaws.{CountsWithin}
 use Rattle.universal.specs.Selector.{selection}
 use Rattle.universal.specs.Universal.{universalCount, universalWires}
 use Rattle.universal.specs.UniversalLaws.{universal-count, universal-made}
-use Rattle.universal.specs.Fabric.{gateLevel, fabricCount, fabricWires, fabricTakes}
-use Rattle.universal.specs.FabricLaws.{fabric-takes, fabric-within}
+use Rattle.universal.specs.Fabric.{fabricCount, fabricWires}
+use Rattle.universal.specs.FabricLaws.{fabric-takes}
 use Rattle.fabric_rows.specs.declared.counting.Counts.{Counts}
 use Rattle.fabric_rows.specs.declared.counting.CountAnswer.{CountAnswer}
 use Rattle.fabric_rows.specs.declared.counting.Gates.{Gates}
 use Rattle.fabric_rows.specs.declared.counting.BlockCounts.{BlockCounts}
 use Rattle.fabric_rows.specs.declared.counting.FabricParts.{FabricParts}
 use Rattle.fabric_rows.specs.FabricCalls.{countAnswer, countsOr}
-use Rattle.fabric_rows.specs.Counting.{maxGateLevel, blockLimit, GatesIs, PlacesIs, RowsIs, WiresIs, UniversalCounts, SelectionCounts}
+use Rattle.fabric_rows.specs.Counting.{maxGateLevel, GatesIs, PlacesIs, UniversalCounts, SelectionCounts}
 use Rattle.fabric_rows.specs.Counting.{FabricPartsAre, FabricCounts}
 
 -- what the closed forms are computed from, at a level
@@ -62,18 +61,17 @@ parts-are {u} {k} {v} {g} {pins} {universal} {outputs} gates a b o =
     }
 
 -- the fabric's counts from those of its parts
-pub fabric-counts : {u k v : ℕ} {p : FabricParts} {c : Counts} → CountsWithin u k v → FabricPartsAre u k v p
+pub fabric-counts : {u k v : ℕ} {p : FabricParts} {c : Counts} → FabricPartsAre u k v p
     → c .rows ≡ p .pins .rows + p .universal .rows + p .outputs .rows
     → c .wires ≡ 1 + u + p .pins .wires + p .universal .wires + p .outputs .wires
     → c .bits ≡ c .rows + 3 * p .gates .places → FabricCounts u k v c
 unfolding fabricCount fabricWires
-fabric-counts {u} {k} {v} {p} {c} within parts rows wires bits =
+fabric-counts {u} {k} {v} {p} {c} parts rows wires bits =
     let isRows : c .rows ≡ fabricCount u k v = omega arith in
     record {
       isRows = isRows;
       isWires = omega arith;
       isBits = omega (arith, fabric-takes u k v);
-      fewRows = omega (arith, fabric-within u k v within .rows);
     }
 
 -- ---- the answer

@@ -1,11 +1,10 @@
 -- Writing the fabric's table succeeds exactly if its counts are allowed and the lent table has its length; then the table begins with the
 -- fabric's, whatever stood there.
-use mathlib.Core.Path.{_≡_, sym, ap, _∙_}
+use mathlib.Core.Path.{_≡_, sym, _∙_}
 use mathlib.Core.List.{List}
 use Prim.Native.Nat.{ℕ, _<_, _≤_}
 use native.Mathlib.Omega.{arith}
 use borrow.Author.Tests.{le-leb, lt-leb, leb-true}
-use lib.Dec.{leb}
 use lib.ListN.{length, take, drop}
 use lib.Seq.{take-at}
 use Rattle.fault.specs.declared.Fault.{Fault}

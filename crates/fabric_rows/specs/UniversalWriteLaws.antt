@@ -2,11 +2,11 @@
 -- block, the Y rows' output wires the lower half, and the lower half's output wires stand behind the upper's.
 use mathlib.Core.Path.{_≡_, refl, sym, ap, ap₂, _∙_}
 use mathlib.Core.List.{List, _++_, append-assoc}
-use Prim.Native.Nat.{ℕ, suc, _+_, _-_, _*_, _^_, _<_, _≤_}
+use Prim.Native.Nat.{ℕ, suc, _+_, _-_, _*_, _<_, _≤_}
 use native.Mathlib.Omega.{arith}
 use borrow.Rule.Slice.PartMut.{mid-len}
-use lib.ListN.{length, getD, take, drop, length-append, length-take, length-drop}
-use lib.Seq.{take-at, drop-at, take-take, take-all, getD-take, getD-drop, length-take-le, length-front}
+use lib.ListN.{length, getD, take, drop, length-append}
+use lib.Seq.{take-at, drop-at, take-take, getD-take, getD-drop, length-take-le, length-front}
 use Rattle.lists.specs.Lists.{listOf}
 use Rattle.lists.specs.ListsLaws.{length-listOf, listOf-ext}
 use Rattle.fault.specs.Buffers.{over}
@@ -14,10 +14,9 @@ use Rattle.fault.specs.PartsLaws.{partOf, withPart, length-over, over-part}
 use Rattle.networks.specs.Rows.{Y, stride, flat}
 use Rattle.networks.specs.RowsLaws.{flat-append, length-flat}
 use Rattle.networks.specs.Selection.{selectionRows, selectionOuts, selectionCount, selectionWires}
-use Rattle.elements.specs.Wires.{maxWires}
 use Rattle.universal.specs.Selector.{pinCount, selection}
 use Rattle.universal.specs.SelectorLaws.{double, selection-shape}
-use Rattle.universal.specs.Universal.{mixRows, wiresFrom, universalCount, universalWires, selectNext, mixNext, lowerNext, universalOuts, selectedOuts}
+use Rattle.universal.specs.Universal.{mixRows, wiresFrom, universalCount, universalWires, selectNext, lowerNext, universalOuts, selectedOuts}
 use Rattle.universal.specs.Universal.{lowerPins, universalRows}
 use Rattle.universal.specs.UniversalLaws.{length-universalOuts, universal-below, length-universalRows, universal-sums}
 use Rattle.fabric_rows.specs.declared.block.Parts.{Parts}

@@ -1,22 +1,21 @@
 -- What the functions under the call require of their parts.
 use Prim.Native.Nat.{ℕ, suc, _+_, _*_, _^_, _<_, _≤_}
 use mathlib.Core.Path.{_≡_}
-use mathlib.Core.List.{List}
-use lib.ListN.{length, take}
+use mathlib.Core.List.{List, _++_}
+use lib.ListN.{take}
 use Rattle.plan.specs.Record.{maxInputs, maxGates, maxOutputs}
 use Rattle.plan.specs.FaultsLaws.{CountsWithin}
-use Rattle.networks.specs.Rows.{operands, stride}
-use Rattle.networks.specs.Selection.{selectionCount, selectionWires}
+use Rattle.networks.specs.Rows.{operands, stride, flat}
+use Rattle.networks.specs.Selection.{selectionRows, selectionOuts, selectionCount, selectionWires}
 use Rattle.elements.specs.Wires.{maxWires}
 use Rattle.selection_rows.specs.SelectionWriteLaws.{SelectionWritePasses}
 use Rattle.universal.specs.Selector.{pinCount, selection}
-use Rattle.universal.specs.Universal.{universalCount, universalWires}
+use Rattle.universal.specs.Universal.{universalCount}
 use Rattle.universal.specs.Fabric.{gateLevel, inputWires, universalNext, outputNext, fabricCount}
 use Rattle.universal.specs.Tables.{header}
 use Rattle.fabric_rows.specs.declared.writing.Layout.{Layout}
 use Rattle.fabric_rows.specs.FabricCalls.{tableLength}
 use Rattle.fabric_rows.specs.Counting.{maxGateLevel}
-use Rattle.fabric_rows.specs.Block.{UniversalRoom}
 
 -- the pins of the largest U
 abbrev pub maxPins : ℕ
@@ -58,11 +57,11 @@ pub record PinRoom (u count rows pins : ℕ) : Type 0 where
   pub inputs : u ≤ maxInputs
   pub passes : SelectionWritePasses u count (inputWires u) (suc u) rows pins
 
--- U(K), with a list of its own for what its selection blocks give
-pub record GatesRoom (level next rows pins outs : ℕ) : Type 0 where
-  pub fits : UniversalRoom level next rows pins outs maxGates
+-- the entries of S(K, v) on the first K of the gates' wires: its rows, and behind them its output wires
+unfoldable pub outputEntries : ℕ → ℕ → List ℕ → ℕ → List ℕ
+outputEntries places v gates next =
+    flat (selectionRows places v (take places gates) next) ++ selectionOuts places v (take places gates) next
 
--- S(K, v) on the gates' wires, and its output wires behind its rows
 pub record OutputRoom (places v end next : ℕ) (gates : List ℕ) (rows : ℕ) : Type 0 where
   pub passes : SelectionWritePasses places v (take places gates) next rows maxOutputs
   pub endAt : end ≡ stride * selectionCount places v

@@ -2,25 +2,23 @@
 -- and what each part gives feeds the next.
 use mathlib.Core.Path.{_≡_, refl, sym, ap, ap₂, _∙_}
 use mathlib.Core.List.{List, [], _∷_, _++_, append-assoc}
-use Prim.Native.Nat.{ℕ, zero, suc, _+_, _-_, _*_, _^_, _<_, _≤_}
-use native.Mathlib.Nat.{not-suc-le-zero}
+use Prim.Native.Nat.{ℕ, suc, _+_, _-_, _*_, _^_, _≤_}
 use native.Mathlib.Numerals.{add-one}
 use native.Mathlib.Omega.{arith}
 use borrow.Rule.Slice.PartMut.{mid-len}
 use lib.ListN.{length, set, take, drop, length-append}
-use lib.Pow.{pow-mono}
-use lib.Seq.{take-at, take-all, length-take-le}
+use lib.Seq.{take-at, take-all}
 use Rattle.lists.specs.Lists.{listOf}
 use Rattle.lists.specs.ListsLaws.{listOf-ext}
 use Rattle.fault.specs.Buffers.{over}
 use Rattle.fault.specs.PartsLaws.{partOf, withPart, length-over, over-part}
-use Rattle.plan.specs.Record.{maxInputs, maxGates, maxOutputs}
+use Rattle.plan.specs.Record.{maxInputs, maxGates}
 use Rattle.plan.specs.FaultsLaws.{CountsWithin}
 use Rattle.networks.specs.Rows.{stride, flat}
 use Rattle.networks.specs.RowsLaws.{flat-append}
 use Rattle.networks.specs.Selection.{selectionRows, selectionOuts, selectionCount, selectionWires}
 use Rattle.networks.specs.SelectionLaws.{length-selectionOuts}
-use Rattle.elements.specs.Wires.{maxWires, wiresPut}
+use Rattle.elements.specs.Wires.{wiresPut}
 use Rattle.elements.specs.WiresLaws.{wires-put}
 use Rattle.selection_rows.specs.SelectionWriteLaws.{SelectionWritePasses}
 use Rattle.universal.specs.Selector.{pinCount, selection}
@@ -28,13 +26,13 @@ use Rattle.universal.specs.Universal.{universalCount, universalWires, universal
 use Rattle.universal.specs.UniversalLaws.{length-universalOuts}
 use Rattle.universal.specs.Fabric.{gateLevel, inputWires, fabricPins, universalNext, outputNext, gateOuts, fabricRows, fabricOuts}
 use Rattle.universal.specs.Fabric.{fabricCount, fabricWires, fabricTable}
-use Rattle.universal.specs.FabricLaws.{length-inputWires, inputs-below, gates-below, fabric-within, length-fabricTable}
+use Rattle.universal.specs.FabricLaws.{length-inputWires, inputs-below, gates-below, fabric-within}
 use Rattle.universal.specs.Tables.{header}
 use Rattle.fabric_rows.specs.declared.counting.FabricParts.{FabricParts}
 use Rattle.fabric_rows.specs.declared.writing.Layout.{Layout}
-use Rattle.fabric_rows.specs.FabricCalls.{tableLength}
 use Rattle.fabric_rows.specs.Counting.{FabricPartsAre}
-use Rattle.fabric_rows.specs.Writing.{maxPins, FabricPasses, LayoutIs, PinRoom, GatesRoom, OutputRoom}
+use Rattle.fabric_rows.specs.Writing.{maxPins, FabricPasses, LayoutIs, PinRoom, outputEntries, OutputRoom}
+use Rattle.fabric_rows.specs.Block.{UniversalRoom}
 use Rattle.fabric_rows.specs.BlockLaws.{length-selection}
 use Rattle.fabric_rows.specs.UniversalWriteLaws.{length-universal}
 
@@ -115,7 +113,8 @@ module _ {u count rows pins : ℕ} {A : List ℕ} (I : List ℕ) (room : PinRoom
 pub outputs-put : {places v end next : ℕ} {gates : List ℕ} (R₀ R L₀ L F : List ℕ) → OutputRoom places v end next gates (length R₀)
     → (R ≡ over (flat (selectionRows places v (take places gates) next)) R₀) × (L ≡ over (selectionOuts places v (take places gates) next) L₀)
     → F ≡ over (take (length (partOf end R)) (take v L)) (partOf end R)
-    → withPart end R F ≡ over (flat (selectionRows places v (take places gates) next) ++ selectionOuts places v (take places gates) next) R₀
+    → withPart end R F ≡ over (outputEntries places v gates next) R₀
+unfolding outputEntries
 outputs-put {places} {v} {end} {next} {gates} R₀ R L₀ L F room done copied =
     let ins = take places gates in
     let A = flat (selectionRows places v ins next) in
@@ -228,19 +227,17 @@ module _ {u k v : ℕ} {l : Layout} {T₀ T₁ : List ℕ} (begun : Begun u k v 
     rows-at : universalCount selection (l .level) ≡ universalCount selection n
     rows-at = ap (universalCount selection) (at .isLevel)
 
-    pub gates-room : GatesRoom (l .level) (l .«universal_next» .0) (length (partOf (l .universal) T₂)) maxPins maxGates
+    pub gates-room : UniversalRoom (l .level) (l .«universal_next» .0) (length (partOf (l .universal) T₂)) maxPins maxGates maxGates
     gates-room =
         let power : 2 ^ l .level ≡ l .places = ap (λ m. 2 ^ m) (at .isLevel) ∙ sym (at .isPlaces) in
         let few = at .fewPlaces in
         record {
-          fits = record {
-            small = at .lowLevel;
-            wires = omega (arith, at .universalFrom, ap (universalWires selection) (at .isLevel), at .wires);
-            rowRoom = rw (mid-len (l .universal) (length T₂) T₂ (omega arith)) (omega (arith, length-T₂, rows-at, enough, at .whole, at .outputsAt));
-            pinRoom = omega arith;
-            outRoom = omega arith;
-            selectedRoom = omega arith;
-          };
+          small = at .lowLevel;
+          wires = omega (arith, at .universalFrom, ap (universalWires selection) (at .isLevel), at .wires);
+          rowRoom = rw (mid-len (l .universal) (length T₂) T₂ (omega arith)) (omega (arith, length-T₂, rows-at, enough, at .whole, at .outputsAt));
+          pinRoom = omega arith;
+          outRoom = omega arith;
+          selectedRoom = omega arith;
         }
 
     pub gates-start : l .universal ≤ length T₂
@@ -311,13 +308,12 @@ module _ {u k v : ℕ} {l : Layout} {T₀ T₁ : List ℕ} (begun : Begun u k v 
           }
 
       -- after S(K, v)
-      module _ {F₄ : List ℕ} (out : F₄ ≡ over (flat (selectionRows (l .places) v (take (l .places) O₃) (l .«output_next» .0))
-          ++ selectionOuts (l .places) v (take (l .places) O₃) (l .«output_next» .0)) (partOf (l .outputs) T₃)) where
+      module _ {F₄ : List ℕ} (out : F₄ ≡ over (outputEntries (l .places) v O₃ (l .«output_next» .0)) (partOf (l .outputs) T₃)) where
         abbrev C : List ℕ
         C = flat (selectionRows (2 ^ n) v (gateOuts u k) (outputNext u k)) ++ fabricOuts u k v
 
         output-rows : F₄ ≡ over C (partOf (l .outputs) T₃)
-        unfolding fabricOuts
+        unfolding fabricOuts outputEntries
         output-rows =
             out
             ∙ ap (λ (gs : List ℕ). over (flat (selectionRows (l .places) v gs (l .«output_next» .0))

@@ -21,7 +21,8 @@ use elements::row_place;
 use elements::wire_at;
 use selection_rows::write_selection;
 
-// Where the parts of one level begin: the lower half's gates and pins, the entries of the rows in the level's stretch, and the first wires made.
+// The gates and the pins of a half; where the parts of one level begin in its stretch of the table, the Y rows counted from the selection
+// block's place; and the first wires that they make.
 struct Parts {
     half: u32,
     pins: u32,

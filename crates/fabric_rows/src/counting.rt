@@ -87,7 +87,7 @@ pub(crate) fn fabric_parts(u: u32, k: u32, v: u32) -> FabricParts
 }
 
 // K and its logarithm.
-pub(crate) fn gates_of(k: u32) -> Gates
+fn gates_of(k: u32) -> Gates
     requires { ⌜ k ≤ maxGates ⌝ }
     ensures { λ r. ⌜ GatesIs k r ⌝ }
 {

@@ -1,20 +1,21 @@
 // Writing the fabric's table: u, v and the number of rows, then the rows of S(u, 2K), U(K), S(K, v), each straight into its own stretch, then
 // the output wires. Checks come first and touch no buffer. The calls' own lists of wires take 2,304 bytes; none is inside the recursion.
 ghost use mathlib.Core.Path.{_≡_};
-ghost use mathlib.Core.List.{[], _∷_, _++_};
-ghost use Prim.Native.Nat.{_^_, suc};
+ghost use mathlib.Core.List.{[], _∷_};
+ghost use Prim.Native.Nat.{suc};
 ghost use lib.ListN.{length, take};
 ghost use Rattle.fault.specs.Number.{answerNumber};
 ghost use Rattle.fault.specs.Buffers.{over};
+ghost use Rattle.plan.specs.Record.{maxGates};
 ghost use Rattle.plan.specs.FaultsLaws.{CountsWithin};
 ghost use Rattle.networks.specs.Rows.{flat};
 ghost use Rattle.networks.specs.Selection.{selectionRows, selectionOuts};
-ghost use Rattle.selection_rows.specs.SelectionWriteLaws.{SelectionWritePasses};
 ghost use Rattle.universal.specs.Selector.{pinCount, selection};
 ghost use Rattle.universal.specs.Universal.{universalOuts, universalRows};
 ghost use Rattle.universal.specs.Fabric.{inputWires, fabricTable};
 ghost use Rattle.fabric_rows.specs.FabricCalls.{fabricFault, fabricResult};
-ghost use Rattle.fabric_rows.specs.Writing.{FabricPasses, LayoutIs, HeaderRoom, PinRoom, GatesRoom, OutputRoom};
+ghost use Rattle.fabric_rows.specs.Block.{UniversalRoom};
+ghost use Rattle.fabric_rows.specs.Writing.{FabricPasses, LayoutIs, HeaderRoom, PinRoom, outputEntries, OutputRoom};
 use crate::block::put_selection;
 use crate::block::write_universal;
 use crate::counting::fabric_parts;
@@ -154,7 +155,7 @@ fn put_pins(u: u32, count: u32, rows: &mut [u16], pins: &mut [u16])
 
 // U(K): its rows to the front of the table's part, its output wires to the front of their list.
 fn put_gates(level: u32, next: FabricWire, rows: &mut [u16], pins: &mut [u16], outs: &mut [u16])
-    requires { ⌜ GatesRoom level (next .0) (length (now rows)) (length (now pins)) (length (now outs)) ⌝ }
+    requires { ⌜ UniversalRoom level (next .0) (length (now rows)) (length (now pins)) (length (now outs)) maxGates ⌝ }
     ensures { λ _. ⌜ now (rows .exit) ≡ over (flat (universalRows selection level (take (pinCount level) (now (pins .entry))) (next .0))) (now (rows .entry)) ⌝ }
     ensures { λ _. ⌜ now (outs .exit) ≡ over (universalOuts selection level (next .0)) (now (outs .entry)) ⌝ }
 {
@@ -165,7 +166,7 @@ fn put_gates(level: u32, next: FabricWire, rows: &mut [u16], pins: &mut [u16], o
 // S(K, v) on the gates' wires: its rows to the front of the table's part, and behind them its output wires.
 fn put_outputs(places: u32, v: u32, end: usize, next: FabricWire, rows: &mut [u16], gates: &[u16])
     requires { ⌜ OutputRoom places v end (next .0) (now gates) (length (now rows)) ⌝ }
-    ensures { λ _. ⌜ now (rows .exit) ≡ over (flat (selectionRows places v (take places (now (gates .entry))) (next .0)) ++ selectionOuts places v (take places (now (gates .entry))) (next .0)) (now (rows .entry)) ⌝ }
+    ensures { λ _. ⌜ now (rows .exit) ≡ over (outputEntries places v (now (gates .entry)) (next .0)) (now (rows .entry)) ⌝ }
 {
     let mut outputs = [0u16; Plan::MAX_OUTPUTS];
     let count = v as usize;

@@ -1,16 +1,15 @@
 -- `fabric_rows::block::write_universal` meets its contract, by the level: the steps of a level write what its definition says. Assumes nothing.
 use mathlib.Core.Path.{_≡_, sym, _∙_}
 use mathlib.Core.List.{List, _++_}
-use Prim.Native.Nat.{ℕ, _-_, _<_, _≤_}
+use Prim.Native.Nat.{ℕ, _<_, _≤_}
 use native.Mathlib.Omega.{arith}
 use borrow.Author.Needs.{needs}
 use borrow.Fn.Kinds.{In}
 use borrow.Fn.PlainCycle.{Measures, is, falls, and}
-use lib.ListN.{length, take, drop}
+use lib.ListN.{length, drop}
 use lib.Seq.{length-take-le, length-front}
-use Rattle.fault.specs.PartsLaws.{partOf, withPart, length-with}
+use Rattle.fault.specs.PartsLaws.{withPart, length-with}
 use Rattle.fabric_rows.specs.declared.block.Parts.{Parts}
-use Rattle.fabric_rows.specs.Block.{MiddleRoom, UniversalRoom}
 use Rattle.fabric_rows.specs.UniversalWriteLaws.{UniversalWritten, Begun, UpperDone, MiddleDone, LowerDone}
 use Rattle.fabric_rows.specs.UniversalWriteLaws.{upper-room, middle-room, select-start, outs-start, lower-start, lower-room, universal-written, gate-room, gate-written}
 use Rattle.fabric_rows.proofs.block.write_universal.Reads as write-universal
@@ -55,20 +54,38 @@ module _ (t : ℕ) where
   abbrev Upper : Type 0
   Upper = write-universal-lts.After-write-universal (claims t) (write-universal-at t) write-universal.Post
 
+  abbrev Fed : Type 0
+  Fed = write-universal-lts.After-fed (claims t) (write-universal-at t) write-universal.Post
+
   abbrev Middle : Type 0
   Middle = write-universal-lts.After-write-middle (claims t) (write-universal-at t) write-universal.Post
+
+  abbrev Mixed : Type 0
+  Mixed = write-universal-lts.After-slice-known11 (claims t) (write-universal-at t) write-universal.Post
 
   abbrev Lower : Type 0
   Lower = write-universal-lts.After-write-universal2 (claims t) (write-universal-at t) write-universal.Post
 
+  abbrev Ended : Type 0
+  Ended = write-universal-lts.After-slice-known15 (claims t) (write-universal-at t) write-universal.Post
+
   abbrev parted : Upper → Parted
   parted c = c .before .before .before .before .before .before .before
 
+  abbrev fed : Fed → Upper
+  fed c = c .before .before .before .before .before .before .before .before .before
+
   abbrev upper : Middle → Upper
-  upper c = c .before .before .before .before .before .before .before .before .before .before .before .before .before .before
+  upper c = fed (c .before .before .before .before .before)
+
+  abbrev mixed : Mixed → Middle
+  mixed c = c .before .before .before .before .before .before
 
   abbrev middle : Lower → Middle
-  middle c = c .before .before .before .before .before .before .before .before .before .before
+  middle c = mixed (c .before .before .before .before)
+
+  abbrev lower : Ended → Lower
+  lower c = c .before .before .before .before .before .before .before .before
 
   abbrev started : Parted → Start
   started c = c .before .before .before .before .before .before
@@ -167,26 +184,26 @@ pub +write-universal-spec : {M : Type 1} → statement M
     (λ c κs. (search needs, upper-room (begun t (c .before .before .before .before .before .before))))
     -- the rows between the halves, their stretch and the lower half's pins
     (λ c. search needs) (λ c. search needs) (λ c. search needs) (λ c. search needs)
-    (λ c. let b = begun t (parted t (c .before .before .before .before .before .before .before .before .before)) in omega arith)
-    (λ c. select-fits t (c .before .before .before .before .before .before .before .before .before))
-    (λ c. let s = select-fits t (c .before .before .before .before .before .before .before .before .before) in search needs)
+    (λ c. let b = begun t (parted t (fed t c)) in omega arith)
+    (λ c. select-fits t (fed t c))
+    (λ c. let s = select-fits t (fed t c) in search needs)
     (λ c. search needs)
     (λ c κs.
-    let up = c .before .before .before .before .before .before .before .before .before .before .before .before .before in
+    let up = fed t (c .before .before .before .before) in
     let kept = up .write-universal .kept .1 .1 .1 .1 .1 .0 in
     rw kept (middle-room (begun t (parted t up)) (upper-done t up)))
     -- the lower half, its stretch and its output wires
-    (λ c. begun t (parted t (upper t (c .before .before .before .before .before .before))) .some)
-    (λ c. let b = begun t (parted t (upper t (c .before .before .before .before .before .before))) in omega arith)
-    (λ c. lower-fits t (c .before .before .before .before .before .before))
-    (λ c. let s = lower-fits t (c .before .before .before .before .before .before) in search needs)
+    (λ c. begun t (parted t (upper t (mixed t c))) .some)
+    (λ c. let b = begun t (parted t (upper t (mixed t c))) in omega arith)
+    (λ c. lower-fits t (mixed t c))
+    (λ c. let s = lower-fits t (mixed t c) in search needs)
     (λ c. search needs)
-    (λ c. let b = begun t (parted t (upper t (c .before .before .before .before .before .before .before))) in omega arith)
-    (λ c. outs-fit t (upper t (c .before .before .before .before .before .before .before)))
-    (λ c. let s = outs-fit t (upper t (c .before .before .before .before .before .before .before)) in search needs)
+    (λ c. let b = begun t (parted t (upper t (mixed t (c .before)))) in omega arith)
+    (λ c. outs-fit t (upper t (mixed t (c .before))))
+    (λ c. let s = outs-fit t (upper t (mixed t (c .before))) in search needs)
     (λ c. search needs)
     (λ c κs.
-    let m = c .before .before .before .before .before .before .before .before .before in
+    let m = mixed t (c .before .before .before) in
     let p = parted t (upper t m) in
     let kept = m .write-middle .kept .1 .1 .1 .1 .0 ∙ upper t m .write-universal .kept .1 .1 .1 .1 .1 .0 in
     let falls = started t p .pre .0 in
@@ -194,10 +211,10 @@ pub +write-universal-spec : {M : Type 1} → statement M
     -- U(1)
     (λ c κs. gate-room (c .before .before .before .if1 .left) (c .before .before .before .before .before .before .before .before .pre .1))
     -- what is written
-    (λ c. done t (c .before .before .before .before .before .before .before .before) .rowsLength)
-    (λ c. pins-kept t (c .before .before .before .before .before .before .before .before))
-    (λ c. done t (c .before .before .before .before .before .before .before .before) .outsLength)
-    (λ c. selected-kept t (c .before .before .before .before .before .before .before .before))
-    (λ c. let w = done t (c .before .before .before .before .before .before .before .before) in (w .rows, w .outs))
+    (λ c. done t (lower t c) .rowsLength) (λ c. pins-kept t (lower t c)) (λ c. done t (lower t c) .outsLength) (λ c. selected-kept t (lower t c))
+    (λ c. let w = done t (lower t c) in (w .rows, w .outs))
+    -- and at level 0
     (λ c. search needs) (λ c. search needs) (λ c. search needs)
-    (λ c. gate-written _ _ _ _ _ _ _ (c .before .before .before .before .before .before .before .before .if1 .left) (c .before .before .before .before .write-gate .ensures))
+    (λ c.
+    let gate = c .before .before .before .before in
+    gate-written _ _ _ _ _ _ _ (gate .before .before .before .before .if1 .left) (gate .write-gate .ensures))

@@ -1,8 +1,7 @@
 -- `fabric_rows::block::put_selection` meets its contract: S's checks pass, so that its call writes S. Assumes nothing.
-use mathlib.Core.Path.{sym, _∙_}
 use borrow.Author.Needs.{needs}
-use Rattle.fault.specs.BuffersLaws.{filled-done}
-use Rattle.fabric_rows.specs.BlockLaws.{selection-passes}
+use lib.ListN.{take}
+use Rattle.fabric_rows.specs.BlockLaws.{selection-put}
 use Rattle.fabric_rows.proofs.block.put_selection.Statement.{statement}
 use Rattle.fabric_rows.proofs.block.put_selection.Tie as tie
 
@@ -10,10 +9,8 @@ written : tie.Need-returns
 written c =
     let done = c .before .before .before .before in
     let start = done .before .before .before .before .before .before .before in
-    let none = sym (selection-passes (start .pre)) in (
-      done .write-selection .ensures .1 .0 ∙ sym (filled-done _ _ _ none),
-      done .write-selection .ensures .1 .1 ∙ sym (filled-done _ _ _ none),
-    )
+    let a = start .args in
+    selection-put (a .m) (a .n) (take (a .m) (a .from .now)) (a .next .0) (a .rows .now) (a .to .now) _ _ (start .pre) (done .write-selection .ensures .1)
 
 pub put-selection-spec : {M : Type 1} → statement M
 put-selection-spec =

@@ -11,7 +11,7 @@ abbrev parts : tie.After-struct-known6 → tie.After-fabric-parts
 parts c = c .before .before .before .before .before .before
 
 counts : tie.Need-returns
-counts c = fabric-counts (parts c .before .pre) (parts c .fabric-parts .ensures) refl refl refl
+counts c = fabric-counts (parts c .fabric-parts .ensures) refl refl refl
 
 pub counts-of-spec : {M : Type 1} → statement M
 counts-of-spec =

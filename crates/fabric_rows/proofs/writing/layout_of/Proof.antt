@@ -1,6 +1,6 @@
 -- `fabric_rows::writing::layout_of` meets its contract: the parts follow each other. Assumes nothing.
 use native.Mathlib.Omega.{arith}
-use mathlib.Core.Path.{refl, ap, _∙_}
+use mathlib.Core.Path.{refl, ap}
 use Prim.Native.Nat.{_+_}
 use borrow.Author.Needs.{needs}
 use Rattle.universal.specs.Tables.{header}
