@@ -3,12 +3,18 @@
  * network P and the selection network S of the block library, their rows and their programs; the
  * fabric of three counts, a plan's program for it, and the run of a fabric table.
  *
+ * example.c beside this file shows the whole path, from a plan file to a run. A program is linked
+ * with libcapi.a, which `rt staticlib capi` writes.
+ *
  * Every call takes all inputs and refuses bad ones. It answers a number: 0 for done, any other
  * the row of the refusal table below whose check failed first. A refusal writes through no
  * pointer. Where a buffer is longer than its stated length, the entries past it stay as they were.
  *
  * A pointer is never null, also where its length is 0; that many entries behind it belong to the
- * caller, and a buffer that is written overlaps no other. No call keeps a pointer.
+ * caller, and a buffer that is written overlaps no other. No call keeps a pointer or any state.
+ *
+ * Lengths count entries of the pointer's type. A buffer that is read has the exact length that its
+ * call names. A buffer that is written has its stated length or more.
  *
  * Wires of a plan: 1 to u are its inputs, u + g is gate g, where u, k and v are the plan's numbers
  * of inputs, gates and outputs. Gates and outputs count from 1 here and lie in arrays from 0.
@@ -26,12 +32,82 @@
 extern "C" {
 #endif
 
-/* The limits of u, k and v. */
+/* The limits of u, k and v, and the bytes of the longest plan file. */
 #define MKD_MAX_INPUTS 64
 #define MKD_MAX_GATES 256
 #define MKD_MAX_OUTPUTS 64
+#define MKD_MAX_FILE_LEN 1670
 
-/* The refusal table. The block library reads some words otherwise: its calls say how. */
+/* The block library: the largest n of P, m of S and n of S. */
+#define MKD_MAX_SIZE 512
+
+/* The highest wire of a fabric. */
+#define MKD_LAST_WIRE 65535
+
+/* The largest fabric, that of 64 inputs, 256 gates and 64 outputs: no other has more of these. */
+#define MKD_MAX_FABRIC_ROWS 31489
+#define MKD_MAX_FABRIC_WIRES 58180
+#define MKD_MAX_FABRIC_BITS 32257
+#define MKD_MAX_TABLE_LEN 94534
+#define MKD_MAX_PROGRAM_LEN 4033
+
+/*
+ * The stated lengths. Each macro has the name of the parameter whose length it gives. All are
+ * constant expressions where their arguments are, so that they serve for static buffers, and
+ * evaluate an argument once.
+ */
+#define MKD_RESULT_LEN(v) ((size_t)(v))                  /* an entry an output */
+#define MKD_ROWS_LEN(rows) (3 * (size_t)(rows))          /* three entries a row */
+#define MKD_OUTPUTS_LEN(n) ((size_t)(n))                 /* an entry an output wire */
+#define MKD_PROGRAM_LEN(bits) (((size_t)(bits) + 7) / 8) /* bits divided by 8, rounded up */
+#define MKD_TABLE_LEN(rows, v) (3 + MKD_ROWS_LEN(rows) + (size_t)(v))
+#define MKD_WORK_LEN(wires) ((size_t)(wires)) /* an entry a wire */
+
+/*
+ * The rows, wires and program bits of P(n), of S(m, n), and of the fabric of u, k and v, which
+ * mkd_count gives at run time. The wires of P and S are those that their rows make: after a block
+ * the next unmade wire is as many higher. The wires of a fabric are all, with wire 0 and the
+ * inputs.
+ *
+ * These too are constant expressions where their arguments are, but evaluate an argument several
+ * times. They hold for arguments that the calls do not refuse.
+ */
+#define MKD_PERMUTATION_ROWS(n) MKD_P_ROWS(MKD_LEVEL(n))
+#define MKD_PERMUTATION_WIRES(n) (2 * MKD_PERMUTATION_ROWS(n))
+#define MKD_PERMUTATION_BITS(n) MKD_PERMUTATION_ROWS(n)
+
+#define MKD_SELECTION_ROWS(m, n) MKD_S_ROWS(MKD_LARGER(MKD_LEVEL(m), MKD_LEVEL(n)))
+#define MKD_SELECTION_WIRES(m, n) MKD_S_WIRES(MKD_LARGER(MKD_LEVEL(m), MKD_LEVEL(n)))
+#define MKD_SELECTION_BITS(m, n) MKD_SELECTION_ROWS(m, n)
+
+#define MKD_FABRIC_ROWS(u, k, v)                                                                   \
+    (MKD_SELECTION_ROWS(u, 2 * (k)) + MKD_U_ROWS(MKD_LEVEL(k)) + MKD_SELECTION_ROWS(k, v))
+#define MKD_FABRIC_WIRES(u, k, v)                                                                  \
+    (1 + (uint32_t)(u) + MKD_SELECTION_WIRES(u, 2 * (k)) + MKD_U_WIRES(MKD_LEVEL(k)) +             \
+     MKD_SELECTION_WIRES(k, v))
+#define MKD_FABRIC_BITS(u, k, v) (MKD_FABRIC_ROWS(u, k, v) + 3 * MKD_POWER(MKD_LEVEL(k)))
+
+/*
+ * Parts of the macros above. The level of x, 1 to 512, is the smallest l with 2 to the power l not
+ * below x: as many bits as x - 1 has. A fabric is S(u, 2K), U(K), S(K, v), see mkd_fabric; K is of
+ * k's level.
+ */
+#define MKD_ABOVE(x, l) ((((uint32_t)(x)-1) >> (l)) != 0)
+#define MKD_LEVEL(x)                                                                               \
+    (MKD_ABOVE(x, 0) + MKD_ABOVE(x, 1) + MKD_ABOVE(x, 2) + MKD_ABOVE(x, 3) + MKD_ABOVE(x, 4) +     \
+     MKD_ABOVE(x, 5) + MKD_ABOVE(x, 6) + MKD_ABOVE(x, 7) + MKD_ABOVE(x, 8))
+#define MKD_LARGER(a, b) ((a) > (b) ? (a) : (b))
+#define MKD_POWER(l) ((uint32_t)1 << (l))
+#define MKD_P_ROWS(l) ((uint32_t)(l) * MKD_POWER(l) + 1 - MKD_POWER(l))
+#define MKD_S_ROWS(l) (2 * MKD_P_ROWS(l) + MKD_POWER(l) - 1)
+#define MKD_S_WIRES(l) (4 * MKD_P_ROWS(l) + MKD_POWER(l) - 1)
+#define MKD_U_ROWS(l) (MKD_POWER(l) * (uint32_t)((l) * (l) + (l) + 2) - 1)
+#define MKD_U_WIRES(l) (MKD_POWER(l) * (uint32_t)(2 * (l) * (l) + 4) - 3)
+
+/*
+ * The refusal table. The block library reads 2, 4, 9, 12 and 13 otherwise: its calls say how. No
+ * other number is given.
+ */
 enum mkd_fault {
     MKD_STUB = 1,     /* file below 6 bytes */
     MKD_INPUTS = 2,   /* u not 1 to 64 */
@@ -43,9 +119,9 @@ enum mkd_fault {
     MKD_TABLE = 8,    /* table above 15 */
     MKD_SOURCE = 9,   /* output not in u + 1 to u + k */
     MKD_TAIL = 10,    /* bytes after the last output */
-    MKD_SHORT = 11,   /* a lent buffer below its stated length */
+    MKD_SHORT = 11,   /* a buffer that is written is below its stated length */
     MKD_CONTACT = 12, /* input row not of length u, or an entry not 0 or 1 */
-    MKD_FABRIC = 13,  /* fabric table malformed */
+    MKD_FABRIC = 13,  /* fabric table malformed: mkd_run says when */
     MKD_PROGRAM = 14  /* program not of its exact length, or a spare bit set */
 };
 
@@ -79,34 +155,41 @@ struct mkd_read {
 };
 
 /*
- * Reads a plan file of len bytes.
+ * Reads a plan file.
  *
  * The file: u, k, v, two bytes each, low byte first, as all numbers of two bytes. Per gate a map
  * byte, then the fields whose map bit stands: bit 0 first operand (two bytes; absent: the wire
  * just before the gate), bit 1 second operand (two bytes; absent: the same as the first), bit 2
- * table (one byte; absent: 8). Last v outputs, two bytes each. The longest plan has 1,670 bytes.
+ * table (one byte; absent: 8). A field may stand although it equals what its absence means. Last v
+ * outputs, two bytes each.
  *
- * Refusals, the first failing check deciding: 1 at 0; 2 at 0; 3 at 2; 4 at 4; per gate 5, then 6
- * for the map and, per field that stands, 5, then 7 or 8; per output 5, then 9; 10 at the first
- * byte after the last output. The other offsets are those of the field's first byte.
+ * Buffer: file has len bytes, any number of them; no plan has more than MKD_MAX_FILE_LEN.
+ *
+ * Refusals, in this order: 1 at 0; 2 at 0; 3 at 2; 4 at 4; per gate 5, then 6 for the map and, per
+ * field that stands, 5, then 7 or 8; per output 5, then 9; 10 at the first byte after the last
+ * output. The offset of 5 to 9 is that of the field's first byte, also where the file ends there
+ * or inside the field.
  *
  * Done: number and at are 0, and the plan has no plan fault. Refused: the plan is all zero.
  */
 struct mkd_read mkd_plan_read(const uint8_t *file, size_t len);
 
 /*
- * The first plan fault of a plan in memory, or 0 where it has none.
+ * The first plan fault of a plan in memory, or 0 where it has none: the plan is then accepted.
  *
- * Order: 2, 3, 4; per gate 7 for both operands, then 8; then 9 over the outputs.
+ * The plan faults, in this order: 2, 3, 4; per gate 7 for both operands, then 8; then 9 over the
+ * outputs. No buffer is written.
  */
 uint32_t mkd_plan_fault(struct mkd_plan plan);
 
 /*
- * Evaluates a plan on an input row: entry i of row is the bit of input i, and the first v entries
- * of result become the bits, 0 or 1, of the wires that the outputs name.
+ * Evaluates a plan on an input row: row[i - 1] is the bit of input i, and the first v entries of
+ * result become the bits, 0 or 1, of the wires that the outputs name, in their order.
+ *
+ * Buffers: row has u entries; result has MKD_RESULT_LEN(v) or more.
  *
  * Refusals, in this order: the plan faults; 12 if row_len is not u or an entry of row is not 0 or
- * 1; 11 if result_len is below the stated length v. A refusal leaves result as it was.
+ * 1; 11 if result_len is below its stated length. A refusal leaves result as it was.
  */
 uint32_t mkd_plan_evaluate(struct mkd_plan plan, const uint8_t *row, size_t row_len,
                            uint8_t *result, size_t result_len);
@@ -116,37 +199,42 @@ uint32_t mkd_plan_evaluate(struct mkd_plan plan, const uint8_t *row, size_t row_
  * base 2. A row is three entries: kind 1 (X), left wire, right wire. It makes two wires, the next
  * unmade ones, and has one program bit: at 0 they carry left and right, at 1 right and left.
  *
- * inputs are n made wires, next is the next unmade wire. Wire 0 and repeated wires are allowed.
- * The entries of the rows become the first of rows, P's n output wires the first of outputs.
+ * inputs are made wires, next is the next unmade wire. Wire 0 and repeated wires are allowed. The
+ * entries of the rows become the first of rows, P's n output wires the first of outputs.
  *
  * P(1) is a wire. Otherwise the rows are, in order: n / 2 on the input pairs, whose first outputs
  * feed the upper P(n / 2) and second the lower at the pair's place; the upper's; the lower's;
  * n / 2 - 1 that join output i of upper and lower into outputs 2i - 1 and 2i. The last output pair
  * has no row.
  *
+ * Buffers: inputs has n entries; rows has MKD_ROWS_LEN(MKD_PERMUTATION_ROWS(n)) or more, which is 0
+ * for P(1); outputs has MKD_OUTPUTS_LEN(n) or more.
+ *
  * Refusals, in this order: 2 if n is not a power of two from 1 to 512; 12 if inputs_len is not n;
  * 13 if an input wire is not below next, or a wire that a row makes would pass 65,535 (P(1) has no
- * row, so that next may then be any number above its input); 11 if rows_len is below three entries
- * a row or outputs_len below n. A refusal leaves rows and outputs as they were.
+ * row, so that next may then be any number above its input); 11 if rows_len or outputs_len is
+ * below its stated length. A refusal leaves rows and outputs as they were.
  */
 uint32_t mkd_permutation_write(uint32_t n, const uint16_t *inputs, size_t inputs_len,
                                uint32_t next, uint16_t *rows, size_t rows_len,
                                uint16_t *outputs, size_t outputs_len);
 
 /*
- * Programs P(n): with this program output i + 1 of P(n) carries what input wanted[i] carries, i
- * from 0, where wanted has each of 1 to n once.
+ * Programs P(n): with this program output i of P(n) carries what input wanted[i - 1] carries, i
+ * from 1, where wanted has each of 1 to n once.
  *
  * Input and output pairs joined by that mapping form loops. In the loop holding the last output
  * pair, that pair is straight; in each other loop its lowest output pair is. This fixes every bit,
  * for the upper and the lower P(n / 2) likewise.
  *
  * Program bits follow the rows, one a row. Bit p, from 0, lies in byte p / 8 at place p % 8, place
- * 0 lowest; spare bits of the last byte are 0. The stated length is the bits divided by 8, rounded
- * up: 0 for P(1).
+ * 0 lowest; spare bits of the last byte are 0.
+ *
+ * Buffers: wanted has n entries; program has MKD_PROGRAM_LEN(MKD_PERMUTATION_BITS(n)) or more,
+ * which is 0 for P(1).
  *
  * Refusals, in this order: 2 if n is not a power of two from 1 to 512; 12 if wanted_len is not n;
- * 9 if a wanted input is not in 1 to n or comes twice; 11 if program_len is below the stated
+ * 9 if a wanted input is not in 1 to n or comes twice; 11 if program_len is below its stated
  * length. A refusal leaves program as it was.
  */
 uint32_t mkd_permutation_program(uint32_t n, const uint16_t *wanted, size_t wanted_len,
@@ -158,26 +246,29 @@ uint32_t mkd_permutation_program(uint32_t n, const uint16_t *wanted, size_t want
  * left wire, right wire. Kind 1 (X) is as in P. Kind 2 (Y) makes one wire, the next unmade one,
  * and has one program bit: at 0 the wire carries left, at 1 right.
  *
- * inputs are m made wires, next is the next unmade wire. Wire 0 and repeated wires are allowed.
- * The entries of the rows become the first of rows, S's n output wires the first of outputs.
+ * inputs are made wires, next is the next unmade wire. Wire 0 and repeated wires are allowed. The
+ * entries of the rows become the first of rows, S's n output wires the first of outputs.
  *
  * S(1, 1) is a wire. Otherwise the rows are, in order: those of a P(N) on the input wires and,
  * past m, wire 0, which gives positions 1 to N; N - 1 of kind 2, one a position from 2 on, whose
  * left wire is what position i - 1 has become and right wire position i; those of a P(N) on what
  * the positions have become, whose first n outputs are S's.
  *
+ * Buffers: inputs has m entries; rows has MKD_ROWS_LEN(MKD_SELECTION_ROWS(m, n)) or more, which is
+ * 0 for S(1, 1); outputs has MKD_OUTPUTS_LEN(n) or more.
+ *
  * Refusals, in this order: 2 if m is not 1 to 512; 4 if n is not 1 to 512; 12 if inputs_len is not
  * m; 13 if an input wire is not below next, or a wire that a row makes would pass 65,535 (S(1, 1)
- * has no row, so that next may then be any number above its input); 11 if rows_len is below three
- * entries a row or outputs_len below n. A refusal leaves rows and outputs as they were.
+ * has no row, so that next may then be any number above its input); 11 if rows_len or outputs_len
+ * is below its stated length. A refusal leaves rows and outputs as they were.
  */
 uint32_t mkd_selection_write(uint32_t m, uint32_t n, const uint16_t *inputs, size_t inputs_len,
                              uint32_t next, uint16_t *rows, size_t rows_len,
                              uint16_t *outputs, size_t outputs_len);
 
 /*
- * Programs S(m, n): with this program output i + 1 of S(m, n) carries what input wanted[i]
- * carries, i from 0, where wanted has n of 1 to m, any of them any number of times.
+ * Programs S(m, n): with this program output i of S(m, n) carries what input wanted[i - 1]
+ * carries, i from 1, where wanted has n of 1 to m, any of them any number of times.
  *
  * Let c(j) outputs want input j. The first P(N) brings input j, if c(j) is above 0, to position
  * 1 + c(1) + .. + c(j - 1), a head. Inputs with none, those past m included, take the other
@@ -185,11 +276,13 @@ uint32_t mkd_selection_write(uint32_t m, uint32_t n, const uint16_t *inputs, siz
  * second P(N) gives output o, wanting input j, the position of j's head plus the number of earlier
  * outputs wanting j; outputs past n take their own position. Both are programmed as P is.
  *
- * Program bits follow the rows, one a row, and lie in bytes as P's do. The stated length is the
- * bits divided by 8, rounded up: 0 for S(1, 1).
+ * Program bits follow the rows, one a row, and lie in bytes as P's do.
+ *
+ * Buffers: wanted has n entries; program has MKD_PROGRAM_LEN(MKD_SELECTION_BITS(m, n)) or more,
+ * which is 0 for S(1, 1).
  *
  * Refusals, in this order: 2 if m is not 1 to 512; 4 if n is not 1 to 512; 12 if wanted_len is not
- * n; 9 if a wanted input is not in 1 to m; 11 if program_len is below the stated length. A refusal
+ * n; 9 if a wanted input is not in 1 to m; 11 if program_len is below its stated length. A refusal
  * leaves program as it was.
  */
 uint32_t mkd_selection_program(uint32_t m, uint32_t n, const uint16_t *wanted, size_t wanted_len,
@@ -199,33 +292,37 @@ uint32_t mkd_selection_program(uint32_t m, uint32_t n, const uint16_t *wanted, s
 struct mkd_counts {
     uint32_t number; /* 0, or the refusal */
     uint32_t rows;
-    uint32_t wires; /* 0 is constant zero, 1 to u the inputs, then those that the rows make */
+    uint32_t wires; /* all: wire 0, the inputs, and those that the rows make */
     uint32_t bits;  /* program bits */
 };
 
 /*
- * Counts the rows, wires and program bits of the fabric of u inputs, k gates and v outputs.
+ * Counts the rows, wires and program bits of the fabric of u inputs, k gates and v outputs. They
+ * are those of the macros MKD_FABRIC_ROWS, MKD_FABRIC_WIRES and MKD_FABRIC_BITS.
  *
- * Refusals, in this order: 2, 3, 4. The other counts are then 0.
+ * Refusals, in this order: 2, 3, 4. Refused: rows, wires and bits are 0. No buffer is written.
  */
 struct mkd_counts mkd_count(uint32_t u, uint32_t k, uint32_t v);
 
 /*
  * Writes the table of the fabric of u inputs, k gates and v outputs: 16-bit entries u, v, R (its
- * rows); then kind, left wire, right wire per row; then the v output wires. The stated length is
- * 3 + 3R + v. At most R is 31,489, the length 94,534 and the fabric's wires 58,180.
+ * rows); then kind, left wire, right wire per row; then the v output wires. It depends on the
+ * three counts alone, and on k by K alone, the smallest power of two not below k.
  *
  * Kinds 1 (X) and 2 (Y) are as in P and S. Kind 3 (G), a gate, makes one wire, the next unmade
  * one, and has four program bits, its table, lowest bit first: with left bit a and right bit b the
  * wire carries bit 2a + b of the table.
  *
- * Let K be the smallest power of two not below k. The rows are those of S(u, 2K) on the inputs, of
- * U(K) on the 2K pins that it gives, and of S(K, v) on U(K)'s outputs. U(1) is a G on its two
- * pins. Otherwise U(K) is, in this row order: the upper U(K / 2) on pins 1 to K; S(K / 2, K) on its
- * outputs; K rows of kind 2, left wire pin K + j, right wire output j of that S; the lower
- * U(K / 2) on what these make. U(K)'s outputs are the upper's, then the lower's.
+ * The rows are those of S(u, 2K) on the inputs, of U(K) on the 2K pins that it gives, and of
+ * S(K, v) on U(K)'s outputs. U(1) is a G on its two pins. Otherwise U(K) is, in this row order: the
+ * upper U(K / 2) on pins 1 to K; S(K / 2, K) on its outputs; K rows of kind 2, left wire pin K + j,
+ * right wire output j of that S; the lower U(K / 2) on what these make. U(K)'s outputs are the
+ * upper's, then the lower's.
  *
- * Refusals, in this order: 2, 3, 4; 11 if table_len is below the stated length. A refusal leaves
+ * Buffer: table has MKD_TABLE_LEN(R, v) entries or more, that is 3 + 3R + v, where R is
+ * MKD_FABRIC_ROWS(u, k, v); MKD_MAX_TABLE_LEN are enough for every fabric.
+ *
+ * Refusals, in this order: 2, 3, 4; 11 if table_len is below its stated length. A refusal leaves
  * table as it was.
  */
 uint32_t mkd_fabric(uint32_t u, uint32_t k, uint32_t v, uint16_t *table, size_t table_len);
@@ -241,30 +338,38 @@ uint32_t mkd_fabric(uint32_t u, uint32_t k, uint32_t v, uint16_t *table, size_t 
  * of the upper's gates; otherwise it wants the first of these, with bit 0. For the upper and the
  * lower U(K / 2) likewise. S(K, v) is programmed so that each output wants the gate that it names.
  *
- * Program bits follow the rows and lie in bytes as P's do; spare bits of the last byte are 0. The
- * stated length is the fabric's bits divided by 8, rounded up: at most 4,033.
+ * Program bits follow the rows and lie in bytes as P's do; spare bits of the last byte are 0.
  *
- * Refusals, in this order: the plan faults; 11 if program_len is below the stated length. A refusal
+ * Buffer: program has MKD_PROGRAM_LEN(MKD_FABRIC_BITS(u, k, v)) bytes or more; MKD_MAX_PROGRAM_LEN
+ * are enough for every plan.
+ *
+ * Refusals, in this order: the plan faults; 11 if program_len is below its stated length. A refusal
  * leaves program as it was.
  */
 uint32_t mkd_program(struct mkd_plan plan, uint8_t *program, size_t program_len);
 
 /*
- * Runs a fabric table with a program on an input row: entry i of row is the bit of input i, and
+ * Runs a fabric table with a program on an input row: row[i - 1] is the bit of input i, and
  * each row of the table does what its kind says, in order. The first entries of work become the
  * bits, 0 or 1, of all wires, that of wire w at place w, and the first v entries of result those
  * of the output wires.
  *
- * Any table of the form that mkd_fabric writes is run, with u and v its first two entries. Program
- * bits follow the rows and lie in bytes as P's do; spare bits of the last byte are 0. The stated
- * length of work is one entry a wire, that of result v.
+ * Any table of the form that mkd_fabric writes is run, with u, v and R its first three entries; R
+ * may be 0. Program bits follow the rows and lie in bytes as P's do; spare bits of the last byte
+ * are 0.
+ *
+ * Buffers: table has MKD_TABLE_LEN(R, v) entries, no more; program has MKD_PROGRAM_LEN(bits) bytes,
+ * no more, where X and Y rows have one bit and G rows four; row has u entries; work has
+ * MKD_WORK_LEN(wires) or more, where wire 0 and the inputs count, X rows make two wires, Y and G
+ * rows one; result has MKD_RESULT_LEN(v) or more. For a fabric of mkd_fabric bits and wires are
+ * those of mkd_count, and MKD_MAX_FABRIC_WIRES entries of work are enough.
  *
  * Refusals, in this order: 13 if the table is malformed, that is, has less than 3 entries, u or v
  * not 1 to 64, another length than 3 + 3R + v, a kind not 1 to 3, a row's wire that is not made
  * before that row, an output wire that is not made, or more than 65,536 wires; 14 if program_len
- * is not the table's bits divided by 8, rounded up, or a spare bit is set; 12 if row_len is not u
- * or an entry of row is not 0 or 1; 11 if work_len or result_len is below its stated length. A
- * refusal leaves work and result as they were.
+ * is not the exact length, or a spare bit is set; 12 if row_len is not u or an entry of row is not
+ * 0 or 1; 11 if work_len or result_len is below its stated length. A refusal leaves work and result
+ * as they were.
  */
 uint32_t mkd_run(const uint16_t *table, size_t table_len, const uint8_t *program,
                  size_t program_len, const uint8_t *row, size_t row_len, uint8_t *work,

@@ -21,7 +21,7 @@ use self::show::{first_difference, hex, show_number, show_plan, show_read};
 use crate::fault::{Fault, Refusal};
 use crate::plan::Plan;
 use crate::random::Random;
-use crate::{exports, reference};
+use crate::{raw, reference};
 
 /// One place for each number of the refusal table, and place 0 for done.
 const NUMBERS: usize = Fault::TABLE.len() + 1;
@@ -101,7 +101,7 @@ impl Comparison {
     fn reading(&mut self, file: &[u8]) -> Result<Option<Plan>, Difference> {
         let answer = reference::plan::read(file);
         let expected = read_record(&answer);
-        let found = exports::plan_read(file);
+        let found = raw::plan_read(file);
         if found != expected {
             return Err(self.difference(&[
                 ("file", hex(file)),
@@ -120,7 +120,7 @@ impl Comparison {
     /// Compares the plan faults of a plan in memory.
     fn faults(&mut self, plan: &Plan) -> Outcome {
         let expected = number(reference::plan::fault(plan));
-        let found = exports::plan_fault(plan);
+        let found = number(crate::check(plan).err());
         if found != expected {
             return Err(self.difference(&[
                 ("plan", show_plan(plan)),
@@ -140,7 +140,7 @@ impl Comparison {
 
         let answer = reference::plan::evaluate(plan, row, &mut expected[result.clone()]);
         let expected_number = number(answer.err());
-        let found_number = exports::plan_evaluate(plan, row, &mut found[result]);
+        let found_number = number(crate::evaluate(plan, row, &mut found[result]).err());
 
         let written = match expected_number {
             0 => GUARD..GUARD + usize::from(plan.output_count),
@@ -213,14 +213,14 @@ fn first_failing(checks: &[(Fault, bool)]) -> u32 {
 }
 
 /// The record that an answer of a read comes as; a refusal's plan is all zero.
-fn read_record(answer: &Result<Plan, Refusal>) -> exports::Read {
+fn read_record(answer: &Result<Plan, Refusal>) -> raw::Read {
     match *answer {
-        Ok(plan) => exports::Read {
+        Ok(plan) => raw::Read {
             number: 0,
             at: 0,
             plan,
         },
-        Err(Refusal { fault, at }) => exports::Read {
+        Err(Refusal { fault, at }) => raw::Read {
             number: fault.number(),
             at,
             plan: Plan::ZERO,

@@ -3,17 +3,26 @@
 use std::error::Error;
 use std::fmt;
 
-/// A word of the refusal table. Its discriminant is the word's number. The block library reads
-/// some words otherwise: `include/mukdalis.h` says how at its calls.
+/// A word of the refusal table, the reason of a refusal. Its discriminant is the word's number.
+///
+/// ```
+/// use mukdalis::{count_fabric, Fault};
+///
+/// let fault = count_fabric(65, 1, 1).unwrap_err();
+/// assert_eq!(fault, Fault::Inputs);
+/// assert_eq!((fault.number(), fault.word()), (2, "inputs"));
+/// assert_eq!(fault.to_string(), "refused 2 (inputs)");
+/// ```
 #[derive(Clone, Copy, Debug, PartialEq, Eq)]
 pub enum Fault {
     /// The file is below 6 bytes.
     Stub = 1,
-    /// u is not 1 to 64.
+    /// u is not 1 to 64. Block library: P's n is not a power of two from 1 to 512, or S's m is not
+    /// 1 to 512.
     Inputs = 2,
     /// k is not 1 to 256.
     Gates = 3,
-    /// v is not 1 to 64.
+    /// v is not 1 to 64. Block library: S's n is not 1 to 512.
     Outputs = 4,
     /// The file ends inside or before a needed field.
     Cut = 5,
@@ -23,15 +32,18 @@ pub enum Fault {
     Operand = 7,
     /// A table is above 15.
     Table = 8,
-    /// An output is not in u + 1 to u + k.
+    /// An output is not in u + 1 to u + k. Block library: a wanted input is not in 1 to m or, in P,
+    /// not in 1 to n or comes twice.
     Source = 9,
     /// Bytes follow the last output.
     Tail = 10,
-    /// A lent buffer is below its stated length.
+    /// A buffer that is written is below its stated length.
     Short = 11,
-    /// The input row is not of length u, or an entry is not 0 or 1.
+    /// The input row is not of length u, or an entry is not 0 or 1. Block library: the list of input
+    /// wires or wanted inputs has another length.
     Contact = 12,
-    /// A fabric table is malformed.
+    /// A fabric table is malformed. Block library: an input wire is unmade, or a new wire would pass
+    /// 65,535.
     Fabric = 13,
     /// A program is not of its exact length, or a spare bit is set.
     Program = 14,
@@ -62,6 +74,13 @@ impl Fault {
     }
 
     /// The fault of a number, if the table has it.
+    ///
+    /// ```
+    /// use mukdalis::Fault;
+    ///
+    /// assert_eq!(Fault::from_number(14), Some(Fault::Program));
+    /// assert_eq!(Fault::from_number(0), None);
+    /// ```
     pub fn from_number(number: u32) -> Option<Fault> {
         let row = (number as usize).checked_sub(1)?;
         Fault::TABLE.get(row).map(|&(fault, _)| fault)
@@ -81,10 +100,18 @@ impl fmt::Display for Fault {
 
 impl Error for Fault {}
 
-/// A refused read: the fault, and the byte offset where the faulty field begins or would begin.
+/// A refused read.
+///
+/// ```
+/// let refusal = mukdalis::read(&[1, 0, 1, 0, 1, 0, 8]).unwrap_err();
+/// assert_eq!((refusal.fault, refusal.at), (mukdalis::Fault::Map, 6));
+/// assert_eq!(refusal.to_string(), "refused 6 at 6");
+/// ```
 #[derive(Clone, Copy, Debug, PartialEq, Eq)]
 pub struct Refusal {
+    /// The first check that failed.
     pub fault: Fault,
+    /// The byte offset where the faulty field begins or would begin.
     pub at: u64,
 }
 
@@ -95,6 +122,15 @@ impl fmt::Display for Refusal {
 }
 
 impl Error for Refusal {}
+
+/// An export's number: 0 is done, any other a row of the refusal table.
+pub(crate) fn answer(number: u32) -> Result<(), Fault> {
+    if number == 0 {
+        return Ok(());
+    }
+    let fault = Fault::from_number(number);
+    Err(fault.unwrap_or_else(|| panic!("the library answered {number}, which is no refusal")))
+}
 
 #[cfg(test)]
 mod tests {

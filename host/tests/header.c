@@ -1,4 +1,4 @@
-/* Uses include/mukdalis.h as a C program does, and prints the layout of its records. */
+/* Makes every call of include/mukdalis.h; prints the layout of its records, and its refusals. */
 #include "mukdalis.h"
 
 #include <stddef.h>
@@ -142,10 +142,9 @@ static int fabrics_fail(void)
     return 0;
 }
 
-int main(void)
+/* Sizes and offsets of the records. */
+static void print_layout(void)
 {
-    if (plans_fail() || permutations_fail() || selections_fail() || fabrics_fail())
-        return 1;
     printf("%zu %zu %zu", sizeof(struct mkd_gate), offsetof(struct mkd_gate, second),
            offsetof(struct mkd_gate, table));
     printf(" %zu %zu %zu", sizeof(struct mkd_plan), offsetof(struct mkd_plan, gates),
@@ -154,5 +153,22 @@ int main(void)
            offsetof(struct mkd_read, plan));
     printf(" %zu %zu %zu %zu\n", sizeof(struct mkd_counts), offsetof(struct mkd_counts, rows),
            offsetof(struct mkd_counts, wires), offsetof(struct mkd_counts, bits));
+}
+
+/* Each word of the refusal table with its number. */
+static void print_faults(void)
+{
+    printf("stub %d inputs %d gates %d outputs %d", MKD_STUB, MKD_INPUTS, MKD_GATES, MKD_OUTPUTS);
+    printf(" cut %d map %d operand %d table %d", MKD_CUT, MKD_MAP, MKD_OPERAND, MKD_TABLE);
+    printf(" source %d tail %d short %d", MKD_SOURCE, MKD_TAIL, MKD_SHORT);
+    printf(" contact %d fabric %d program %d\n", MKD_CONTACT, MKD_FABRIC, MKD_PROGRAM);
+}
+
+int main(void)
+{
+    if (plans_fail() || permutations_fail() || selections_fail() || fabrics_fail())
+        return 1;
+    print_layout();
+    print_faults();
     return 0;
 }

@@ -11,8 +11,7 @@ use std::io::{self, Read, Write};
 use std::process::ExitCode;
 use std::{env, fs};
 
-use mukdalis::exports;
-use mukdalis::plan::Plan;
+use mukdalis::{evaluate, read, Plan};
 
 /// The most inputs whose every row is shown; those past it stay 0.
 const SHOWN_INPUTS: u16 = 6;
@@ -29,7 +28,7 @@ fn main() -> ExitCode {
 
 fn run() -> Result<ExitCode, Box<dyn Error>> {
     let file = read_argument()?;
-    let (text, status) = match exports::read(&file) {
+    let (text, status) = match read(&file) {
         Ok(plan) => (show(&plan)?, ExitCode::SUCCESS),
         Err(refusal) => (format!("{refusal}\n"), ExitCode::FAILURE),
     };
@@ -58,7 +57,7 @@ fn show(plan: &Plan) -> Result<String, Box<dyn Error>> {
     for r in 0..1u64 << u.min(SHOWN_INPUTS) {
         let row: Vec<u8> = (0..u).map(|i| (r >> i & 1) as u8).collect();
         let mut outputs = vec![0; usize::from(v)];
-        exports::evaluate(plan, &row, &mut outputs)?;
+        evaluate(plan, &row, &mut outputs)?;
         writeln!(text, "{} {}", digits(&row), digits(&outputs))?;
     }
     Ok(text)

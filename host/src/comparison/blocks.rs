@@ -10,9 +10,9 @@ use super::buffer::Buffer;
 use super::show::{show_number, show_programming, show_writing};
 use super::{number, Call, Comparison, Difference, Outcome};
 use crate::random::Random;
+use crate::reference;
 use crate::reference::elements::{no_gate, Wires};
 use crate::samples::blocks::{Block, Programming, Writing, MOST_WIRES};
-use crate::{exports, reference};
 
 pub fn compare(comparison: &mut Comparison, random: &mut Random) -> Outcome {
     let values: Vec<u64> = (0..MOST_WIRES).map(|_| random.word()).collect();
@@ -52,10 +52,10 @@ fn write_both(case: &Writing, rows: &mut Buffer<u16>, outputs: &mut Buffer<u16>)
     };
     let (to_rows, to_outputs) = (rows.found(), outputs.found());
     let found = match case.block {
-        Block::P(n) => exports::permutation_write(n, inputs, next, to_rows, to_outputs),
-        Block::S(m, n) => exports::selection_write(m, n, inputs, next, to_rows, to_outputs),
+        Block::P(n) => crate::write_permutation(n, inputs, next, to_rows, to_outputs),
+        Block::S(m, n) => crate::write_selection(m, n, inputs, next, to_rows, to_outputs),
     };
-    [number(answer.err()), found]
+    [answer, found].map(|answer| number(answer.err()))
 }
 
 /// The numbers with which reference and library answer a programming.
@@ -66,10 +66,10 @@ fn program_both(case: &Programming, program: &mut Buffer<u8>) -> [u32; 2] {
         Block::S(m, n) => reference::selection::program(m, n, wanted, program.expected()),
     };
     let found = match case.block {
-        Block::P(n) => exports::permutation_program(n, wanted, program.found()),
-        Block::S(m, n) => exports::selection_program(m, n, wanted, program.found()),
+        Block::P(n) => crate::program_permutation(n, wanted, program.found()),
+        Block::S(m, n) => crate::program_selection(m, n, wanted, program.found()),
     };
-    [number(answer.err()), found]
+    [answer, found].map(|answer| number(answer.err()))
 }
 
 /// Compares a writing whose answer is to be `due`, and gives what the library wrote.

@@ -12,7 +12,7 @@ use crate::fault::Fault;
 use crate::random::Random;
 use crate::samples::fabric::{table_len, wires, Run};
 use crate::samples::{Counts, LIMIT_COUNTS};
-use crate::{exports, reference};
+use crate::{raw, reference};
 
 pub fn compare(comparison: &mut Comparison, random: &mut Random) -> Outcome {
     counts::compare(comparison)?;
@@ -44,20 +44,20 @@ fn count_checks([u, k, v]: [u32; 3]) -> [(Fault, bool); 3] {
 fn compare_counting(comparison: &mut Comparison, counts: [u32; 3], due: u32) -> Outcome {
     let [u, k, v] = counts;
     let expected = match reference::fabric::count(u, k, v) {
-        Ok(size) => exports::Counts {
+        Ok(size) => raw::Counts {
             number: 0,
             rows: size.rows,
             wires: size.wires,
             bits: size.bits,
         },
-        Err(fault) => exports::Counts {
+        Err(fault) => raw::Counts {
             number: fault.number(),
             rows: 0,
             wires: 0,
             bits: 0,
         },
     };
-    let found = exports::count(u, k, v);
+    let found = raw::count(u, k, v);
     if found != expected || found.number != due {
         return Err(comparison.difference(&[
             ("counting", show_counts(counts)),
@@ -83,7 +83,7 @@ pub fn compare_table(
     let mut table = Buffer::new(len, || random.word() as u16);
     let answer = reference::fabric::write(u, k, v, table.expected());
     let expected = number(answer.err());
-    let found = exports::fabric(u, k, v, table.found());
+    let found = number(crate::write_fabric(u, k, v, table.found()).err());
 
     let entries = match due {
         0 => table_len(u, k, v),
@@ -120,7 +120,8 @@ fn compare_run(
     let (to_work, to_result) = (work.expected(), result.expected());
     let answer = reference::run::run(table, program, row, to_work, to_result);
     let expected = number(answer.err());
-    let found = exports::run(table, program, row, work.found(), result.found());
+    let answer = crate::run_fabric(table, program, row, work.found(), result.found());
+    let found = number(answer.err());
 
     let due = due.unwrap_or(expected);
     let (wires, outputs) = match due {

@@ -8,10 +8,10 @@ use super::show::{hex, show_number, show_plan};
 use super::{number, Call, Comparison, Difference, Outcome};
 use crate::plan::{Gate, Plan};
 use crate::random::Random;
+use crate::reference;
 use crate::samples::fabric::{gates_of, table_len, wires, UNIVERSAL_SIZES};
 use crate::samples::plans::{shaped_plan, PlanShape};
 use crate::samples::{accepted_plan, fill_unused, Counts, LIMIT_COUNTS};
-use crate::{exports, reference};
 
 /// The most inputs of a plan that is run on every row.
 const FEW_INPUTS: u16 = 4;
@@ -40,7 +40,7 @@ fn compare_program(
     let mut program = Buffer::new(program_len, || random.byte());
     let answer = reference::program::write(plan, program.expected());
     let expected = number(answer.err());
-    let found = exports::program(plan, program.found());
+    let found = number(crate::program_plan(plan, program.found()).err());
 
     let bytes = match expected {
         0 => stated_length(plan),
@@ -58,14 +58,9 @@ fn compare_program(
     Ok(program.into_both(bytes))
 }
 
-/// u, k and v.
-fn counts_of(plan: &Plan) -> [u32; 3] {
-    [plan.inputs, plan.gate_count, plan.output_count].map(u32::from)
-}
-
 /// Bytes of the program of a plan whose counts are in range.
 fn stated_length(plan: &Plan) -> usize {
-    let [u, k, v] = counts_of(plan);
+    let [u, k, v] = plan.counts();
     let size = reference::fabric::count(u, k, v).expect("the counts are in range");
     size.bits.div_ceil(8) as usize
 }
@@ -125,14 +120,14 @@ fn compare_outputs(
     for (whose, table, program) in runs {
         let mut work = vec![0xa5; wires(table)];
         let mut found = vec![0xa5; expected.len()];
-        let answer = exports::run(table, program, row, &mut work, &mut found);
-        if answer != 0 || found != expected {
+        let answer = crate::run_fabric(table, program, row, &mut work, &mut found);
+        if answer.is_err() || found != expected {
             return Err(comparison.difference(&[
                 ("plan", show_plan(plan)),
                 ("row", hex(row)),
                 ("evaluation", hex(&expected)),
                 ("table and program", whose.to_string()),
-                ("library's run", show_number(answer)),
+                ("library's run", show_number(number(answer.err()))),
                 ("gives", hex(&found)),
             ]));
         }

@@ -2,9 +2,9 @@
 
 use std::fmt::Write;
 
-use crate::exports;
 use crate::fault::Fault;
 use crate::plan::{Gate, Plan};
+use crate::raw;
 use crate::samples::blocks::{Programming, Writing};
 use crate::samples::fabric::Run;
 
@@ -16,7 +16,7 @@ pub fn show_number(number: u32) -> String {
     }
 }
 
-pub fn show_read(read: &exports::Read) -> String {
+pub fn show_read(read: &raw::Read) -> String {
     let number = show_number(read.number);
     format!("{number} at {}, {}", read.at, show_plan(&read.plan))
 }

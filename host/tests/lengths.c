@@ -1,0 +1,291 @@
+/*
+ * The stated lengths that the macros of include/mukdalis.h give: the calls take them and refuse one
+ * less, or any other where the length is exact. Its limits are those of the calls; prints them.
+ */
+#include "mukdalis.h"
+
+#include <stdio.h>
+
+/* Buffers of the longest stated lengths and one more, and lists for the calls of P and S. */
+static uint16_t table[MKD_MAX_TABLE_LEN + 1];
+static uint8_t program[MKD_MAX_PROGRAM_LEN + 1];
+static uint8_t row[MKD_MAX_INPUTS + 1];
+static uint8_t work[MKD_WORK_LEN(MKD_MAX_FABRIC_WIRES) + 1];
+static uint8_t result[MKD_RESULT_LEN(MKD_MAX_OUTPUTS) + 1];
+static uint16_t rows[MKD_ROWS_LEN(MKD_SELECTION_ROWS(MKD_MAX_SIZE, MKD_MAX_SIZE))];
+static uint16_t outputs[MKD_OUTPUTS_LEN(MKD_MAX_SIZE)];
+static uint16_t zeros[2 * MKD_MAX_SIZE];
+static uint16_t ones[2 * MKD_MAX_SIZE];
+static uint16_t rising[2 * MKD_MAX_SIZE];
+
+static int fails(const char *what)
+{
+    printf("fails: %s\n", what);
+    return 1;
+}
+
+/* The longest plan: every field of every gate stands. */
+static int longest_file_fails(void)
+{
+    static uint8_t file[MKD_MAX_FILE_LEN + 1];
+    const uint8_t counts[6] = {MKD_MAX_INPUTS, 0, 0, MKD_MAX_GATES / 256, MKD_MAX_OUTPUTS, 0};
+    const uint8_t gate[6] = {7, 1, 0, 1, 0, 8};
+    struct mkd_read read;
+    size_t i, len = 0;
+
+    for (i = 0; i < 6; i++)
+        file[len++] = counts[i];
+    for (i = 0; i < 6 * MKD_MAX_GATES; i++)
+        file[len++] = gate[i % 6];
+    for (i = 0; i < MKD_MAX_OUTPUTS; i++) {
+        file[len++] = MKD_MAX_INPUTS + 1;
+        file[len++] = 0;
+    }
+    if (len != MKD_MAX_FILE_LEN || mkd_plan_read(file, len).number != 0)
+        return fails("the longest file");
+    read = mkd_plan_read(file, len + 1);
+    if (read.number != MKD_TAIL || read.at != len)
+        return fails("a byte more than the longest file");
+    return 0;
+}
+
+static void fill_lists(void)
+{
+    uint16_t i;
+
+    for (i = 0; i < 2 * MKD_MAX_SIZE; i++) {
+        ones[i] = 1;
+        rising[i] = (uint16_t)(i + 1);
+    }
+}
+
+/* P(n) with its stated lengths, wires up to the last; each length one less, one wire past it. */
+static int permutation_fails(uint32_t n)
+{
+    const size_t rows_len = MKD_ROWS_LEN(MKD_PERMUTATION_ROWS(n));
+    const size_t outputs_len = MKD_OUTPUTS_LEN(n);
+    const size_t program_len = MKD_PROGRAM_LEN(MKD_PERMUTATION_BITS(n));
+    const uint32_t next = MKD_LAST_WIRE + 1 - MKD_PERMUTATION_WIRES(n);
+
+    if (mkd_permutation_write(n, zeros, n, next, rows, rows_len, outputs, outputs_len) ||
+        mkd_permutation_program(n, rising, n, program, program_len))
+        return fails("the stated lengths of P");
+    if (mkd_permutation_write(n, zeros, n - 1, 1, rows, 0, outputs, 0) != MKD_CONTACT ||
+        mkd_permutation_write(n, zeros, n + 1, 1, rows, 0, outputs, 0) != MKD_CONTACT ||
+        mkd_permutation_program(n, rising, n - 1, program, 0) != MKD_CONTACT ||
+        mkd_permutation_program(n, rising, n + 1, program, 0) != MKD_CONTACT)
+        return fails("a list for P of another length");
+    if (mkd_permutation_write(n, zeros, n, 1, rows, rows_len, outputs, outputs_len - 1) !=
+        MKD_SHORT)
+        return fails("less than P's output wires");
+    if (n == 1)
+        return 0;
+    if (mkd_permutation_write(n, zeros, n, 1, rows, rows_len - 1, outputs, outputs_len) !=
+        MKD_SHORT)
+        return fails("less than P's rows");
+    if (mkd_permutation_program(n, rising, n, program, program_len - 1) != MKD_SHORT)
+        return fails("less than P's program");
+    if (mkd_permutation_write(n, zeros, n, next + 1, rows, 0, outputs, 0) != MKD_FABRIC)
+        return fails("P's wires past the last");
+    return 0;
+}
+
+/* S(m, n) likewise. */
+static int selection_fails(uint32_t m, uint32_t n)
+{
+    const size_t rows_len = MKD_ROWS_LEN(MKD_SELECTION_ROWS(m, n));
+    const size_t outputs_len = MKD_OUTPUTS_LEN(n);
+    const size_t program_len = MKD_PROGRAM_LEN(MKD_SELECTION_BITS(m, n));
+    const uint32_t next = MKD_LAST_WIRE + 1 - MKD_SELECTION_WIRES(m, n);
+
+    if (mkd_selection_write(m, n, zeros, m, next, rows, rows_len, outputs, outputs_len) ||
+        mkd_selection_program(m, n, ones, n, program, program_len))
+        return fails("the stated lengths of S");
+    if (mkd_selection_write(m, n, zeros, m - 1, 1, rows, 0, outputs, 0) != MKD_CONTACT ||
+        mkd_selection_write(m, n, zeros, m + 1, 1, rows, 0, outputs, 0) != MKD_CONTACT ||
+        mkd_selection_program(m, n, ones, n - 1, program, 0) != MKD_CONTACT ||
+        mkd_selection_program(m, n, ones, n + 1, program, 0) != MKD_CONTACT)
+        return fails("a list for S of another length");
+    if (mkd_selection_write(m, n, zeros, m, 1, rows, rows_len, outputs, outputs_len - 1) !=
+        MKD_SHORT)
+        return fails("less than S's output wires");
+    if (m == 1 && n == 1)
+        return 0;
+    if (mkd_selection_write(m, n, zeros, m, 1, rows, rows_len - 1, outputs, outputs_len) !=
+        MKD_SHORT)
+        return fails("less than S's rows");
+    if (mkd_selection_program(m, n, ones, n, program, program_len - 1) != MKD_SHORT)
+        return fails("less than S's program");
+    if (mkd_selection_write(m, n, zeros, m, next + 1, rows, 0, outputs, 0) != MKD_FABRIC)
+        return fails("S's wires past the last");
+    return 0;
+}
+
+/* Every size of P, sizes of S at and beside powers of two, and sizes past the largest. */
+static int blocks_fail(void)
+{
+    const uint32_t past = MKD_MAX_SIZE + 1;
+    const size_t rows_len = sizeof rows / sizeof rows[0];
+    uint32_t sizes[32];
+    size_t i, j, count = 0;
+    uint32_t n;
+
+    fill_lists();
+    for (n = 1; n <= MKD_MAX_SIZE; n *= 2) {
+        if (permutation_fails(n))
+            return 1;
+        if (n > 4)
+            sizes[count++] = n - 1;
+        sizes[count++] = n;
+        if (n > 1 && n < MKD_MAX_SIZE)
+            sizes[count++] = n + 1;
+    }
+    for (i = 0; i < count; i++)
+        for (j = 0; j < count; j++)
+            if (selection_fails(sizes[i], sizes[j]))
+                return 1;
+    if (mkd_permutation_program(2 * MKD_MAX_SIZE, rising, 2 * MKD_MAX_SIZE, program,
+                                sizeof program) != MKD_INPUTS ||
+        mkd_selection_write(past, 1, zeros, past, 1, rows, rows_len, outputs, 1) != MKD_INPUTS ||
+        mkd_selection_program(1, past, ones, past, program, sizeof program) != MKD_OUTPUTS)
+        return fails("a size past the largest");
+    return 0;
+}
+
+/* Whether the macros give what mkd_count does, for all counts, and none of it passes the most. */
+static int counts_fail(void)
+{
+    const uint32_t most_u = MKD_MAX_INPUTS, most_k = MKD_MAX_GATES, most_v = MKD_MAX_OUTPUTS;
+    uint32_t u, k, v;
+
+    for (u = 1; u <= most_u; u++)
+        for (k = 1; k <= most_k; k++)
+            for (v = 1; v <= most_v; v++) {
+                const struct mkd_counts counts = mkd_count(u, k, v);
+                if (counts.number != 0 || counts.rows != MKD_FABRIC_ROWS(u, k, v) ||
+                    counts.wires != MKD_FABRIC_WIRES(u, k, v) ||
+                    counts.bits != MKD_FABRIC_BITS(u, k, v))
+                    return fails("the counts of a fabric");
+                if (counts.rows > MKD_MAX_FABRIC_ROWS || counts.wires > MKD_MAX_FABRIC_WIRES ||
+                    counts.bits > MKD_MAX_FABRIC_BITS ||
+                    MKD_TABLE_LEN(counts.rows, v) > MKD_MAX_TABLE_LEN)
+                    return fails("the largest fabric");
+            }
+    if (mkd_count(most_u + 1, most_k, most_v).number != MKD_INPUTS ||
+        mkd_count(most_u, most_k + 1, most_v).number != MKD_GATES ||
+        mkd_count(most_u, most_k, most_v + 1).number != MKD_OUTPUTS)
+        return fails("counts past the most");
+    return 0;
+}
+
+/* The constants are those of the fabric of the most inputs, gates and outputs. */
+static int constants_fail(void)
+{
+    const struct mkd_counts most = mkd_count(MKD_MAX_INPUTS, MKD_MAX_GATES, MKD_MAX_OUTPUTS);
+
+    if (most.rows != MKD_MAX_FABRIC_ROWS || most.wires != MKD_MAX_FABRIC_WIRES ||
+        most.bits != MKD_MAX_FABRIC_BITS ||
+        MKD_TABLE_LEN(most.rows, MKD_MAX_OUTPUTS) != MKD_MAX_TABLE_LEN ||
+        MKD_PROGRAM_LEN(most.bits) != MKD_MAX_PROGRAM_LEN)
+        return fails("the constants of the largest fabric");
+    return 0;
+}
+
+/* A plan of these counts whose gates are all input 1 AND input 1. */
+static struct mkd_plan plan_of(uint8_t u, uint16_t k, uint8_t v)
+{
+    struct mkd_plan plan;
+    size_t i;
+
+    plan.inputs = u;
+    plan.gate_count = k;
+    plan.output_count = v;
+    for (i = 0; i < MKD_MAX_GATES; i++) {
+        plan.gates[i].first = plan.gates[i].second = 1;
+        plan.gates[i].table = 8;
+    }
+    for (i = 0; i < MKD_MAX_OUTPUTS; i++)
+        plan.outputs[i] = (uint16_t)(u + 1);
+    return plan;
+}
+
+/* The answer of a run with buffers of these lengths, which are in the order of its parameters. */
+static uint32_t run(const size_t len[5])
+{
+    return mkd_run(table, len[0], program, len[1], row, len[2], work, len[3], result, len[4]);
+}
+
+/* A run with its stated lengths, then each of them one less and one more. */
+static int run_fails(uint8_t u, uint16_t k, uint8_t v)
+{
+    static const uint32_t less[5] = {MKD_FABRIC, MKD_PROGRAM, MKD_CONTACT, MKD_SHORT, MKD_SHORT};
+    static const uint32_t more[5] = {MKD_FABRIC, MKD_PROGRAM, MKD_CONTACT, 0, 0};
+    size_t len[5];
+    size_t i;
+
+    len[0] = MKD_TABLE_LEN(MKD_FABRIC_ROWS(u, k, v), v);
+    len[1] = MKD_PROGRAM_LEN(MKD_FABRIC_BITS(u, k, v));
+    len[2] = u;
+    len[3] = MKD_WORK_LEN(MKD_FABRIC_WIRES(u, k, v));
+    len[4] = MKD_RESULT_LEN(v);
+    if (run(len) != 0)
+        return fails("the stated lengths of a run");
+    for (i = 0; i < 5; i++) {
+        len[i]--;
+        if (run(len) != less[i])
+            return fails("a run with one entry less");
+        len[i] += 2;
+        if (run(len) != more[i])
+            return fails("a run with one entry more");
+        len[i]--;
+    }
+    return 0;
+}
+
+/* A plan's evaluation, the fabric of its counts, its program, and their run. */
+static int fabric_fails(uint8_t u, uint16_t k, uint8_t v)
+{
+    const struct mkd_plan plan = plan_of(u, k, v);
+    const size_t result_len = MKD_RESULT_LEN(v);
+    const size_t table_len = MKD_TABLE_LEN(MKD_FABRIC_ROWS(u, k, v), v);
+    const size_t program_len = MKD_PROGRAM_LEN(MKD_FABRIC_BITS(u, k, v));
+
+    if (mkd_plan_evaluate(plan, row, u, result, result_len) ||
+        mkd_fabric(u, k, v, table, table_len) || mkd_program(plan, program, program_len))
+        return fails("the stated lengths of a plan");
+    if (mkd_plan_evaluate(plan, row, u - 1, result, result_len) != MKD_CONTACT ||
+        mkd_plan_evaluate(plan, row, u + 1, result, result_len) != MKD_CONTACT)
+        return fails("an input row of another length");
+    if (mkd_plan_evaluate(plan, row, u, result, result_len - 1) != MKD_SHORT ||
+        mkd_fabric(u, k, v, table, table_len - 1) != MKD_SHORT ||
+        mkd_program(plan, program, program_len - 1) != MKD_SHORT)
+        return fails("less than a plan's stated lengths");
+    return run_fails(u, k, v);
+}
+
+static int fabrics_fail(void)
+{
+    static const struct {
+        uint8_t u;
+        uint16_t k;
+        uint8_t v;
+    } counts[] = {{1, 1, 1},  {2, 2, 1},   {3, 3, 2},     {64, 1, 1},  {1, 1, 64},  {1, 2, 64},
+                  {5, 7, 3}, {33, 9, 17}, {17, 129, 33}, {64, 64, 1}, {1, 256, 1}, {64, 256, 64}};
+    size_t i;
+
+    for (i = 0; i < sizeof counts / sizeof counts[0]; i++)
+        if (fabric_fails(counts[i].u, counts[i].k, counts[i].v))
+            return 1;
+    return 0;
+}
+
+int main(void)
+{
+    if (longest_file_fails() || blocks_fail() || counts_fail() || constants_fail() ||
+        fabrics_fail())
+        return 1;
+    printf("%d %d %d %d", MKD_MAX_INPUTS, MKD_MAX_GATES, MKD_MAX_OUTPUTS, MKD_MAX_FILE_LEN);
+    printf(" %d %d %d %d\n", MKD_MAX_SIZE, MKD_MAX_FABRIC_ROWS, MKD_MAX_FABRIC_WIRES,
+           MKD_MAX_FABRIC_BITS);
+    return 0;
+}

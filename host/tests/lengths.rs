@@ -1,0 +1,144 @@
+//! The stated lengths: as many entries are enough, one less is refused. `lengths.c` has the same for
+//! the header's, and its limits.
+
+use mukdalis::*;
+
+/// Sizes of S: 1 to 17, and at and beside the powers of two above.
+fn sizes() -> Vec<u32> {
+    let mut sizes: Vec<u32> = (1..=17).collect();
+    for power in [32, 64, 128, 256, 512] {
+        sizes.extend([power - 1, power, power + 1]);
+    }
+    sizes.retain(|&size| size <= MAX_SIZE);
+    sizes
+}
+
+/// The highest next unmade wire from which so many wires can be made.
+fn last_next(size: BlockSize) -> u32 {
+    u32::from(u16::MAX) + 1 - size.wires
+}
+
+#[test]
+fn lengths_of_permutations() {
+    for level in 0..=MAX_SIZE.ilog2() {
+        let n = 1 << level;
+        let size = count_permutation(n).expect("n is a size of P");
+        let inputs = vec![0; n as usize];
+        let write = |next, rows_len, outputs_len| {
+            let (mut rows, mut outputs) = (vec![0; rows_len], vec![0; outputs_len]);
+            write_permutation(n, &inputs, next, &mut rows, &mut outputs)
+        };
+        let (rows_len, outputs_len) = (size.rows_len(), n as usize);
+        assert_eq!(write(last_next(size), rows_len, outputs_len), Ok(()));
+        assert_eq!(write(1, rows_len, outputs_len - 1), Err(Fault::Short));
+
+        let wanted: Vec<u16> = (1..=n as u16).collect();
+        let program = |len| program_permutation(n, &wanted, &mut vec![0; len]);
+        assert_eq!(program(size.program_len()), Ok(()));
+
+        if n > 1 {
+            let past = write(last_next(size) + 1, rows_len, outputs_len);
+            assert_eq!(past, Err(Fault::Fabric));
+            assert_eq!(write(1, rows_len - 1, outputs_len), Err(Fault::Short));
+            assert_eq!(program(size.program_len() - 1), Err(Fault::Short));
+        }
+    }
+}
+
+#[test]
+fn lengths_of_selections() {
+    for m in sizes() {
+        for n in sizes() {
+            let size = count_selection(m, n).expect("m and n are sizes of S");
+            let inputs = vec![0; m as usize];
+            let write = |next, rows_len, outputs_len| {
+                let (mut rows, mut outputs) = (vec![0; rows_len], vec![0; outputs_len]);
+                write_selection(m, n, &inputs, next, &mut rows, &mut outputs)
+            };
+            let (rows_len, outputs_len) = (size.rows_len(), n as usize);
+            assert_eq!(write(last_next(size), rows_len, outputs_len), Ok(()));
+            assert_eq!(write(1, rows_len, outputs_len - 1), Err(Fault::Short));
+
+            let wanted = vec![1; n as usize];
+            let program = |len| program_selection(m, n, &wanted, &mut vec![0; len]);
+            assert_eq!(program(size.program_len()), Ok(()));
+
+            if (m, n) != (1, 1) {
+                let past = write(last_next(size) + 1, rows_len, outputs_len);
+                assert_eq!(past, Err(Fault::Fabric));
+                assert_eq!(write(1, rows_len - 1, outputs_len), Err(Fault::Short));
+                assert_eq!(program(size.program_len() - 1), Err(Fault::Short));
+            }
+        }
+    }
+}
+
+/// The lists are empty: contact, which comes after the sizes' checks, says that the sizes pass.
+#[test]
+fn sizes_that_the_calls_refuse_have_no_length() {
+    for n in [0, 3, 511, 513, 1024, 1 << 31, u32::MAX] {
+        let refused = write_permutation(n, &[], 1, &mut [], &mut []);
+        assert_eq!(count_permutation(n).err(), refused.err());
+        for (m, n) in [(n, 1), (1, n), (n, n)] {
+            let refused = match write_selection(m, n, &[], 1, &mut [], &mut []) {
+                Err(Fault::Contact) => None,
+                answer => answer.err(),
+            };
+            assert_eq!(count_selection(m, n).err(), refused);
+        }
+    }
+}
+
+/// A plan of these counts whose gates are all input 1 AND input 1.
+fn plan_of(inputs: u16, gate_count: u16, output_count: u16) -> Plan {
+    let gate = Gate {
+        first: 1,
+        second: 1,
+        table: 8,
+    };
+    Plan {
+        inputs,
+        gate_count,
+        output_count,
+        gates: [gate; Plan::MAX_GATES],
+        outputs: [inputs + 1; Plan::MAX_OUTPUTS],
+    }
+}
+
+#[test]
+fn lengths_of_fabrics() {
+    for (u, k, v) in [
+        (1, 1, 1),
+        (2, 2, 1),
+        (3, 3, 2),
+        (64, 1, 1),
+        (1, 2, 64),
+        (33, 9, 17),
+        (17, 129, 33),
+        (64, 256, 64),
+    ] {
+        let plan = plan_of(u, k, v);
+        let [u, k, v] = plan.counts();
+        let size = count_fabric(u, k, v).expect("the counts are in range");
+
+        let mut table = vec![0; size.table_len(v)];
+        let last = table.len() - 1;
+        assert_eq!(write_fabric(u, k, v, &mut table[..last]), Err(Fault::Short));
+        assert_eq!(write_fabric(u, k, v, &mut table), Ok(()));
+
+        let mut program = vec![0; size.program_len()];
+        let last = program.len() - 1;
+        assert_eq!(program_plan(&plan, &mut program[..last]), Err(Fault::Short));
+        assert_eq!(program_plan(&plan, &mut program), Ok(()));
+
+        let row = vec![1; u as usize];
+        let run = |work_len, result_len| {
+            let (mut work, mut result) = (vec![9; work_len], vec![9; result_len]);
+            run_fabric(&table, &program, &row, &mut work, &mut result).map(|()| result)
+        };
+        let (work_len, result_len) = (size.work_len(), v as usize);
+        assert_eq!(run(work_len, result_len), Ok(vec![1; result_len]));
+        assert_eq!(run(work_len - 1, result_len), Err(Fault::Short));
+        assert_eq!(run(work_len, result_len - 1), Err(Fault::Short));
+    }
+}
