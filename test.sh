@@ -1,6 +1,7 @@
 #!/usr/bin/env bash
 # All tests of the repository, from nothing: rt's own gate, the Rust package, the comparison of the library with the Rust implementation, the
-# check of public contracts, the block library by itself. Where all pass, the last line is the verdict of rt's gate again.
+# checks of public contracts and of the names in docs/WHAT_IS_PROVED.md, the block library by itself. Where all pass, the last line is the
+# verdict of rt's gate again.
 set -euo pipefail
 cd "$(dirname "$0")"
 
@@ -32,6 +33,7 @@ cargo test --quiet --release --manifest-path host/Cargo.toml
 cargo run --quiet --release --manifest-path host/Cargo.toml --bin compare
 cargo run --quiet --release --manifest-path host/Cargo.toml --bin check_twintest target/bin/twintest
 cargo run --quiet --release --manifest-path host/Cargo.toml --bin check_contracts .
+cargo run --quiet --release --manifest-path host/Cargo.toml --bin check_names .
 
 # The block library goes to the relay-card maker by itself: blocks and the crates under it, proved in a copy that holds nothing else.
 mkdir "$copy/crates"

@@ -46,7 +46,7 @@ pub fn findings(source: &str) -> Vec<Finding> {
 }
 
 /// The source with each `//` comment blanked, so that places and lines stay.
-fn without_comments(source: &str) -> String {
+pub(crate) fn without_comments(source: &str) -> String {
     let mut text = String::with_capacity(source.len());
     for line in source.split_inclusive('\n') {
         let code = line.find("//").unwrap_or(line.len());
@@ -59,7 +59,7 @@ fn without_comments(source: &str) -> String {
 }
 
 /// Where each `pub` function starts, and where its name does. `pub(crate)` is not public.
-fn public_functions(text: &str) -> Vec<(usize, usize)> {
+pub(crate) fn public_functions(text: &str) -> Vec<(usize, usize)> {
     let mut places = Vec::new();
     let mut from = 0;
     while let Some(found) = text[from..].find("pub") {
@@ -111,7 +111,7 @@ fn clauses_from(text: &str, name_at: usize) -> Clauses {
 }
 
 /// Past the group that opens at `at`, inner groups included.
-fn past_group(text: &str, at: usize, open: char, close: char) -> usize {
+pub(crate) fn past_group(text: &str, at: usize, open: char, close: char) -> usize {
     let mut depth = 0;
     for (i, c) in text[at..].char_indices() {
         if c == open {
@@ -126,11 +126,11 @@ fn past_group(text: &str, at: usize, open: char, close: char) -> usize {
     text.len()
 }
 
-fn is_word(c: char) -> bool {
+pub(crate) fn is_word(c: char) -> bool {
     c.is_ascii_alphanumeric() || c == '_'
 }
 
-fn word_at(text: &str, at: usize) -> &str {
+pub(crate) fn word_at(text: &str, at: usize) -> &str {
     let rest = &text[at..];
     &rest[..rest.find(|c| !is_word(c)).unwrap_or(rest.len())]
 }
@@ -190,7 +190,7 @@ pub fn problems(root: &Path) -> io::Result<(Vec<String>, usize)> {
 }
 
 /// The Rattle sources below a folder.
-fn collect(folder: &Path, sources: &mut Vec<PathBuf>) -> io::Result<()> {
+pub(crate) fn collect(folder: &Path, sources: &mut Vec<PathBuf>) -> io::Result<()> {
     for path in sorted(folder)? {
         if path.is_dir() {
             collect(&path, sources)?;

@@ -36,8 +36,8 @@
 //!
 //! The modules serve tests alone. [`mod@reference`] does the same work in plain Rust, written from
 //! document 01 alone. [`comparison`] runs both on many cases, made by [`samples`] and [`random`],
-//! and stops at the first difference. [`contracts`] checks the crates' public contracts. [`raw`] has
-//! the records and calls of the header.
+//! and stops at the first difference. [`contracts`] checks the crates' public contracts, [`names`]
+//! the page docs/WHAT_IS_PROVED.md. [`raw`] has the records and calls of the header.
 
 mod blocks;
 mod fabric;
@@ -60,3 +60,4 @@ pub mod random;
 pub mod samples;
 
 pub mod contracts;
+pub mod names;
