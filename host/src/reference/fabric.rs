@@ -2,26 +2,23 @@
 //!
 //! K is the smallest power of two not below k. The parts are S(u, 2K), U(K) and S(K, v).
 
-use super::blocks::fill;
-use super::elements::{entries, Drawing, Kind};
+use super::elements::{Drawing, Tally};
 use super::plan::is_count;
 use super::selection;
 use crate::fabric::Size;
 use crate::fault::Fault;
 use crate::plan::Plan;
 
+/// Entries of a table before its rows: u, v and the number of rows.
+const HEADER: usize = 3;
+
 /// The fabric's rows, wires and program bits. Checks: 2, 3, 4.
 pub fn count(u: u32, k: u32, v: u32) -> Result<Size, Fault> {
-    let counts = Counts::new(u, k, v)?;
-    let tally = counts.tally();
-    let made_before = 1 + counts.inputs;
-    let each = |of_kind: fn(Kind) -> usize| {
-        tally.x * of_kind(Kind::X) + tally.y * of_kind(Kind::Y) + tally.g * of_kind(Kind::G)
-    };
+    let tally = Counts::new(u, k, v)?.tally();
     Ok(Size {
-        rows: each(|_| 1) as u32,
-        wires: (made_before + each(Kind::outputs)) as u32,
-        bits: each(Kind::bits) as u32,
+        rows: tally.rows() as u32,
+        wires: 1 + u + tally.wires() as u32,
+        bits: tally.bits() as u32,
     })
 }
 
@@ -30,7 +27,15 @@ pub fn count(u: u32, k: u32, v: u32) -> Result<Size, Fault> {
 /// Entries past the stated length are unchanged, and a refusal changes none. Checks: 2, 3, 4, 11.
 pub fn write(u: u32, k: u32, v: u32, table: &mut [u16]) -> Result<(), Fault> {
     let counts = Counts::new(u, k, v)?;
-    fill(table, &counts.table())
+    let tally = counts.tally();
+    let length = HEADER + tally.entries() + counts.outputs;
+    let table = table.get_mut(..length).ok_or(Fault::Short)?;
+    let (header, rest) = table.split_at_mut(HEADER);
+    let (rows, outputs) = rest.split_at_mut(tally.entries());
+    let counted = [counts.inputs, counts.outputs, tally.rows()];
+    header.copy_from_slice(&counted.map(|count| count as u16));
+    counts.draw(rows, outputs);
+    Ok(())
 }
 
 /// Counts in range, with K for k.
@@ -60,86 +65,55 @@ impl Counts {
     }
 
     fn tally(&self) -> Tally {
-        Tally::selection(self.inputs, 2 * self.gates)
-            .and(Tally::universal(self.gates))
-            .and(Tally::selection(self.gates, self.outputs))
+        selection::tally(self.inputs, 2 * self.gates)
+            .and(universal_tally(self.gates))
+            .and(selection::tally(self.gates, self.outputs))
     }
 
-    fn table(&self) -> Vec<u16> {
-        let inputs: Vec<u64> = (1..=self.inputs as u64).collect();
-        let mut drawing = Drawing::new(1 + inputs.len() as u64);
-        let pins = selection::draw(&mut drawing, &inputs, 2 * self.gates);
-        let gates = draw_universal(&mut drawing, &pins);
-        let outputs = selection::draw(&mut drawing, &gates, self.outputs);
-
-        let rows = drawing.entries();
-        let counts = [self.inputs, self.outputs, drawing.rows()];
-        let counts = counts.map(|count| count as u64);
-        [entries(&counts), rows, entries(&outputs)].concat()
+    /// Draws the fabric's rows and gives its output wires.
+    fn draw(&self, rows: &mut [u16], outputs: &mut [u16]) {
+        let inputs: Vec<u16> = (1..=self.inputs as u16).collect();
+        let mut drawing = Drawing::new(rows, 1 + self.inputs as u32);
+        let mut pins = selection::draw(&mut drawing, &inputs, 2 * self.gates);
+        let mut gates = Vec::with_capacity(self.gates);
+        draw_universal(&mut drawing, &mut pins, &mut gates);
+        outputs.copy_from_slice(&selection::draw(&mut drawing, &gates, self.outputs));
+        drawing.finish();
     }
 }
 
-/// Draws U on its pins, two a gate, and gives its output wires: the upper U of half the size, the
-/// S that takes its outputs, a Y row for each pin of the lower, the lower U.
-fn draw_universal(drawing: &mut Drawing, pins: &[u64]) -> Vec<u64> {
-    if let &[left, right] = pins {
-        return vec![drawing.g(left, right)];
+/// Draws U on its pins, two a gate, and adds its output wires to those of the gates before: the
+/// upper U of half the size, the S that takes its outputs, a Y row for each pin of the lower, the
+/// lower U.
+fn draw_universal(drawing: &mut Drawing, pins: &mut [u16], gates: &mut Vec<u16>) {
+    if let &mut [left, right] = pins {
+        gates.push(drawing.g(left, right));
+        return;
     }
-    let (upper_pins, lower_pins) = pins.split_at(pins.len() / 2);
-    let upper = draw_universal(drawing, upper_pins);
-    let selected = selection::draw(drawing, &upper, lower_pins.len());
-    let lower_pins: Vec<u64> = lower_pins
-        .iter()
-        .zip(selected)
-        .map(|(&pin, selected)| drawing.y(pin, selected))
-        .collect();
-    let lower = draw_universal(drawing, &lower_pins);
-    [upper, lower].concat()
+    let (upper_pins, lower_pins) = pins.split_at_mut(pins.len() / 2);
+    let upper = gates.len();
+    draw_universal(drawing, upper_pins, gates);
+    let selected = selection::draw(drawing, &gates[upper..], lower_pins.len());
+    for (pin, selected) in lower_pins.iter_mut().zip(selected) {
+        *pin = drawing.y(*pin, selected);
+    }
+    draw_universal(drawing, lower_pins, gates);
 }
 
-/// Numbers of rows of each kind.
-#[derive(Clone, Copy)]
-struct Tally {
-    x: usize,
-    y: usize,
-    g: usize,
-}
-
-impl Tally {
-    fn and(self, other: Tally) -> Tally {
-        Tally {
-            x: self.x + other.x,
-            y: self.y + other.y,
-            g: self.g + other.g,
-        }
+/// The rows of U(K), of K gates.
+fn universal_tally(gates: usize) -> Tally {
+    if gates == 1 {
+        return Tally { x: 0, y: 0, g: 1 };
     }
-
-    /// S(m, n): two P(N) and the chain.
-    fn selection(m: usize, n: usize) -> Tally {
-        let size = m.max(n).next_power_of_two();
-        let network = size * size.ilog2() as usize + 1 - size;
-        Tally {
-            x: 2 * network,
-            y: size - 1,
-            g: 0,
-        }
-    }
-
-    /// U(K), of K gates.
-    fn universal(gates: usize) -> Tally {
-        if gates == 1 {
-            return Tally { x: 0, y: 0, g: 1 };
-        }
-        let half = Tally::universal(gates / 2);
-        let mixing = Tally {
-            x: 0,
-            y: gates,
-            g: 0,
-        };
-        half.and(Tally::selection(gates / 2, gates))
-            .and(mixing)
-            .and(half)
-    }
+    let half = universal_tally(gates / 2);
+    let mixing = Tally {
+        x: 0,
+        y: gates,
+        g: 0,
+    };
+    half.and(selection::tally(gates / 2, gates))
+        .and(mixing)
+        .and(half)
 }
 
 #[cfg(test)]
@@ -219,13 +193,14 @@ mod tests {
     fn universal_blocks_have_their_rows() {
         for level in 0..=8 {
             let gates = 1 << level;
-            let mut drawing = Drawing::new(1);
-            let outputs = draw_universal(&mut drawing, &vec![0; 2 * gates]);
+            let row_count = gates * (level * level + level) + 2 * gates - 1;
+            let mut rows = vec![9; 3 * row_count];
+            let mut drawing = Drawing::new(&mut rows, 1);
+            let mut outputs = Vec::new();
+            draw_universal(&mut drawing, &mut vec![0; 2 * gates], &mut outputs);
+            drawing.finish();
             assert_eq!(outputs.len(), gates);
-            assert_eq!(
-                drawing.rows(),
-                gates * (level * level + level) + 2 * gates - 1
-            );
+            assert_eq!(universal_tally(gates).rows(), row_count);
         }
     }
 

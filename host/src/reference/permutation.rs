@@ -3,10 +3,10 @@
 //! Lists of the calls name inputs from 1. Inside, inputs, outputs and pairs count from 0, so that
 //! pair i has the places 2i and 2i + 1.
 
-use std::collections::BTreeSet;
+use std::{iter, mem};
 
 use super::blocks::{self, check_length, MAX_SIZE};
-use super::elements::Drawing;
+use super::elements::{BitWriter, Drawing, Tally};
 use crate::fault::Fault;
 
 /// Writes the rows of P(n) on these input wires, which makes wires from `next` on, to `rows`, and
@@ -22,7 +22,12 @@ pub fn write(
 ) -> Result<(), Fault> {
     check_size(n)?;
     check_length(inputs, n)?;
-    blocks::write(draw, inputs, next, rows, outputs)
+    let draw = |drawing: &mut Drawing| {
+        let mut wires = inputs.to_vec();
+        draw(drawing, &mut wires, &mut inputs.to_vec());
+        wires
+    };
+    blocks::write((tally(n as usize), n), draw, inputs, next, rows, outputs)
 }
 
 /// Writes the program of P(n) with which output i + 1 carries input `wanted[i]`, i from 0.
@@ -31,13 +36,13 @@ pub fn write(
 pub fn program(n: u32, wanted: &[u16], program: &mut [u8]) -> Result<(), Fault> {
     check_size(n)?;
     check_length(wanted, n)?;
-    let is_input = |&input: &u16| (1..=n).contains(&input.into());
-    let distinct: BTreeSet<u16> = wanted.iter().copied().collect();
-    if !wanted.iter().all(is_input) || distinct.len() < wanted.len() {
+    if !is_each_once(wanted) {
         return Err(Fault::Source);
     }
+    let mut bits = BitWriter::new(program, tally(n as usize).bits())?;
     let input_of = wanted.iter().map(|&input| usize::from(input) - 1);
-    blocks::write_program(&program_bits(input_of.collect()), program)
+    program_bits(input_of.collect(), &mut bits);
+    Ok(())
 }
 
 /// 2 if n is no size of P.
@@ -48,137 +53,122 @@ fn check_size(n: u32) -> Result<(), Fault> {
     Ok(())
 }
 
-/// Draws P on a power of two of input wires and gives its output wires: the input X rows, the
-/// upper and the lower P of half the size, the output X rows. The last output pair has none.
-pub fn draw(drawing: &mut Drawing, inputs: &[u64]) -> Vec<u64> {
-    if inputs.len() == 1 {
-        return inputs.to_vec();
-    }
-    let mut upper = Vec::new();
-    let mut lower = Vec::new();
-    for pair in inputs.chunks_exact(2) {
-        let [first, second] = drawing.x(pair[0], pair[1]);
-        upper.push(first);
-        lower.push(second);
-    }
-    let upper = draw(drawing, &upper);
-    let lower = draw(drawing, &lower);
-
-    let last = upper.len() - 1;
-    let mut outputs = Vec::new();
-    for i in 0..last {
-        outputs.extend(drawing.x(upper[i], lower[i]));
-    }
-    outputs.extend([upper[last], lower[last]]);
-    outputs
+/// Whether the list has each of 1 to its length once.
+fn is_each_once(list: &[u16]) -> bool {
+    let mut is_met = vec![false; list.len() + 1];
+    is_met[0] = true;
+    list.iter().all(|&entry| {
+        let met = is_met.get_mut(usize::from(entry));
+        met.is_some_and(|met| !mem::replace(met, true))
+    })
 }
 
-/// The bits of P's rows, in their order, with which output o carries input `input_of[o]`.
-pub fn program_bits(input_of: Vec<usize>) -> Vec<bool> {
-    Mapping::new(input_of).bits()
+/// P(N) has N log N - N + 1 rows, all X.
+pub fn tally(size: usize) -> Tally {
+    Tally {
+        x: size * size.ilog2() as usize + 1 - size,
+        y: 0,
+        g: 0,
+    }
 }
 
-/// The part of P that a value passes through between the input and the output rows.
-#[derive(Clone, Copy, PartialEq, Eq)]
-enum Half {
-    Upper,
-    Lower,
+/// Draws P on a power of two of input wires, in whose places it leaves its output wires: the input
+/// X rows, the upper and the lower P of half the size, the output X rows. The last output pair has
+/// none. `work` is as long as `wires`; what it held and holds then is of no matter.
+pub fn draw(drawing: &mut Drawing, wires: &mut [u16], work: &mut [u16]) {
+    if let [first, second] = wires {
+        [*first, *second] = drawing.x(*first, *second);
+    }
+    let half = wires.len() / 2;
+    if half <= 1 {
+        return;
+    }
+    let (upper, lower) = work.split_at_mut(half);
+    for (i, pair) in wires.chunks_exact(2).enumerate() {
+        [upper[i], lower[i]] = drawing.x(pair[0], pair[1]);
+    }
+    let (upper_work, lower_work) = wires.split_at_mut(half);
+    draw(drawing, upper, upper_work);
+    draw(drawing, lower, lower_work);
+
+    let (joined, last) = wires.split_at_mut(2 * (half - 1));
+    for (i, pair) in joined.chunks_exact_mut(2).enumerate() {
+        [pair[0], pair[1]] = drawing.x(upper[i], lower[i]);
+    }
+    last.copy_from_slice(&[upper[half - 1], lower[half - 1]]);
 }
 
-/// Which input each output carries, and which output carries each input.
-struct Mapping {
-    input_of: Vec<usize>,
-    output_of: Vec<usize>,
+/// Writes the bits of P's rows, in their order, with which output o carries input `input_of[o]`.
+pub fn program_bits(mut input_of: Vec<usize>, bits: &mut BitWriter) {
+    let mut work = input_of.clone();
+    let mut is_crossed = vec![None; input_of.len()];
+    program_block(&mut input_of, &mut work, &mut is_crossed, bits);
 }
 
-impl Mapping {
-    fn new(input_of: Vec<usize>) -> Mapping {
-        let mut output_of = vec![0; input_of.len()];
-        for (output, &input) in input_of.iter().enumerate() {
-            output_of[input] = output;
-        }
-        Mapping {
-            input_of,
-            output_of,
-        }
+/// The same, where the mapping is used up. The two other lists are as long; what they held and hold
+/// then is of no matter.
+fn program_block(
+    input_of: &mut [usize],
+    work: &mut [usize],
+    is_crossed: &mut [Option<bool>],
+    bits: &mut BitWriter,
+) {
+    match input_of {
+        [_] => return,
+        // The one output pair is the last, and straight.
+        [first, _] => return bits.push(*first == 1),
+        _ => {}
     }
+    let pairs = input_of.len() / 2;
+    let (is_crossed, deeper) = is_crossed.split_at_mut(pairs);
+    let output_of = &mut *work;
+    for (output, &input) in input_of.iter().enumerate() {
+        output_of[input] = output;
+    }
+    cross_pairs(input_of, output_of, is_crossed);
 
-    fn pairs(&self) -> usize {
-        self.input_of.len() / 2
+    // A straight row has its first input go to the upper half, or its first output come from it.
+    for outputs in output_of.chunks_exact(2) {
+        bits.push(is_lower(outputs[0], is_crossed));
     }
-
-    fn bits(&self) -> Vec<bool> {
-        let pairs = self.pairs();
-        if pairs == 0 {
-            return Vec::new();
-        }
-        let halves = self.halves();
-        // A straight row has its first input go to the upper half, or its first output come from
-        // it.
-        let mut bits: Vec<bool> = (0..pairs)
-            .map(|i| halves[self.output_of[2 * i]] != Half::Upper)
-            .collect();
-        bits.extend(self.part(&halves, Half::Upper).bits());
-        bits.extend(self.part(&halves, Half::Lower).bits());
-        bits.extend((0..pairs - 1).map(|i| halves[2 * i] != Half::Upper));
-        bits
+    // Place i of a half serves input pair i and output pair i.
+    let (upper, lower) = work.split_at_mut(pairs);
+    for (i, inputs) in input_of.chunks_exact(2).enumerate() {
+        let [first, second] = [inputs[0] / 2, inputs[1] / 2];
+        [upper[i], lower[i]] = match is_crossed[i] {
+            Some(true) => [second, first],
+            _ => [first, second],
+        };
     }
-
-    /// The half that each output's value passes through. At every pair, of inputs or of outputs,
-    /// the two values pass through different halves, so one pair decides for its whole loop.
-    fn halves(&self) -> Vec<Half> {
-        let mut halves = vec![None; self.input_of.len()];
-        for output in 0..halves.len() {
-            if halves[output].is_none() {
-                let straight = self.straight_pair(&self.walk(output));
-                let sides = [Half::Upper, Half::Lower].into_iter().cycle();
-                for (output, half) in self.walk(2 * straight).into_iter().zip(sides) {
-                    halves[output] = Some(half);
-                }
-            }
-        }
-        halves
-            .into_iter()
-            .map(|half| half.expect("every output is in a loop"))
-            .collect()
+    let (upper_work, lower_work) = input_of.split_at_mut(pairs);
+    program_block(upper, upper_work, deeper, bits);
+    program_block(lower, lower_work, deeper, bits);
+    for is_crossed in &is_crossed[..pairs - 1] {
+        bits.push(*is_crossed == Some(true));
     }
+}
 
-    /// The output pair that is straight in a loop of these outputs: the last of all pairs if the
-    /// loop holds it, otherwise the loop's lowest.
-    fn straight_pair(&self, outputs: &[usize]) -> usize {
-        let last = self.pairs() - 1;
-        let pairs = || outputs.iter().map(|output| output / 2);
-        if pairs().any(|pair| pair == last) {
-            return last;
-        }
-        pairs().min().expect("a loop has outputs")
-    }
-
-    /// The outputs of a loop, in the order of a walk that leaves a pair by the output `start`:
-    /// to its input, across that input's pair, back to an output, across its pair, and so on.
-    fn walk(&self, start: usize) -> Vec<usize> {
-        let mut outputs = Vec::new();
-        let mut output = start;
-        loop {
-            let back = self.output_of[partner(self.input_of[output])];
-            outputs.extend([output, back]);
-            output = partner(back);
-            if output == start {
-                return outputs;
-            }
+/// Decides which output pairs are crossed, that is, have their second output come from the upper
+/// half. At every pair, of inputs or of outputs, the two values pass through different halves, so
+/// one pair decides for its whole loop: the last pair, then in each other loop the lowest one.
+fn cross_pairs(input_of: &[usize], output_of: &[usize], is_crossed: &mut [Option<bool>]) {
+    is_crossed.fill(None);
+    let last = is_crossed.len() - 1;
+    for straight in iter::once(last).chain(0..last) {
+        // The walk is on outputs of the upper half: to the output's input, across that input's
+        // pair, back to an output of the lower half, across its pair.
+        let mut output = 2 * straight;
+        while is_crossed[output / 2].is_none() {
+            is_crossed[output / 2] = Some(output % 2 == 1);
+            output = partner(output_of[partner(input_of[output])]);
         }
     }
+}
 
-    /// The mapping that one half has to do: place i of it serves input pair i and output pair i.
-    fn part(&self, halves: &[Half], half: Half) -> Mapping {
-        let mut input_of = vec![0; self.pairs()];
-        for (output, &input) in self.input_of.iter().enumerate() {
-            if halves[output] == half {
-                input_of[output / 2] = input / 2;
-            }
-        }
-        Mapping::new(input_of)
-    }
+/// Whether the output comes from the lower half.
+fn is_lower(output: usize, is_crossed: &[Option<bool>]) -> bool {
+    let is_first = output % 2 != 1;
+    is_crossed[output / 2] == Some(is_first)
 }
 
 /// The other place of the pair.
@@ -188,17 +178,17 @@ fn partner(place: usize) -> usize {
 
 #[cfg(test)]
 mod tests {
-    use super::super::elements::{no_gate, Wires};
+    use super::super::elements::{bit, no_gate, Wires};
     use super::*;
     use crate::random::Random;
     use crate::samples::blocks::{Block, SIZES};
-    use crate::samples::permutation::{every_permutation, plain_permutations, random_permutation};
+    use crate::samples::permutation::{every_permutation, random_permutation};
 
     /// The bits of the program for a permutation.
     fn bits(wanted: &[u16]) -> Vec<u8> {
-        let input_of = wanted.iter().map(|&input| usize::from(input) - 1);
-        let bits = program_bits(input_of.collect());
-        bits.into_iter().map(u8::from).collect()
+        let program = programmed(wanted);
+        let rows = Block::P(wanted.len() as u32).rows() as usize;
+        (0..rows).map(|p| bit(&program, p).into()).collect()
     }
 
     /// The program for a permutation, by the call.
@@ -240,14 +230,17 @@ mod tests {
     #[test]
     fn rows_and_wires_of_every_size() {
         for n in SIZES {
-            let mut drawing = Drawing::new(1);
-            let outputs = draw(&mut drawing, &vec![0; n as usize]);
             let block = Block::P(n);
-            assert_eq!(outputs.len(), n as usize);
-            assert_eq!(drawing.entries().len(), 3 * block.rows() as usize);
-            assert_eq!(drawing.next, 1 + u64::from(block.wires_made()));
-            let bits = bits(&plain_permutations(n)[0]);
-            assert_eq!(bits.len(), block.rows() as usize);
+            let (mut wires, mut work) = (vec![0; n as usize], vec![9; n as usize]);
+            let mut rows = vec![9; 3 * block.rows() as usize];
+            let mut drawing = Drawing::new(&mut rows, 1);
+            draw(&mut drawing, &mut wires, &mut work);
+            assert_eq!(drawing.finish(), 1 + block.wires_made());
+
+            let mut program = vec![9; block.program_bytes()];
+            let mut bits = BitWriter::new(&mut program, block.rows() as usize).expect("room");
+            program_bits((0..n as usize).collect(), &mut bits);
+            assert_eq!(bits.written(), block.rows() as usize);
         }
     }
 

@@ -17,6 +17,9 @@ const LAST_TABLE: u8 = 15;
 /// The table of a gate whose file leaves it out: AND.
 const ABSENT_TABLE: u8 = 8;
 
+/// Places for the wires of the largest plan, and place 0.
+const WIRES: usize = 1 + Plan::MAX_INPUTS + Plan::MAX_GATES;
+
 /// Reads a plan file. Unused places of the plan are zero.
 pub fn read(file: &[u8]) -> Result<Plan, Refusal> {
     if file.len() < HEADER {
@@ -221,13 +224,14 @@ pub fn used_outputs(plan: &Plan) -> &[u16] {
 }
 
 /// The bit of every plan wire, at the wire's number; place 0 is no wire's.
-fn wire_bits(plan: &Plan, row: &[u8]) -> Vec<u8> {
-    let mut bits = vec![0];
-    bits.extend_from_slice(row);
-    for gate in used_gates(plan) {
+fn wire_bits(plan: &Plan, row: &[u8]) -> [u8; WIRES] {
+    let mut bits = [0; WIRES];
+    let first_gate = 1 + row.len();
+    bits[1..first_gate].copy_from_slice(row);
+    for (wire, gate) in (first_gate..).zip(used_gates(plan)) {
         let a = bits[usize::from(gate.first)];
         let b = bits[usize::from(gate.second)];
-        bits.push(gate_bit(gate.table, a, b));
+        bits[wire] = gate_bit(gate.table, a, b);
     }
     bits
 }

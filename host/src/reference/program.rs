@@ -4,8 +4,8 @@
 
 use std::ops::Range;
 
-use super::blocks::write_program;
-use super::elements::TABLE_BITS;
+use super::elements::{BitWriter, TABLE_BITS};
+use super::fabric;
 use super::plan::{fault, used_gates, used_outputs};
 use super::selection;
 use crate::fault::Fault;
@@ -18,7 +18,11 @@ pub fn write(plan: &Plan, program: &mut [u8]) -> Result<(), Fault> {
     if let Some(fault) = fault(plan) {
         return Err(fault);
     }
-    write_program(&program_bits(plan), program)
+    let [u, k, v] = [plan.inputs, plan.gate_count, plan.output_count].map(u32::from);
+    let size = fabric::count(u, k, v)?;
+    let mut bits = BitWriter::new(program, size.bits as usize)?;
+    program_bits(plan, &mut bits);
+    Ok(())
 }
 
 /// What an operand names: an input or a gate.
@@ -65,59 +69,52 @@ const UNUSED_GATE: Gate = Gate {
     table: 0,
 };
 
-/// The bits of S(u, 2K), U(K) and S(K, v), in the order of their rows.
-fn program_bits(plan: &Plan) -> Vec<bool> {
-    let mut gates: Vec<Gate> = used_gates(plan)
-        .iter()
-        .map(|gate| Gate {
+/// Writes the bits of S(u, 2K), U(K) and S(K, v), in the order of their rows.
+fn program_bits(plan: &Plan, bits: &mut BitWriter) {
+    let mut gates = vec![UNUSED_GATE; usize::from(plan.gate_count).next_power_of_two()];
+    for (place, gate) in gates.iter_mut().zip(used_gates(plan)) {
+        *place = Gate {
             operands: [gate.first, gate.second].map(|wire| Operand::of(wire, plan)),
             table: gate.table,
-        })
-        .collect();
-    gates.resize(gates.len().next_power_of_two(), UNUSED_GATE);
-
+        };
+    }
     let inputs: Vec<usize> = operands(&gates).map(Operand::input).collect();
     let outputs: Vec<usize> = used_outputs(plan)
         .iter()
         .map(|&wire| usize::from(wire - plan.inputs) - 1)
         .collect();
-    let mut bits = selection::program_bits(plan.inputs.into(), &inputs);
-    bits.extend(universal_bits(&gates, 0..gates.len()));
-    bits.extend(selection::program_bits(gates.len(), &outputs));
-    bits
+    selection::program_bits(plan.inputs.into(), &inputs, bits);
+    universal_bits(&gates, 0..gates.len(), bits);
+    selection::program_bits(gates.len(), &outputs, bits);
 }
 
 fn operands(gates: &[Gate]) -> impl Iterator<Item = Operand> + '_ {
     gates.iter().flat_map(|gate| gate.operands)
 }
 
-/// The bits of the U whose gates are a range of all: the upper half's, those of the S and of the
-/// mixing rows that bring its gates to the lower half's pins, the lower half's.
-fn universal_bits(gates: &[Gate], range: Range<usize>) -> Vec<bool> {
+/// Writes the bits of the U whose gates are a range of all: the upper half's, those of the S and of
+/// the mixing rows that bring its gates to the lower half's pins, the lower half's.
+fn universal_bits(gates: &[Gate], range: Range<usize>, bits: &mut BitWriter) {
     if range.len() == 1 {
-        return table_bits(gates[range.start].table);
+        let table = gates[range.start].table;
+        (0..TABLE_BITS).for_each(|bit| bits.push(table >> bit & 1 == 1));
+        return;
     }
     let middle = range.start + range.len() / 2;
     let (upper, lower) = (range.start..middle, middle..range.end);
-    let selected: Vec<Option<usize>> = operands(&gates[lower.clone()])
-        .map(|operand| operand.place_in(&upper))
-        .collect();
-    let or_first: Vec<usize> = selected.iter().map(|gate| gate.unwrap_or(0)).collect();
+    universal_bits(gates, upper.clone(), bits);
 
-    let mut bits = universal_bits(gates, upper.clone());
-    bits.extend(selection::program_bits(upper.len(), &or_first));
-    bits.extend(selected.iter().map(Option::is_some));
-    bits.extend(universal_bits(gates, lower));
-    bits
-}
+    let selected = || operands(&gates[lower.clone()]).map(|operand| operand.place_in(&upper));
+    let or_first: Vec<usize> = selected().map(|gate| gate.unwrap_or(0)).collect();
+    selection::program_bits(upper.len(), &or_first, bits);
+    selected().for_each(|gate| bits.push(gate.is_some()));
 
-/// A table's bits, lowest first.
-fn table_bits(table: u8) -> Vec<bool> {
-    (0..TABLE_BITS).map(|bit| table >> bit & 1 == 1).collect()
+    universal_bits(gates, lower.clone(), bits);
 }
 
 #[cfg(test)]
 mod tests {
+    use super::super::elements::bit;
     use super::super::{fabric, plan, run};
     use super::*;
     use crate::random::Random;
@@ -128,9 +125,15 @@ mod tests {
     const EXAMPLE: [u8; 17] = [2, 0, 2, 0, 1, 0, 3, 1, 0, 2, 0, 6, 1, 0, 6, 4, 0];
 
     fn programmed(plan: &Plan) -> Vec<u8> {
-        let mut program = vec![0x5a; program_bits(plan).len().div_ceil(8)];
+        let mut program = vec![0x5a; bit_count(plan).div_ceil(8)];
         assert_eq!(write(plan, &mut program), Ok(()));
         program
+    }
+
+    fn bit_count(plan: &Plan) -> usize {
+        let [u, k, v] = [plan.inputs, plan.gate_count, plan.output_count].map(u32::from);
+        let size = fabric::count(u, k, v).expect("the counts are in range");
+        size.bits as usize
     }
 
     #[test]
@@ -144,7 +147,10 @@ mod tests {
     #[test]
     fn example_by_hand() {
         let plan = plan::read(&EXAMPLE).expect("the file is a plan");
-        let bits: Vec<u8> = program_bits(&plan).into_iter().map(u8::from).collect();
+        let program = programmed(&plan);
+        let bits: Vec<u8> = (0..bit_count(&plan))
+            .map(|p| bit(&program, p).into())
+            .collect();
         let chain = [0, 0, 1];
         assert_eq!(bits[5..8], chain);
         let upper = [0, 0, 0, 1];

@@ -1,6 +1,6 @@
 //! The run of any fabric table with any program.
 
-use super::elements::{bit, Kind, Wires, BYTE_BITS, LAST_WIRE, ROW_ENTRIES};
+use super::elements::{bit, run_rows, Kind, BYTE_BITS, LAST_WIRE, ROW_ENTRIES};
 use super::plan::{gate_bit, is_count, is_row};
 use crate::fault::Fault;
 use crate::plan::Plan;
@@ -27,13 +27,12 @@ pub fn run(
     if work.len() < fabric.wires || result.len() < fabric.outputs.len() {
         return Err(Fault::Short);
     }
-    let before = [&[0], row].concat();
-    let wires = Wires::run(fabric.rows, program, &before, gate_bit);
-    for (entry, wire) in work[..fabric.wires].iter_mut().zip(0..=u16::MAX) {
-        *entry = wires.value(wire);
-    }
+    let first_made = 1 + fabric.inputs;
+    work[0] = 0;
+    work[1..first_made].copy_from_slice(row);
+    run_rows(fabric.rows, program, work, first_made, gate_bit);
     for (entry, &wire) in result.iter_mut().zip(fabric.outputs) {
-        *entry = wires.value(wire);
+        *entry = work[usize::from(wire)];
     }
     Ok(())
 }
@@ -68,7 +67,7 @@ impl<'a> Fabric<'a> {
             wires += kind.outputs();
             bits += kind.bits();
         }
-        if !are_made(outputs, wires) || wires - 1 > LAST_WIRE as usize {
+        if !are_made(outputs, wires) || wires - 1 > LAST_WIRE {
             return None;
         }
         Some(Fabric {

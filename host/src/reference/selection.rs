@@ -4,7 +4,7 @@
 //! that a head's position is the sum of the counts before it.
 
 use super::blocks::{self, check_length, MAX_SIZE};
-use super::elements::{Drawing, ZERO_WIRE};
+use super::elements::{BitWriter, Drawing, Tally, ZERO_WIRE};
 use super::permutation;
 use crate::fault::Fault;
 
@@ -23,8 +23,9 @@ pub fn write(
 ) -> Result<(), Fault> {
     check_sizes(m, n)?;
     check_length(inputs, m)?;
-    let draw = |drawing: &mut Drawing, wires: &[u64]| draw(drawing, wires, n as usize);
-    blocks::write(draw, inputs, next, rows, outputs)
+    let tally = tally(m as usize, n as usize);
+    let draw = |drawing: &mut Drawing| draw(drawing, inputs, n as usize);
+    blocks::write((tally, n), draw, inputs, next, rows, outputs)
 }
 
 /// Writes the program of S(m, n) with which output i + 1 carries input `wanted[i]`, i from 0.
@@ -36,8 +37,10 @@ pub fn program(m: u32, n: u32, wanted: &[u16], program: &mut [u8]) -> Result<(),
     if !wanted.iter().all(|&input| (1..=m).contains(&input.into())) {
         return Err(Fault::Source);
     }
+    let mut bits = BitWriter::new(program, tally(m as usize, n as usize).bits())?;
     let wanted: Vec<usize> = wanted.iter().map(|&input| usize::from(input) - 1).collect();
-    blocks::write_program(&program_bits(m as usize, &wanted), program)
+    program_bits(m as usize, &wanted, &mut bits);
+    Ok(())
 }
 
 /// 2 if m is no number of inputs, then 4 if n is no number of outputs.
@@ -56,27 +59,42 @@ fn network_size(m: usize, n: usize) -> usize {
     m.max(n).next_power_of_two()
 }
 
-/// Draws S on these input wires and gives its n output wires: a P on the inputs and as many
-/// dummies as are needed, the chain of Y rows, a P on the chain.
-pub fn draw(drawing: &mut Drawing, inputs: &[u64], n: usize) -> Vec<u64> {
-    let mut wires = inputs.to_vec();
-    wires.resize(network_size(inputs.len(), n), ZERO_WIRE);
-    let mut chain = permutation::draw(drawing, &wires);
-    for i in 1..chain.len() {
-        chain[i] = drawing.y(chain[i - 1], chain[i]);
-    }
-    let mut outputs = permutation::draw(drawing, &chain);
-    outputs.truncate(n);
-    outputs
+/// S(m, n) has two P(N) and the chain of N - 1 rows Y.
+pub fn tally(m: usize, n: usize) -> Tally {
+    let size = network_size(m, n);
+    let network = permutation::tally(size);
+    let chain = Tally {
+        x: 0,
+        y: size - 1,
+        g: 0,
+    };
+    network.and(chain).and(network)
 }
 
-/// The bits of S's rows, in their order, with which output o carries input `wanted[o]`.
-pub fn program_bits(m: usize, wanted: &[usize]) -> Vec<bool> {
+/// Draws S on these input wires and gives its n output wires: a P on the inputs and as many
+/// dummies as are needed, the chain of Y rows, a P on the chain.
+pub fn draw(drawing: &mut Drawing, inputs: &[u16], n: usize) -> Vec<u16> {
+    let size = network_size(inputs.len(), n);
+    let mut wires = vec![ZERO_WIRE; size];
+    let mut work = vec![ZERO_WIRE; size];
+    wires[..inputs.len()].copy_from_slice(inputs);
+    permutation::draw(drawing, &mut wires, &mut work);
+    for i in 1..size {
+        wires[i] = drawing.y(wires[i - 1], wires[i]);
+    }
+    permutation::draw(drawing, &mut wires, &mut work);
+    wires.truncate(n);
+    wires
+}
+
+/// Writes the bits of S's rows, in their order, with which output o carries input `wanted[o]`.
+pub fn program_bits(m: usize, wanted: &[usize], bits: &mut BitWriter) {
     let positions = Positions::new(m, wanted);
-    let mut bits = permutation::program_bits(positions.input_at);
-    bits.extend(&positions.is_head[1..]);
-    bits.extend(permutation::program_bits(positions.of_output));
-    bits
+    permutation::program_bits(positions.input_at, bits);
+    for &is_head in &positions.is_head[1..] {
+        bits.push(is_head);
+    }
+    permutation::program_bits(positions.of_output, bits);
 }
 
 /// What the two networks do: the first brings an input to each position, the second gives each
@@ -88,33 +106,40 @@ struct Positions {
 }
 
 impl Positions {
-    /// Outputs in the order of the inputs that they want, those of the same input as they come,
-    /// have the positions in a row: so c(1) + .. + c(j - 1) of them are before input j's first,
-    /// its head. Inputs that none wants, dummies included, fill the other positions.
+    /// Input j, if c(j) outputs want it, has the c(j) positions behind those of the inputs before
+    /// it: the first is its head, and its outputs have them as they come. Inputs that none wants,
+    /// dummies included, fill the positions without a head.
     fn new(m: usize, wanted: &[usize]) -> Positions {
         let size = network_size(m, wanted.len());
-        let mut outputs: Vec<usize> = (0..wanted.len()).collect();
-        outputs.sort_by_key(|&output| wanted[output]);
-
-        let mut heads = vec![None; size];
-        let mut is_idle = vec![true; size];
-        let mut of_output: Vec<usize> = (0..size).collect();
-        for (position, output) in outputs.into_iter().enumerate() {
-            let input = wanted[output];
-            of_output[output] = position;
-            if is_idle[input] {
-                is_idle[input] = false;
-                heads[position] = Some(input);
-            }
+        let mut counts = vec![0; size];
+        for &input in wanted {
+            counts[input] += 1;
         }
-        let mut idle = (0..size).filter(|&input| is_idle[input]);
-        let mut idle_input = || idle.next().expect("an idle input for each other position");
+        let mut input_at = vec![0; size];
+        let mut is_head = vec![false; size];
+        let mut next_of = vec![0; size];
+        let mut next = 0;
+        for (input, &count) in counts.iter().enumerate() {
+            next_of[input] = next;
+            if count > 0 {
+                input_at[next] = input;
+                is_head[next] = true;
+            }
+            next += count;
+        }
+        let idle = (0..size).filter(|&input| counts[input] == 0);
+        let others = (0..size).filter(|&position| !is_head[position]);
+        for (position, input) in others.zip(idle) {
+            input_at[position] = input;
+        }
+        let mut of_output: Vec<usize> = (0..size).collect();
+        for (position, &input) in of_output.iter_mut().zip(wanted) {
+            *position = next_of[input];
+            next_of[input] += 1;
+        }
         Positions {
-            is_head: heads.iter().map(Option::is_some).collect(),
-            input_at: heads
-                .into_iter()
-                .map(|head| head.unwrap_or_else(&mut idle_input))
-                .collect(),
+            input_at,
+            is_head,
             of_output,
         }
     }
@@ -122,17 +147,26 @@ impl Positions {
 
 #[cfg(test)]
 mod tests {
-    use super::super::elements::{no_gate, Wires};
+    use super::super::elements::{bit, no_gate, Wires};
     use super::*;
     use crate::random::Random;
     use crate::samples::blocks::Block;
     use crate::samples::selection::{every_selection, random_wanted, CORNERS};
 
     /// The bits of the program for wanted inputs that count from 1.
-    fn bits(m: usize, wanted: &[u16]) -> Vec<u8> {
-        let wanted: Vec<usize> = wanted.iter().map(|&input| usize::from(input) - 1).collect();
-        let bits = program_bits(m, &wanted);
-        bits.into_iter().map(u8::from).collect()
+    fn bits(m: u32, wanted: &[u16]) -> Vec<u8> {
+        let block = Block::S(m, wanted.len() as u32);
+        let program = programmed(m, wanted);
+        let rows = block.rows() as usize;
+        (0..rows).map(|p| bit(&program, p).into()).collect()
+    }
+
+    /// The program for wanted inputs, by the call.
+    fn programmed(m: u32, wanted: &[u16]) -> Vec<u8> {
+        let n = wanted.len() as u32;
+        let mut bytes = vec![0x5a; Block::S(m, n).program_bytes()];
+        assert_eq!(program(m, n, wanted, &mut bytes), Ok(()));
+        bytes
     }
 
     /// Rows and output wires of S(m, n) on the wires 1 to m.
@@ -178,14 +212,17 @@ mod tests {
     #[test]
     fn rows_and_wires_of_every_size() {
         for (m, n) in CORNERS {
-            let mut drawing = Drawing::new(1);
-            let outputs = draw(&mut drawing, &vec![0; m as usize], n as usize);
             let block = Block::S(m, n);
+            let mut rows = vec![9; 3 * block.rows() as usize];
+            let mut drawing = Drawing::new(&mut rows, 1);
+            let outputs = draw(&mut drawing, &vec![0; m as usize], n as usize);
             assert_eq!(outputs.len(), n as usize);
-            assert_eq!(drawing.entries().len(), 3 * block.rows() as usize);
-            assert_eq!(drawing.next, 1 + u64::from(block.wires_made()));
-            let bits = bits(m as usize, &vec![1; n as usize]);
-            assert_eq!(bits.len(), block.rows() as usize);
+            assert_eq!(drawing.finish(), 1 + block.wires_made());
+
+            let mut program = vec![9; block.program_bytes()];
+            let mut bits = BitWriter::new(&mut program, block.rows() as usize).expect("room");
+            program_bits(m as usize, &vec![0; n as usize], &mut bits);
+            assert_eq!(bits.written(), block.rows() as usize);
         }
     }
 
@@ -193,10 +230,8 @@ mod tests {
     fn assert_delivers(m: u32, wanted: &[u16]) {
         let n = wanted.len() as u32;
         let (rows, outputs) = written(m, n);
-        let mut bytes = vec![0x5a; Block::S(m, n).program_bytes()];
-        assert_eq!(program(m, n, wanted, &mut bytes), Ok(()));
         let numbers: Vec<u16> = (0..=m as u16).collect();
-        let wires = Wires::run(&rows, &bytes, &numbers, no_gate);
+        let wires = Wires::run(&rows, &programmed(m, wanted), &numbers, no_gate);
         let delivered: Vec<u16> = outputs.iter().map(|&wire| wires.value(wire)).collect();
         assert_eq!(delivered, wanted);
     }
