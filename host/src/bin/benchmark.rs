@@ -4,10 +4,10 @@
 //! stops, with exit status 101, if the two sides differ on a case that is timed.
 //!
 //! A case is a call with random accepted plans of the same counts (u,k,v), one plan after another,
-//! or, for P(N), with random permutations. Both sides have the same signature, make the same checks
-//! and write to the same lent buffers. The library is called by its safe wrappers. Its exports take
-//! a plan's record by value and hand it back by value, and copying it is part of their time; the
-//! reference borrows it. The reference has its work lists on the heap, a few for each block.
+//! or, for P(N), with random permutations. Both sides make the same checks and write to the same lent
+//! buffers. The library is called by its safe wrappers. Its exports take a plan's record by value, and
+//! copying it is part of their time; the reference borrows it. Reading hands the record back by value
+//! on both sides. The reference has its work lists on the heap, a few for each block.
 //!
 //! Both sides run in short batches by turns, so that a busy machine disturbs both. The columns:
 //! - Rattle ns, Rust ns: nanoseconds a call, the least of all batches;
@@ -17,11 +17,11 @@
 //!   a record that goes by value is among them, heap memory is not; 256 is that or less;
 //! - growth: the time of P(N) over that of P(N / 2), and what N log N gives for it.
 
-use std::fmt::Debug;
 use std::hint::black_box;
 use std::time::{Duration, Instant};
 use std::{mem, ptr, thread};
 
+use mukdalis::fault::Fault;
 use mukdalis::plan::Plan;
 use mukdalis::random::Random;
 use mukdalis::samples::blocks::Block;
@@ -190,26 +190,30 @@ impl Plans {
             Call::Read => measure(
                 samples,
                 (),
-                |sample, ()| exports::read(&sample.file),
+                |sample, ()| exports::plan_read(&sample.file),
                 |sample, ()| reference::plan::read(&sample.file),
+                |read, answer| read.number == 0 && answer == Ok(read.plan),
             ),
             Call::Evaluate => measure(
                 samples,
                 result,
                 |sample, result| exports::evaluate(&sample.plan, &sample.row, result),
                 |sample, result| reference::plan::evaluate(&sample.plan, &sample.row, result),
+                are_done,
             ),
             Call::WriteFabric => measure(
                 &[[u, k, v]],
                 vec![9; table.len()],
                 |&[u, k, v], table| exports::write_fabric(u, k, v, table),
                 |&[u, k, v], table| reference::fabric::write(u, k, v, table),
+                are_done,
             ),
             Call::ProgramPlan => measure(
                 samples,
                 vec![9; samples[0].program.len()],
                 |sample, program| exports::program_plan(&sample.plan, program),
                 |sample, program| reference::program::write(&sample.plan, program),
+                are_done,
             ),
             Call::Run => measure(
                 samples,
@@ -220,6 +224,7 @@ impl Plans {
                 |Sample { program, row, .. }, (work, result)| {
                     reference::run::run(table, program, row, work, result)
                 },
+                are_done,
             ),
             Call::ProgramP => unreachable!("no call of plans"),
         }
@@ -235,6 +240,7 @@ fn measure_permutation(random: &mut Random, n: u32) -> Measured {
         vec![9; Block::P(n).program_bytes()],
         |wanted, program| exports::program_permutation(n, wanted, program),
         |wanted, program| reference::permutation::program(n, wanted, program),
+        are_done,
     )
 }
 
@@ -256,18 +262,24 @@ struct Times {
     ratio: f64,
 }
 
-/// Checks that both sides agree on every sample, then measures them.
-fn measure<S: Sync, B: Clone + Send + PartialEq + Debug, A: PartialEq + Debug>(
+/// Whether neither side refused.
+fn are_done(rattle: Result<(), Fault>, rust: Result<(), Fault>) -> bool {
+    rattle.is_ok() && rust.is_ok()
+}
+
+/// Checks that both sides are done with every sample and agree on it, then measures them.
+fn measure<S: Sync, B: Clone + Send + PartialEq, A, C>(
     samples: &[S],
     buffers: B,
     rattle: impl Side<S, B, A> + Sync,
-    rust: impl Side<S, B, A> + Sync,
+    rust: impl Side<S, B, C> + Sync,
+    agree: impl Fn(A, C) -> bool,
 ) -> Measured {
     for sample in samples {
         let (mut found, mut expected) = (buffers.clone(), buffers.clone());
-        let answers = (rattle(sample, &mut found), rust(sample, &mut expected));
-        assert_eq!(answers.0, answers.1, "the answers differ");
-        assert_eq!(found, expected, "the buffers differ");
+        let (answer, due) = (rattle(sample, &mut found), rust(sample, &mut expected));
+        assert!(agree(answer, due), "the answers differ");
+        assert!(found == expected, "the buffers differ");
     }
     Measured {
         times: time(samples, &mut buffers.clone(), &rattle, &rust),
@@ -279,11 +291,11 @@ fn measure<S: Sync, B: Clone + Send + PartialEq + Debug, A: PartialEq + Debug>(
 }
 
 /// Times both sides in batches by turns.
-fn time<S, B, A>(
+fn time<S, B, A, C>(
     samples: &[S],
     buffers: &mut B,
     rattle: &impl Side<S, B, A>,
-    rust: &impl Side<S, B, A>,
+    rust: &impl Side<S, B, C>,
 ) -> Times {
     let mut rounds = 1;
     while batch(samples, rounds, buffers, rattle) < BATCH_TIME
