@@ -88,7 +88,7 @@ extern "C" {
 }
 
 /// `mkd_plan_read` of a whole file.
-pub(crate) fn plan_read(file: &[u8]) -> Read {
+pub fn plan_read(file: &[u8]) -> Read {
     // SAFETY: the pointer and length are a slice's; the call only reads it and keeps no pointer.
     unsafe { mkd_plan_read(file.as_ptr(), file.len()) }
 }

@@ -5,10 +5,9 @@
 use std::fs;
 use std::path::{Path, PathBuf};
 
-use mukdalis::exports;
-use mukdalis::plan::Plan;
 use mukdalis::random::Random;
 use mukdalis::reference::twintest::text;
+use mukdalis::{count_fabric, evaluate, program_plan, read, run_fabric, write_fabric, Plan};
 
 /// An example plan: its file, its counts u, k, v, and its rule, the outputs on a row of inputs.
 struct Example {
@@ -87,26 +86,26 @@ struct Loaded {
 
 impl Loaded {
     fn new(file: &[u8]) -> Loaded {
-        let plan = exports::read(file).expect("the file is a plan");
-        let counts = [plan.inputs, plan.gate_count, plan.output_count].map(u32::from);
+        let plan = read(file).expect("the file is a plan");
+        let counts = plan.counts();
         let [u, k, v] = counts;
-        let size = exports::count_fabric(u, k, v).expect("the counts are in range");
-        let mut table = vec![0; 3 + 3 * size.rows as usize + v as usize];
-        exports::write_fabric(u, k, v, &mut table).expect("the table has room");
-        let mut program = vec![0; size.bits.div_ceil(8) as usize];
-        exports::program_plan(&plan, &mut program).expect("the program has room");
+        let size = count_fabric(u, k, v).expect("the counts are in range");
+        let mut table = vec![0; size.table_len(v)];
+        write_fabric(u, k, v, &mut table).expect("the table has room");
+        let mut program = vec![0; size.program_len()];
+        program_plan(&plan, &mut program).expect("the program has room");
         Loaded {
             plan,
             counts,
             table,
             program,
-            wires: size.wires as usize,
+            wires: size.work_len(),
         }
     }
 
     fn evaluated(&self, row: &[u8]) -> Vec<u8> {
         let mut result = vec![0xa5; self.plan.output_count.into()];
-        exports::evaluate(&self.plan, row, &mut result).expect("the row is accepted");
+        evaluate(&self.plan, row, &mut result).expect("the row is accepted");
         result
     }
 
@@ -114,7 +113,7 @@ impl Loaded {
     fn run(&self, row: &[u8]) -> (Vec<u8>, Vec<u8>) {
         let mut work = vec![0xa5; self.wires];
         let mut result = vec![0xa5; self.plan.output_count.into()];
-        exports::run_fabric(&self.table, &self.program, row, &mut work, &mut result)
+        run_fabric(&self.table, &self.program, row, &mut work, &mut result)
             .expect("the row is accepted");
         (work, result)
     }

@@ -21,15 +21,16 @@ use std::hint::black_box;
 use std::time::{Duration, Instant};
 use std::{mem, ptr, thread};
 
-use mukdalis::fault::Fault;
-use mukdalis::plan::Plan;
 use mukdalis::random::Random;
 use mukdalis::samples::blocks::Block;
-use mukdalis::samples::fabric::{table_len, wires};
+use mukdalis::samples::fabric::wires;
 use mukdalis::samples::permutation::random_permutation;
 use mukdalis::samples::plans::{shaped_plan, PlanShape};
 use mukdalis::samples::{Counts, PlanFile, Standing};
-use mukdalis::{exports, reference};
+use mukdalis::{
+    count_fabric, evaluate, program_permutation, program_plan, raw, reference, run_fabric,
+    write_fabric, Fault, Plan,
+};
 
 const SEED: u64 = 0x6265_6e63_686d_6172;
 
@@ -156,14 +157,14 @@ impl Plans {
     fn new(random: &mut Random, counts: Counts) -> Plans {
         let Counts(u, k, v) = counts;
         let [u, k, v] = [u, k, v].map(u32::from);
-        let size = exports::count_fabric(u, k, v).expect("the counts are in range");
-        let mut table = vec![0; table_len(u, k, v)];
-        exports::write_fabric(u, k, v, &mut table).expect("the counts are in range");
+        let size = count_fabric(u, k, v).expect("the counts are in range");
+        let mut table = vec![0; size.table_len(v)];
+        write_fabric(u, k, v, &mut table).expect("the counts are in range");
         let shapes = PlanShape::ALL.into_iter().cycle();
         let samples = shapes.take(SAMPLES).map(|shape| {
             let plan = shaped_plan(random, counts, shape);
-            let mut program = vec![0; size.bits.div_ceil(8) as usize];
-            exports::program_plan(&plan, &mut program).expect("the plan is accepted");
+            let mut program = vec![0; size.program_len()];
+            program_plan(&plan, &mut program).expect("the plan is accepted");
             Sample {
                 plan,
                 file: PlanFile::new(random, &plan, Standing::None).bytes,
@@ -190,28 +191,28 @@ impl Plans {
             Call::Read => measure(
                 samples,
                 (),
-                |sample, ()| exports::plan_read(&sample.file),
+                |sample, ()| raw::plan_read(&sample.file),
                 |sample, ()| reference::plan::read(&sample.file),
                 |read, answer| read.number == 0 && answer == Ok(read.plan),
             ),
             Call::Evaluate => measure(
                 samples,
                 result,
-                |sample, result| exports::evaluate(&sample.plan, &sample.row, result),
+                |sample, result| evaluate(&sample.plan, &sample.row, result),
                 |sample, result| reference::plan::evaluate(&sample.plan, &sample.row, result),
                 are_done,
             ),
             Call::WriteFabric => measure(
                 &[[u, k, v]],
                 vec![9; table.len()],
-                |&[u, k, v], table| exports::write_fabric(u, k, v, table),
+                |&[u, k, v], table| write_fabric(u, k, v, table),
                 |&[u, k, v], table| reference::fabric::write(u, k, v, table),
                 are_done,
             ),
             Call::ProgramPlan => measure(
                 samples,
                 vec![9; samples[0].program.len()],
-                |sample, program| exports::program_plan(&sample.plan, program),
+                |sample, program| program_plan(&sample.plan, program),
                 |sample, program| reference::program::write(&sample.plan, program),
                 are_done,
             ),
@@ -219,7 +220,7 @@ impl Plans {
                 samples,
                 (vec![9; wires(table)], result),
                 |Sample { program, row, .. }, (work, result)| {
-                    exports::run_fabric(table, program, row, work, result)
+                    run_fabric(table, program, row, work, result)
                 },
                 |Sample { program, row, .. }, (work, result)| {
                     reference::run::run(table, program, row, work, result)
@@ -238,7 +239,7 @@ fn measure_permutation(random: &mut Random, n: u32) -> Measured {
     measure(
         &samples,
         vec![9; Block::P(n).program_bytes()],
-        |wanted, program| exports::program_permutation(n, wanted, program),
+        |wanted, program| program_permutation(n, wanted, program),
         |wanted, program| reference::permutation::program(n, wanted, program),
         are_done,
     )
