@@ -3,7 +3,7 @@
 ghost use mathlib.Core.Path.{_≡_};
 ghost use lib.ListN.{length};
 ghost use Rattle.plan.specs.Faults.{planFault};
-ghost use Rattle.plan.specs.Evaluation.{evaluateFault, evaluateResult};
+ghost use Rattle.evaluation.specs.Evaluation.{evaluateFault, evaluateResult};
 ghost use Rattle.reading.specs.PlanFile.{planRead};
 ghost use Rattle.permutation_rows.specs.WriteCalls.{writeFault, writtenRows, writtenOutputs};
 ghost use Rattle.permutation_bits.specs.ProgramCalls.{programFault, programResult};
@@ -65,7 +65,7 @@ pub extern "C" fn mkd_plan_evaluate(plan: Plan, row: &[u8], result: &mut [u8]) -
     ensures answered { λ r. ⌜ r ≡ evaluateFault plan (now (row .entry)) (length (now (result .entry))) ⌝ }
     ensures written { λ _. ⌜ now (result .exit) ≡ evaluateResult plan (now (row .entry)) (now (result .entry)) ⌝ }
 {
-    plan::evaluate(plan, row, result).number()
+    evaluation::evaluate(plan, row, result).number()
 }
 
 // Writes the permutation network P(n): its rows and its output wires.

@@ -11,6 +11,7 @@ pub use bits::store_bit;
 pub use checks::check_bits;
 pub use checks::check_room;
 pub use checks::check_wires;
+pub use rows::HEADER;
 pub use rows::Kind;
 pub use rows::put_pairs;
 pub use rows::put_row;

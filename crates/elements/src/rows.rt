@@ -8,6 +8,9 @@ ghost use Rattle.elements.specs.Rows.{kindNumber, rowPut, rowsPut, pairR
 use crate::wires::FabricWire;
 use crate::wires::wire_at;
 
+// The entries of a table before its rows: its numbers of inputs, outputs and rows.
+pub const HEADER: usize = 3;
+
 // The entries of a row: its kind, its left wire, its right wire.
 const STRIDE: usize = 3;
 

@@ -13,7 +13,7 @@ use Rattle.fault.specs.Checks.{roomFault}
 use Rattle.fault.specs.ChecksLaws.{unless-zero, and-then-zero, first-of-zero}
 use Rattle.plan.specs.declared.record.Plan.{Plan}
 use Rattle.plan.specs.Faults.{countsFault, planFault, Accepted}
-use Rattle.plan.specs.Evaluation.{contactFault, gateBit, planOutputs, evaluateFault, evaluateResult}
+use Rattle.evaluation.specs.Evaluation.{contactFault, gateBit, planOutputs, evaluateFault, evaluateResult}
 use Rattle.universal.specs.Fabric.{fabricTable, fabricWires, planProgram}
 use Rattle.universal.specs.Tables.{inputsIn, outputsIn, wiresIn, bitsIn, runOutputs}
 use Rattle.universal.specs.FabricTableLaws.{fabric-inputs, fabric-outputs, fabric-wiresIn, fabric-well-formed, program-exact, fabric-runs}

@@ -7,7 +7,7 @@ use Rattle.fault.specs.Checks.{andThen, roomFault}
 use Rattle.fault.specs.Buffers.{filled}
 use Rattle.plan.specs.declared.record.Plan.{Plan}
 use Rattle.plan.specs.Faults.{planFault}
-use Rattle.plan.specs.Evaluation.{contactFault, gateBit, planOutputs}
+use Rattle.evaluation.specs.Evaluation.{contactFault, gateBit, planOutputs}
 use Rattle.universal.specs.Fabric.{fabricTable, fabricWires, planProgram}
 use Rattle.universal.specs.Tables.{runWires, runOutputs}
 use Rattle.fabric_rows.specs.FabricCalls.{tableLength}

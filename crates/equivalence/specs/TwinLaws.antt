@@ -14,8 +14,8 @@ use Rattle.fault.specs.declared.Fault.{Fault}
 use Rattle.fault.specs.ChecksLaws.{unless-zero, and-then-zero, number-positive}
 use Rattle.plan.specs.declared.record.Plan.{Plan}
 use Rattle.plan.specs.Faults.{Accepted}
-use Rattle.plan.specs.Evaluation.{contactFault, gateBit, planOutputs, evaluateResult}
-use Rattle.plan.specs.EvaluationLaws.{row-length, row-bit}
+use Rattle.evaluation.specs.Evaluation.{contactFault, gateBit, planOutputs, evaluateResult}
+use Rattle.evaluation.specs.EvaluationLaws.{row-length, row-bit}
 use Rattle.networks.specs.Rows.{stride}
 use Rattle.networks.specs.Bits.{bytesFor}
 use Rattle.universal.specs.Fabric.{planProgram}

@@ -6,13 +6,16 @@ ghost use lib.ListN.{length, getD, take};
 ghost use Rattle.fault.specs.Number.{answerNumber};
 ghost use Rattle.fault.specs.Buffers.{over};
 ghost use Rattle.plan.specs.Faults.{Accepted};
-ghost use Rattle.plan.specs.Evaluation.{gateBit, planOutputs};
+ghost use Rattle.evaluation.specs.Evaluation.{gateBit, planOutputs};
 ghost use Rattle.universal.specs.Fabric.{planProgram};
 ghost use Rattle.universal.specs.Tables.{runWires, runOutputs};
 ghost use Rattle.run.specs.RunCalls.{runWork, runResult};
 ghost use Rattle.equivalence.specs.TwinCalls.{tableOf, twinRoomFault, twinFault, twinTable, twinProgram, twinWork, twinEvaluated, twinRan};
 ghost use Rattle.equivalence.specs.TwinLaws.{LengthsAre, TwinPasses};
+use elements::HEADER;
 use elements::row_place;
+use evaluation::contact_fault;
+use evaluation::evaluate;
 use fabric_bits::program_plan;
 use fabric_rows::CountAnswer;
 use fabric_rows::count_fabric;
@@ -20,13 +23,8 @@ use fabric_rows::write_fabric;
 use fault::Answer;
 use fault::Fault;
 use plan::Plan;
-use plan::contact_fault;
-use plan::evaluate;
 use plan::plan_fault;
 use run::run;
-
-// The entries before the rows of a table.
-const HEADER: usize = 3;
 
 // The stated lengths of table, program and work.
 struct Lengths {

@@ -1,6 +1,6 @@
 -- Writing the fabric's table succeeds exactly if its counts are allowed and the lent table has its length; then the table begins with the
 -- fabric's, whatever stood there.
-use mathlib.Core.Path.{_≡_, sym, _∙_}
+use mathlib.Core.Path.{_≡_}
 use mathlib.Core.List.{List}
 use Prim.Native.Nat.{ℕ, _<_, _≤_}
 use native.Mathlib.Omega.{arith}
@@ -49,11 +49,6 @@ pub fabric-written-read : (u k v : ℕ) (table : List ℕ) → fabricFault u k v
 fabric-written-read u k v table e =
     let new = fabricTable u k v in
     rw e (take-at new (drop (length new) table) (tableLength u k v) (length-fabricTable u k v))
-
--- two calls with equal counts agree up to the stated length, whatever the tables held
-pub fabric-agrees : (u k v : ℕ) (table other : List ℕ) → fabricFault u k v (length table) ≡ 0 → fabricFault u k v (length other) ≡ 0
-    → take (tableLength u k v) (fabricResult u k v table) ≡ take (tableLength u k v) (fabricResult u k v other)
-fabric-agrees u k v table other e f = fabric-written-read u k v table e ∙ sym (fabric-written-read u k v other f)
 
 -- the lent table stays as long as it is
 pub length-fabricResult : (u k v : ℕ) (table : List ℕ) → length (fabricResult u k v table) ≡ length table

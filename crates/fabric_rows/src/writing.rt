@@ -20,6 +20,7 @@ use crate::block::put_selection;
 use crate::block::write_universal;
 use crate::counting::fabric_parts;
 use elements::FabricWire;
+use elements::HEADER;
 use elements::copy_wires;
 use elements::put_wires;
 use elements::row_place;
@@ -27,9 +28,6 @@ use fault::Answer;
 use fault::Fault;
 use plan::Plan;
 use plan::counts_fault;
-
-// The entries before the rows.
-const HEADER: usize = 3;
 
 // The pins of the largest U.
 const PINS: usize = 2 * Plan::MAX_GATES;

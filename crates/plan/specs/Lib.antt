@@ -8,8 +8,5 @@ pub mod RulesLaws
 -- faults of a plan in memory
 pub mod Faults
 pub mod FaultsLaws
--- what a plan gives on a row of inputs
-pub mod Evaluation
-pub mod EvaluationLaws
 -- unused places never matter
 pub mod AgreeLaws

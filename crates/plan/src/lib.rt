@@ -1,13 +1,9 @@
-// Plans: the record in memory, the rules of its parts, its faults, and what it gives on a row of inputs.
-// For any record in memory `plan_fault` says, with proof, whether it is an accepted plan, and `evaluate` what it gives.
-// Nothing here reads files or knows of fabrics.
-mod evaluation;
+// Plans: the record in memory, the rules of its parts, and its faults. For any record in memory `plan_fault` says, with proof, whether it is an
+// accepted plan. Nothing here reads files or knows of fabrics.
 mod faults;
 mod record;
 mod rules;
 
-pub use evaluation::contact_fault;
-pub use evaluation::evaluate;
 pub use faults::counts_fault;
 pub use faults::plan_fault;
 pub use record::Gate;

@@ -4,7 +4,7 @@ use mathlib.Core.List.{List}
 use lib.ListN.{length}
 use Rattle.fault.specs.Checks.{andThen, roomFault}
 use Rattle.fault.specs.Buffers.{filled}
-use Rattle.plan.specs.Evaluation.{contactFault}
+use Rattle.evaluation.specs.Evaluation.{contactFault}
 use Rattle.universal.specs.Tables.{inputsIn, outputsIn, wiresIn, bitsIn, tableFault, programFault, runWires, runOutputs}
 
 -- 13, 14, 12, 11: the work buffer has one byte per wire, the result one per output

@@ -8,7 +8,6 @@ ghost use Rattle.universal.specs.TablesLaws.{HeaderWithin};
 ghost use Rattle.run.specs.RunCalls.{runFault};
 ghost use Rattle.run.specs.Places.{maxBits};
 ghost use Rattle.run.specs.Checking.{RowToCheck, RowsChecked, TableChecked, roomsFault, endFault};
-use crate::table::HEADER;
 use crate::table::INPUTS;
 use crate::table::KIND_G;
 use crate::table::KIND_X;
@@ -20,13 +19,14 @@ use crate::table::row_place;
 use crate::table::table_length;
 use crate::table::wide;
 use elements::FabricWire;
+use elements::HEADER;
 use elements::MAX_WIRES;
 use elements::read_bit;
 use elements::wire_at;
+use evaluation::contact_fault;
 use fault::Answer;
 use fault::Fault;
 use plan::Plan;
-use plan::contact_fault;
 use plan::count_allowed;
 
 // What a check of the rows answers, with the place behind the last row: the number of all wires and of all program bits.

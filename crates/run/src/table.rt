@@ -7,11 +7,10 @@ ghost use Rattle.universal.specs.Tables.{header, outputsIn, rowsIn, outputWireA
 ghost use Rattle.universal.specs.TablesLaws.{HeaderWithin};
 ghost use Rattle.run.specs.Places.{Countable, PastRow};
 use elements::FabricWire;
+use elements::HEADER;
 use elements::wire_at;
 
-// The entries before the rows, and which of them are the numbers of inputs, outputs and rows.
-pub(crate) const HEADER: usize = 3;
-
+// Which of the entries before the rows are the numbers of inputs, outputs and rows.
 pub(crate) const INPUTS: usize = 0;
 
 pub(crate) const OUTPUTS: usize = 1;

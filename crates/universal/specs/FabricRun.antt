@@ -15,7 +15,7 @@ use Rattle.plan.specs.declared.record.Plan.{Plan}
 use Rattle.plan.specs.Record.{outputAt}
 use Rattle.plan.specs.Faults.{Accepted}
 use Rattle.plan.specs.FaultsLaws.{accepted-counts, accepted-output}
-use Rattle.plan.specs.Evaluation.{planWires, planOutputs}
+use Rattle.evaluation.specs.Evaluation.{planWires, planOutputs}
 use Rattle.networks.specs.Rows.{Row, makes, total, State, on, run, Delivered}
 use Rattle.networks.specs.RowsLaws.{run-append, run-keeps, run-wires}
 use Rattle.networks.specs.Wanted.{mapping}

@@ -14,8 +14,8 @@ use Rattle.plan.specs.declared.record.Plan.{Plan}
 use Rattle.plan.specs.Record.{gateAt, gateWire}
 use Rattle.plan.specs.Faults.{Accepted}
 use Rattle.plan.specs.FaultsLaws.{accepted-counts, accepted-gate}
-use Rattle.plan.specs.Evaluation.{valueOn, planWires}
-use Rattle.plan.specs.EvaluationLaws.{length-planWires}
+use Rattle.evaluation.specs.Evaluation.{valueOn, planWires}
+use Rattle.evaluation.specs.EvaluationLaws.{length-planWires}
 use Rattle.networks.specs.Rows.{operands, choose}
 use Rattle.universal.specs.Universal.{tableProgram}
 use Rattle.universal.specs.UniversalRun.{Values}

@@ -4,7 +4,7 @@ use borrow.Author.Needs.{needs}
 use Rattle.fault.specs.Number.{answerNumber}
 use Rattle.fault.specs.ChecksLaws.{first-refuses, second-answers}
 use Rattle.plan.specs.Faults.{planFault}
-use Rattle.plan.specs.Evaluation.{contactFault}
+use Rattle.evaluation.specs.Evaluation.{contactFault}
 use Rattle.equivalence.specs.TwinCalls.{twinFault}
 use Rattle.equivalence.proofs.twin.check_twin.Statement.{statement}
 use Rattle.equivalence.proofs.twin.check_twin.Tie as tie

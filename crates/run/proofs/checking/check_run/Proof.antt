@@ -4,7 +4,7 @@ use native.Mathlib.Omega.{arith}
 use borrow.Author.Needs.{needs}
 use Rattle.fault.specs.Number.{answerNumber}
 use Rattle.fault.specs.ChecksLaws.{first-refuses, second-answers}
-use Rattle.plan.specs.Evaluation.{contactFault}
+use Rattle.evaluation.specs.Evaluation.{contactFault}
 use Rattle.universal.specs.Tables.{inputsIn, rowsIn, bitsIn, tableFault, programFault}
 use Rattle.universal.specs.TablesLaws.{WellFormed, table-faultless}
 use Rattle.run.specs.Places.{Counted}

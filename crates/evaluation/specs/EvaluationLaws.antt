@@ -12,12 +12,12 @@ use lib.ListN.{length, getD, set, length-append, List·getD-eq-default}
 use Rattle.lists.specs.Lists.{listOf}
 use Rattle.fault.specs.Checks.{roomFault}
 use Rattle.fault.specs.ChecksLaws.{unless-zero, and-then-zero, first-of-zero}
 use Rattle.plan.specs.declared.record.Plan.{Plan}
 use Rattle.plan.specs.Record.{maxInputs, maxGates, maxOutputs, places, gateAt, outputAt, gateWire}
 use Rattle.plan.specs.RecordLaws.{places-more, getD-places}
 use Rattle.plan.specs.Faults.{Accepted}
 use Rattle.plan.specs.FaultsLaws.{GateWithin, accepted-counts, accepted-gate, accepted-output}
-use Rattle.plan.specs.Evaluation.{valueOn, planWires, namedBy, tableBit, gateBit, contactFault, evaluateFault}
+use Rattle.evaluation.specs.Evaluation.{valueOn, planWires, namedBy, tableBit, gateBit, contactFault, evaluateFault}
 
 -- the wires of the largest plan
 abbrev pub maxWires : ℕ

@@ -4,15 +4,15 @@ ghost use Prim.Native.Nat.{_-_, _≤_};
 ghost use lib.ListN.{length};
 ghost use Rattle.fault.specs.Number.{answerNumber};
 ghost use Rattle.fault.specs.Buffers.{over};
 ghost use Rattle.plan.specs.Record.{places};
 ghost use Rattle.plan.specs.Faults.{Accepted};
-ghost use Rattle.plan.specs.Evaluation.{tableBit, gateBit, planWires, namedBy, contactFault, evaluateFault, evaluateResult};
-ghost use Rattle.plan.specs.EvaluationLaws.{maxWires, Evaluable};
-use crate::faults::plan_fault;
-use crate::record::Plan;
-use crate::record::PlanWire;
+ghost use Rattle.evaluation.specs.Evaluation.{tableBit, gateBit, planWires, namedBy, contactFault, evaluateFault, evaluateResult};
+ghost use Rattle.evaluation.specs.EvaluationLaws.{maxWires, Evaluable};
 use fault::Answer;
 use fault::Fault;
+use plan::Plan;
+use plan::PlanWire;
+use plan::plan_fault;
 
 // The wires of the largest plan.
 const MAX_WIRES: usize = Plan::MAX_INPUTS + Plan::MAX_GATES;

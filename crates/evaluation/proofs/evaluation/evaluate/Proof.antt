@@ -5,10 +5,10 @@ use lib.ListN.{length}
 use Rattle.fault.specs.Number.{answerNumber}
 use Rattle.fault.specs.Buffers.{over}
 use Rattle.fault.specs.BuffersLaws.{filled-refused, filled-done}
-use Rattle.plan.specs.Evaluation.{evaluateFault, namedBy}
-use Rattle.plan.specs.EvaluationLaws.{evaluation-passes, named-places}
-use Rattle.plan.proofs.evaluation.evaluate.Statement.{statement}
-use Rattle.plan.proofs.evaluation.evaluate.Tie as tie
+use Rattle.evaluation.specs.Evaluation.{evaluateFault, namedBy}
+use Rattle.evaluation.specs.EvaluationLaws.{evaluation-passes, named-places}
+use Rattle.evaluation.proofs.evaluation.evaluate.Statement.{statement}
+use Rattle.evaluation.proofs.evaluation.evaluate.Tie as tie
 
 -- where the checks are done, none fails
 none : (c : tie.After-enum-told) → let a = c .before .before .before .before .before .args in 0 ≡ evaluateFault (a .plan) (a .row .now) (length (a .result .now))

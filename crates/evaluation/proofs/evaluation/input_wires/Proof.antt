@@ -7,11 +7,11 @@ use native.Mathlib.Numerals.{add-one}
 use borrow.Author.Needs.{needs}
 use lib.ListN.{length, take}
 use lib.Seq.{take-suc, take-length, length-take-le}
 use Rattle.plan.specs.Record.{places}
 use Rattle.plan.specs.RecordLaws.{places-more}
-use Rattle.plan.specs.EvaluationLaws.{maxWires}
-use Rattle.plan.proofs.evaluation.input_wires.Statement.{statement}
-use Rattle.plan.proofs.evaluation.input_wires.Tie as tie
+use Rattle.evaluation.specs.EvaluationLaws.{maxWires}
+use Rattle.evaluation.proofs.evaluation.input_wires.Statement.{statement}
+use Rattle.evaluation.proofs.evaluation.input_wires.Tie as tie
 
 abbrev Inv-loop : tie.InvT-loop
 Inv-loop row wires₀ i₀ wires i = (i ≤ length row) × (wires ≡ places maxWires 0 (take i row))

@@ -5,8 +5,8 @@ use borrow.Author.Tests.{lt-leb, le-leb}
 use Rattle.fault.specs.Number.{answerNumber}
 use Rattle.fault.specs.ChecksLaws.{first-refuses, second-answers}
 use Rattle.fault.specs.Checks.{roomFault}
-use Rattle.plan.proofs.evaluation.check_evaluate.Statement.{statement}
-use Rattle.plan.proofs.evaluation.check_evaluate.Tie as tie
+use Rattle.evaluation.proofs.evaluation.check_evaluate.Statement.{statement}
+use Rattle.evaluation.proofs.evaluation.check_evaluate.Tie as tie
 
 short : tie.Need-returns
 unfolding roomFault

@@ -7,12 +7,12 @@ use borrow.Author.Needs.{needs}
 use lib.ListN.{length, getD, set, length-set}
 use Rattle.fault.specs.Buffers.{over}
 use Rattle.fault.specs.BuffersLaws.{listOf-over}
 use Rattle.plan.specs.Record.{outputAt}
 use Rattle.lists.specs.Lists.{listOf}
-use Rattle.plan.specs.Evaluation.{valueOn, namedBy}
-use Rattle.plan.specs.EvaluationLaws.{OutputRoom, output-room}
-use Rattle.plan.proofs.evaluation.write_outputs.Statement.{statement}
-use Rattle.plan.proofs.evaluation.write_outputs.Tie as tie
+use Rattle.evaluation.specs.Evaluation.{valueOn, namedBy}
+use Rattle.evaluation.specs.EvaluationLaws.{OutputRoom, output-room}
+use Rattle.evaluation.proofs.evaluation.write_outputs.Statement.{statement}
+use Rattle.evaluation.proofs.evaluation.write_outputs.Tie as tie
 
 abbrev Inv-loop : tie.InvT-loop
 Inv-loop result₀ plan wires count i₀ result i =

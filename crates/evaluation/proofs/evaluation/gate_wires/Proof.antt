@@ -5,11 +5,11 @@ use mathlib.Core.Path.{_≡_, ap, ap₂, _∙_}
 use Prim.Native.Nat.{_≤_, _-_}
 use borrow.Author.Needs.{needs}
 use lib.ListN.{getD}
 use Rattle.plan.specs.Record.{places, gateAt}
-use Rattle.plan.specs.Evaluation.{planWires, gateBit, tableBit}
-use Rattle.plan.specs.EvaluationLaws.{maxWires, GateRoom, row-room, gate-room, held-bit, gate-held}
-use Rattle.plan.proofs.evaluation.gate_wires.Statement.{statement}
-use Rattle.plan.proofs.evaluation.gate_wires.Tie as tie
+use Rattle.evaluation.specs.Evaluation.{planWires, gateBit, tableBit}
+use Rattle.evaluation.specs.EvaluationLaws.{maxWires, GateRoom, row-room, gate-room, held-bit, gate-held}
+use Rattle.evaluation.proofs.evaluation.gate_wires.Statement.{statement}
+use Rattle.evaluation.proofs.evaluation.gate_wires.Tie as tie
 
 abbrev Inv-loop : tie.InvT-loop
 Inv-loop row plan inputs count wires₀ i₀ wires i = (i ≤ count) × (wires ≡ places maxWires 0 (planWires 0 gateBit plan row i))

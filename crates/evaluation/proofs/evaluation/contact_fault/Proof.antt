@@ -10,9 +10,9 @@ use lib.ListN.{length, getD}
 use Rattle.fault.specs.declared.Fault.{Fault}
 use Rattle.fault.specs.Checks.{unless, firstOf}
 use Rattle.fault.specs.ChecksLaws.{first-passes, first-fails}
-use Rattle.plan.specs.Evaluation.{contactFault}
-use Rattle.plan.proofs.evaluation.contact_fault.Statement.{statement}
-use Rattle.plan.proofs.evaluation.contact_fault.Tie as tie
+use Rattle.evaluation.specs.Evaluation.{contactFault}
+use Rattle.evaluation.proofs.evaluation.contact_fault.Statement.{statement}
+use Rattle.evaluation.proofs.evaluation.contact_fault.Tie as tie
 
 abbrev Inv-loop : tie.InvT-loop
 Inv-loop inputs row i₀ i =

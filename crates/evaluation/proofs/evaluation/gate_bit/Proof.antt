@@ -3,9 +3,9 @@ use Prim.Native.Nat.{_+_, _*_, _/_, _^_}
 use native.Mathlib.Omega.{arith}
 use borrow.Author.Needs.{needs}
 use lib.Bits.{and-mask}
-use Rattle.plan.specs.Evaluation.{tableBit}
-use Rattle.plan.proofs.evaluation.gate_bit.Statement.{statement}
-use Rattle.plan.proofs.evaluation.gate_bit.Tie as tie
+use Rattle.evaluation.specs.Evaluation.{tableBit}
+use Rattle.evaluation.proofs.evaluation.gate_bit.Statement.{statement}
+use Rattle.evaluation.proofs.evaluation.gate_bit.Tie as tie
 
 bit : tie.Need-returns
 unfolding tableBit
