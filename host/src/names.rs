@@ -15,7 +15,14 @@ const PAGE: &str = "docs/WHAT_IS_PROVED.md";
 const EXPORTS: &str = "crates/capi/src";
 
 /// The crates whose root hands on the library's calls.
-const LIBRARIES: [&str; 5] = ["plan", "reading", "blocks", "fabric", "equivalence"];
+const LIBRARIES: [&str; 6] = [
+    "plan",
+    "evaluation",
+    "reading",
+    "blocks",
+    "fabric",
+    "equivalence",
+];
 
 /// Every problem of the page in the repository at `root`, a line each, and the number of names.
 pub fn problems(root: &Path) -> io::Result<(Vec<String>, usize)> {

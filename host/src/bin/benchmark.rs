@@ -90,7 +90,7 @@ enum Call {
 type Arrays = (usize, &'static str);
 
 /// A bit for each wire.
-const EVALUATION: Arrays = (320, "crates/plan/src/evaluation.rt");
+const EVALUATION: Arrays = (320, "crates/evaluation/src/evaluation.rt");
 /// Wires: the inputs, the pins, the gates, what is selected, the outputs.
 const FABRIC: Arrays = (2_304, "crates/fabric_rows/src/writing.rt");
 /// What feeds a network of S, and what it gave.
