@@ -15,8 +15,10 @@ use Rattle.networks.specs.Wanted.{Wanted, mapping, wantedBits}
 use Rattle.networks.specs.WantedLaws.{mapping-at, length-wantedBits, wantedBits-bits, packed-delivers}
 use Rattle.sizes.specs.Sizes.{levelOf}
 use Rattle.sizes.specs.SizesLaws.{SizeIs}
-use Rattle.permutation_rows.specs.WriteCalls.{rowsOf, writeFault, writtenRows, writtenOutputs}
-use Rattle.permutation_rows.specs.WriteLaws.{write-passes, written-read}
+use Rattle.write_checks.specs.WriteChecks.{rowsOf, writeFault}
+use Rattle.permutation_rows.specs.WriteCalls.{writtenRows, writtenOutputs}
+use Rattle.write_checks.specs.WriteChecksLaws.{write-passes}
+use Rattle.permutation_rows.specs.WriteLaws.{written-read}
 use Rattle.permutation_bits.specs.ProgramCalls.{bitCount, programFault, programAtFault, programResult, programAtResult}
 use Rattle.permutation_bits.specs.ProgramLaws.{fault-at, program-passes}
 

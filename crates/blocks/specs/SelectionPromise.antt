@@ -11,8 +11,10 @@ use Rattle.networks.specs.Wanted.{mapping}
 use Rattle.networks.specs.Selection.{selectionCount}
 use Rattle.networks.specs.SelectionRouting.{selected-at}
 use Rattle.networks.specs.SelectionRun.{packed-selection-delivers}
-use Rattle.selection_rows.specs.WriteCalls.{selectionWriteFault, selectionWrittenRows, selectionWrittenOutputs}
-use Rattle.selection_rows.specs.SelectionWriteLaws.{selection-write-passes, some-wire, selection-written-read}
+use Rattle.write_checks.specs.WriteChecks.{selectionWriteFault}
+use Rattle.selection_rows.specs.WriteCalls.{selectionWrittenRows, selectionWrittenOutputs}
+use Rattle.write_checks.specs.WriteChecksLaws.{selection-write-passes, some-wire}
+use Rattle.selection_rows.specs.SelectionWriteLaws.{selection-written-read}
 use Rattle.selection_bits.specs.ProgramCalls.{selectionProgramFault, selectionProgramResult}
 use Rattle.selection_bits.specs.SelectionProgramLaws.{selection-fault-at, selection-program-passes, selection-programmed-read}
 

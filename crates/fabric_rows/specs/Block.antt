@@ -7,7 +7,7 @@ use Rattle.lists.specs.Lists.{listOf}
 use Rattle.plan.specs.Record.{maxGates}
 use Rattle.networks.specs.Rows.{Row, Y, stride}
 use Rattle.networks.specs.Selection.{selectionRows, selectionOuts, selectionCount}
-use Rattle.selection_rows.specs.SelectionWriteLaws.{SelectionWritePasses}
+use Rattle.write_checks.specs.WriteChecksLaws.{SelectionWritePasses}
 use Rattle.elements.specs.Wires.{maxWires}
 use Rattle.universal.specs.Selector.{pinCount, selection}
 use Rattle.universal.specs.Universal.{universalCount, universalWires, selectNext, mixNext, lowerNext}

@@ -20,8 +20,9 @@ use Rattle.elements.specs.Wires.{maxWires, wiresPut}
 use Rattle.elements.specs.WiresLaws.{wires-put, wire-after}
 use Rattle.elements.specs.Rows.{kindNumber, rowPut, pairRows, rowsPut}
 use Rattle.elements.specs.RowsLaws.{row-on, length-pairRows, length-flat-pairs, rows-put}
-use Rattle.selection_rows.specs.WriteCalls.{selectionWriteFault, selectionWrittenRows, selectionWrittenOutputs}
-use Rattle.selection_rows.specs.SelectionWriteLaws.{SelectionWritePasses, selection-write-succeeds}
+use Rattle.write_checks.specs.WriteChecks.{selectionWriteFault}
+use Rattle.selection_rows.specs.WriteCalls.{selectionWrittenRows, selectionWrittenOutputs}
+use Rattle.write_checks.specs.WriteChecksLaws.{SelectionWritePasses, selection-write-succeeds}
 use Rattle.universal.specs.Selector.{pinCount, selection}
 use Rattle.universal.specs.SelectorLaws.{double}
 use Rattle.universal.specs.Universal.{wiresFrom, universalCount, universalWires, universalOuts, universalRows}

@@ -8,7 +8,7 @@ use Rattle.plan.specs.FaultsLaws.{CountsWithin}
 use Rattle.networks.specs.Rows.{operands, stride, flat}
 use Rattle.networks.specs.Selection.{selectionRows, selectionOuts, selectionCount, selectionWires}
 use Rattle.elements.specs.Wires.{maxWires}
-use Rattle.selection_rows.specs.SelectionWriteLaws.{SelectionWritePasses}
+use Rattle.write_checks.specs.WriteChecksLaws.{SelectionWritePasses}
 use Rattle.universal.specs.Selector.{pinCount, selection}
 use Rattle.universal.specs.Universal.{universalCount}
 use Rattle.universal.specs.Fabric.{gateLevel, inputWires, universalNext, outputNext, fabricCount}

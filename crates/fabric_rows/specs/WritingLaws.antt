@@ -20,7 +20,7 @@ use Rattle.networks.specs.Selection.{selectionRows, selectionOuts, selectionCou
 use Rattle.networks.specs.SelectionLaws.{length-selectionOuts}
 use Rattle.elements.specs.Wires.{wiresPut}
 use Rattle.elements.specs.WiresLaws.{wires-put}
-use Rattle.selection_rows.specs.SelectionWriteLaws.{SelectionWritePasses}
+use Rattle.write_checks.specs.WriteChecksLaws.{SelectionWritePasses}
 use Rattle.universal.specs.Selector.{pinCount, selection}
 use Rattle.universal.specs.Universal.{universalCount, universalWires, universalOuts, universalRows}
 use Rattle.universal.specs.UniversalLaws.{length-universalOuts}

@@ -5,7 +5,7 @@ ghost use lib.ListN.{length, take};
 ghost use Rattle.fault.specs.Buffers.{over};
 ghost use Rattle.networks.specs.Rows.{flat};
 ghost use Rattle.networks.specs.Selection.{selectionRows, selectionOuts};
-ghost use Rattle.selection_rows.specs.SelectionWriteLaws.{SelectionWritePasses};
+ghost use Rattle.write_checks.specs.WriteChecksLaws.{SelectionWritePasses};
 ghost use Rattle.universal.specs.Selector.{pinCount, selection};
 ghost use Rattle.universal.specs.Universal.{wiresFrom, universalOuts, universalRows};
 ghost use Rattle.fabric_rows.specs.Block.{besideRows, middleRows, GateRoom, MixRoom, MiddleRoom, UniversalWires, UniversalRoom, PartsAt};

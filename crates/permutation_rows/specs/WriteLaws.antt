@@ -1,4 +1,4 @@
--- Writing P succeeds exactly if its bounds hold, and what it writes has its stated length.
+-- What writing P writes has its stated length, and is P where its checks pass.
 use mathlib.Core.Path.{_≡_, refl, sym, ap, _∙_}
 use mathlib.Core.List.{List}
 use Prim.Native.Nat.{ℕ, _+_, _-_, _*_, _^_, _≤_}
@@ -19,7 +19,9 @@ use Rattle.sizes.specs.SizesLaws.{SizeIs, size-is, power-allowed}
 use Rattle.elements.specs.Wires.{maxWires}
 use Rattle.elements.specs.WiresLaws.{wires-copied}
 use Rattle.elements.specs.ChecksLaws.{list-faultless, wires-faultless, buffers-faultless}
-use Rattle.permutation_rows.specs.WriteCalls.{rowsOf, writeFault, writtenRows, writtenOutputs}
+use Rattle.write_checks.specs.WriteChecksLaws.{WritePasses, write-passes}
+use Rattle.write_checks.specs.WriteChecks.{rowsOf, writeFault}
+use Rattle.permutation_rows.specs.WriteCalls.{writtenRows, writtenOutputs}
 use Rattle.fault.specs.PartsLaws.{length-over, length-filled, over-again}
 use Rattle.permutation_rows.specs.Levels.{LevelRoom}
 use Rattle.permutation_rows.specs.HalvesLaws.{step-count, length-rows}
@@ -27,64 +29,6 @@ use Rattle.permutation_rows.specs.HalvesLaws.{step-count, length-rows}
 -- a level above 0 has rows
 pub some-rows : (n : ℕ) → 1 ≤ n → 1 ≤ permutationCount n
 some-rows n h = omega (arith, step-count n h, pow-pos (n - 1))
-
--- ---- the checks
-
--- what holds where no check fails
-pub record WritePasses (N : ℕ) (ins : List ℕ) (next rows outputs : ℕ) : Type 0 where
-  pub size : SizeIs N
-  pub inputs : length ins ≡ N
-  pub made : Below next ins
-  pub wires : 1 ≤ rowsOf N → next + 2 * rowsOf N ≤ maxWires
-  pub rowRoom : stride * rowsOf N ≤ rows
-  pub outputRoom : N ≤ outputs
-
-pub write-passes : (N : ℕ) (ins : List ℕ) (next rows outputs : ℕ) → writeFault N ins next rows outputs ≡ 0 → WritePasses N ins next rows outputs
-unfolding writeFault
-write-passes N ins next rows outputs e =
-    let h = simp (and-then-zero, unless-zero, list-faultless, wires-faultless, buffers-faultless) at e in
-    let wires = h .1 .1 .0 in
-    let room = h .1 .1 .1 in
-    record {
-      size = size-is N (h .0);
-      inputs = h .1 .0;
-      made = wires .given;
-      wires = λ some. wires .new (omega arith);
-      rowRoom = room .rowRoom;
-      outputRoom = room .outputRoom;
-    }
-
--- and the other way round
-pub write-done : (N : ℕ) (ins : List ℕ) (next rows outputs : ℕ) → WritePasses N ins next rows outputs → writeFault N ins next rows outputs ≡ 0
-unfolding writeFault
-write-done N ins next rows outputs w =
-    simp (and-then-zero, unless-zero, list-faultless, wires-faultless, buffers-faultless) (
-      rw (w .size .power) at (power-allowed (levelOf N) (w .size .level)),
-      (
-        w .inputs,
-        (
-          record { given = w .made; new = λ some. w .wires (omega arith) },
-          record { rowRoom = w .rowRoom; outputRoom = w .outputRoom },
-        ),
-      ),
-    )
-
--- the bounds for P(2 ^ n)
-pub write-succeeds : (n : ℕ) (ins : List ℕ) (next rows outputs : ℕ) → n ≤ maxLevel → length ins ≡ 2 ^ n → Below next ins
-    → (1 ≤ permutationCount n → next + 2 * permutationCount n ≤ maxWires) → stride * permutationCount n ≤ rows → 2 ^ n ≤ outputs
-    → writeFault (2 ^ n) ins next rows outputs ≡ 0
-write-succeeds n ins next rows outputs small inputs made wires rowRoom outputRoom =
-    let size = size-is (2 ^ n) (power-allowed n small) in
-    let e = ap permutationCount (ceilLog-power n) in
-    write-done (2 ^ n) ins next rows outputs
-    (record {
-      size = size;
-      inputs = inputs;
-      made = made;
-      wires = rw e wires;
-      rowRoom = rw e rowRoom;
-      outputRoom = outputRoom;
-    })
 
 -- ---- what is written
 

@@ -6,17 +6,14 @@ ghost use Rattle.fault.specs.Buffers.{over};
 ghost use Rattle.networks.specs.Rows.{flat};
 ghost use Rattle.networks.specs.Permutation.{permutationRows, permutationOuts};
 ghost use Rattle.sizes.specs.Sizes.{levelOf};
-ghost use Rattle.permutation_rows.specs.WriteLaws.{WritePasses};
-ghost use Rattle.permutation_rows.specs.WriteCalls.{writeFault, writtenRows, writtenOutputs};
+ghost use Rattle.write_checks.specs.WriteChecksLaws.{WritePasses};
+ghost use Rattle.write_checks.specs.WriteChecks.{writeFault};
+ghost use Rattle.permutation_rows.specs.WriteCalls.{writtenRows, writtenOutputs};
 use crate::level::write_level;
 use elements::FabricWire;
-use elements::check_room;
-use elements::check_wires;
 use elements::copy_wires;
 use fault::Answer;
-use fault::Fault;
-use sizes::permutation_count;
-use sizes::size_allowed;
+use write_checks::check_permutation_write;
 
 // P(n) on the input wires, where `next` is the next unmade wire.
 pub fn write_permutation(
@@ -30,7 +27,7 @@ pub fn write_permutation(
     ensures rows { λ _. ⌜ now (rows .exit) ≡ writtenRows n (now (inputs .entry)) (next .0) (now (rows .entry)) (now (outputs .entry)) ⌝ }
     ensures outputs { λ _. ⌜ now (outputs .exit) ≡ writtenOutputs n (now (inputs .entry)) (next .0) (now (rows .entry)) (now (outputs .entry)) ⌝ }
 {
-    match check_write(n, inputs, next, rows.len(), outputs.len()) {
+    match check_permutation_write(n, inputs, next, rows.len(), outputs.len()) {
         Answer::Refused(f) => Answer::Refused(f),
         Answer::Done => {
             put_permutation(n, inputs, next, rows, outputs);
@@ -47,21 +44,4 @@ fn put_permutation(n: u32, inputs: &[u16], next: FabricWire, rows: &mut [u16], o
 {
     copy_wires(inputs, outputs);
     write_level(powers::ceil_log(n), next, rows, outputs);
-}
-
-// The checks of writing P: 2, 12, 13, 11.
-fn check_write(n: u32, inputs: &[u16], next: FabricWire, rows: usize, outputs: usize) -> Answer
-    ensures { λ r. ⌜ answerNumber r ≡ writeFault n (now (inputs .entry)) (next .0) rows outputs ⌝ }
-{
-    if !size_allowed(n) {
-        return Answer::Refused(Fault::Inputs);
-    }
-    if inputs.len() != n as usize {
-        return Answer::Refused(Fault::Contact);
-    }
-    let count = permutation_count(n) as u32;
-    match check_wires(inputs, next, 2 * count) {
-        Answer::Refused(f) => Answer::Refused(f),
-        Answer::Done => check_room(count, n, rows, outputs),
-    }
 }

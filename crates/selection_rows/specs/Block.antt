@@ -1,23 +1,16 @@
--- What the functions under the call answer, and what they need of wires and room.
+-- What the functions under the call need of wires and room.
 use Prim.Native.Nat.{ℕ, _+_, _-_, _*_, _^_, _≤_, _<_}
 use mathlib.Core.Path.{_≡_}
 use mathlib.Core.List.{List}
 use lib.ListN.{length}
 use Rattle.lists.specs.Lists.{Below}
-use Rattle.fault.specs.Checks.{andThen}
 use Rattle.networks.specs.Rows.{stride}
 use Rattle.networks.specs.Permutation.{permutationCount}
-use Rattle.networks.specs.Selection.{chainNext, secondNext, wholeCount, wholeWires, selectionCount, selectionWires}
+use Rattle.networks.specs.Selection.{chainNext, secondNext, wholeCount, wholeWires}
 use Rattle.sizes.specs.Sizes.{levelOf}
 use Rattle.sizes.specs.SizesLaws.{SizeIs}
 use Rattle.elements.specs.Wires.{maxWires}
-use Rattle.elements.specs.Checks.{listFault, wiresFault, buffersFault}
 use Rattle.selection_rows.specs.declared.block.Parts.{Parts}
-
--- the checks after those of the sizes: 12, 13, 11
-abbrev pub lentFault : ℕ → ℕ → List ℕ → ℕ → ℕ → ℕ → ℕ
-lentFault m n ins next rows outputs =
-    andThen (listFault m ins) (andThen (wiresFault ins (selectionWires m n) next) (buffersFault (selectionCount m n) n rows outputs))
 
 -- ---- the block of N positions
 

@@ -19,7 +19,8 @@ use Rattle.networks.specs.SelectionLaws.{WholeWires, whole-wires, length-padded
 use Rattle.sizes.specs.Sizes.{levelOf}
 use Rattle.elements.specs.Wires.{maxWires}
 use Rattle.elements.specs.WiresLaws.{wire-after}
-use Rattle.permutation_rows.specs.WriteLaws.{WritePasses, length-entries, length-outs}
+use Rattle.write_checks.specs.WriteChecksLaws.{WritePasses}
+use Rattle.permutation_rows.specs.WriteLaws.{length-entries, length-outs}
 use Rattle.selection_rows.specs.declared.block.Parts.{Parts}
 use Rattle.selection_rows.specs.Block.{PartsAt, BlockWires, BlockRoom, ChainRoom}
 use Rattle.selection_rows.specs.ChainLaws.{rows-same, outs-same, length-chain}

@@ -1,4 +1,4 @@
--- Writing S succeeds exactly if its bounds hold, and what it writes has its stated length.
+-- What writing S writes has its stated length, and is S where its checks pass.
 use mathlib.Core.Path.{_≡_, sym, ap, _∙_}
 use mathlib.Core.List.{List}
 use Prim.Native.Nat.{ℕ, _+_, _-_, _*_, _^_, _≤_, _<_}
@@ -22,52 +22,10 @@ use Rattle.sizes.specs.Sizes.{maxSize, levelOf}
 use Rattle.sizes.specs.SizesLaws.{size-is, power-allowed, power-small, Sides, sides-allowed, side-level}
 use Rattle.elements.specs.Wires.{maxWires}
 use Rattle.elements.specs.ChecksLaws.{list-faultless, wires-faultless, buffers-faultless}
-use Rattle.selection_rows.specs.WriteCalls.{selectionWriteFault, selectionWrittenRows, selectionWrittenOutputs}
+use Rattle.write_checks.specs.WriteChecksLaws.{SelectionWritePasses, selection-write-passes, some-wire}
+use Rattle.write_checks.specs.WriteChecks.{selectionWriteFault}
+use Rattle.selection_rows.specs.WriteCalls.{selectionWrittenRows, selectionWrittenOutputs}
 use Rattle.selection_rows.specs.Block.{BlockRoom}
-
--- ---- the checks
-
--- what holds where no check fails
-pub record SelectionWritePasses (m n : ℕ) (ins : List ℕ) (next rows outputs : ℕ) : Type 0 where
-  pub sides : Sides m n
-  pub inputs : length ins ≡ m
-  pub made : Below next ins
-  pub wires : 1 ≤ selectionWires m n → next + selectionWires m n ≤ maxWires
-  pub rowRoom : stride * selectionCount m n ≤ rows
-  pub outputRoom : n ≤ outputs
-
-module _ (m n : ℕ) (ins : List ℕ) (next rows outputs : ℕ) where
-  pub selection-write-passes : selectionWriteFault m n ins next rows outputs ≡ 0 → SelectionWritePasses m n ins next rows outputs
-  unfolding selectionWriteFault
-  selection-write-passes e =
-      let h = simp (and-then-zero, sides-allowed, list-faultless, wires-faultless, buffers-faultless) at e in
-      let wires = h .1 .1 .0 in
-      let room = h .1 .1 .1 in
-      record {
-        sides = h .0;
-        inputs = h .1 .0;
-        made = wires .given;
-        wires = wires .new;
-        rowRoom = room .rowRoom;
-        outputRoom = room .outputRoom;
-      }
-
-  -- and the other way round
-  pub selection-write-succeeds : Sides m n → length ins ≡ m → Below next ins → (1 ≤ selectionWires m n → next + selectionWires m n ≤ maxWires)
-      → stride * selectionCount m n ≤ rows → n ≤ outputs → selectionWriteFault m n ins next rows outputs ≡ 0
-  unfolding selectionWriteFault
-  selection-write-succeeds sides inputs made wires rowRoom outputRoom =
-      simp (and-then-zero, sides-allowed, list-faultless, wires-faultless, buffers-faultless)
-      (sides, (inputs, (record { given = made; new = wires }, record { rowRoom = rowRoom; outputRoom = outputRoom })))
-
--- a row makes a wire or two
-pub rows-make : (m n : ℕ) → selectionCount m n ≤ selectionWires m n
-unfolding selectionCount selectionWires wholeCount wholeWires
-rows-make m n = omega arith
-
--- wire 0 is made
-pub some-wire : {m n : ℕ} {ins : List ℕ} {next rows outputs : ℕ} → SelectionWritePasses m n ins next rows outputs → 0 < next
-some-wire {next = next} w = omega (arith, w .made .each 0 (omega arith))
 
 -- ---- what is written
 

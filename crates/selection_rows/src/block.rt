@@ -8,7 +8,7 @@ ghost use Rattle.networks.specs.Rows.{flat};
 ghost use Rattle.networks.specs.Permutation.{permutationRows, permutationOuts};
 ghost use Rattle.networks.specs.Selection.{chainRows, chainOuts, wholeRows, wholeOuts};
 ghost use Rattle.sizes.specs.Sizes.{levelOf};
-ghost use Rattle.permutation_rows.specs.WriteLaws.{WritePasses};
+ghost use Rattle.write_checks.specs.WriteChecksLaws.{WritePasses};
 ghost use Rattle.selection_rows.specs.Block.{PartsAt, BlockWires, BlockRoom, ChainRoom, LinkRoom};
 use elements::FabricWire;
 use elements::Kind;

@@ -5,22 +5,16 @@ ghost use Rattle.fault.specs.Number.{answerNumber};
 ghost use Rattle.fault.specs.Buffers.{over};
 ghost use Rattle.networks.specs.Rows.{flat};
 ghost use Rattle.networks.specs.Selection.{selectionRows, selectionOuts};
-ghost use Rattle.sizes.specs.SizesLaws.{Sides};
-ghost use Rattle.selection_rows.specs.Block.{lentFault};
-ghost use Rattle.selection_rows.specs.WriteCalls.{selectionWriteFault, selectionWrittenRows, selectionWrittenOutputs};
-ghost use Rattle.selection_rows.specs.SelectionWriteLaws.{SelectionWritePasses};
+ghost use Rattle.write_checks.specs.WriteChecks.{selectionWriteFault};
+ghost use Rattle.selection_rows.specs.WriteCalls.{selectionWrittenRows, selectionWrittenOutputs};
+ghost use Rattle.write_checks.specs.WriteChecksLaws.{SelectionWritePasses};
 use crate::block::write_block;
 use elements::FabricWire;
-use elements::check_room;
-use elements::check_wires;
 use elements::copy_wires;
 use fault::Answer;
-use fault::Fault;
 use sizes::MAX_SIZE;
-use sizes::check_sides;
-use sizes::selection_count;
 use sizes::selection_size;
-use sizes::selection_wires;
+use write_checks::check_selection_write;
 
 // The places of the largest block.
 const PLACES: usize = MAX_SIZE as usize;
@@ -38,7 +32,7 @@ pub fn write_selection(
     ensures rows { λ _. ⌜ now (rows .exit) ≡ selectionWrittenRows m n (now (inputs .entry)) (next .0) (now (rows .entry)) (now (outputs .entry)) ⌝ }
     ensures outputs { λ _. ⌜ now (outputs .exit) ≡ selectionWrittenOutputs m n (now (inputs .entry)) (next .0) (now (rows .entry)) (now (outputs .entry)) ⌝ }
 {
-    match check_selection(m, n, inputs, next, rows.len(), outputs.len()) {
+    match check_selection_write(m, n, inputs, next, rows.len(), outputs.len()) {
         Answer::Refused(f) => Answer::Refused(f),
         Answer::Done => {
             put_selection(m, n, inputs, next, rows, outputs);
@@ -67,42 +61,4 @@ fn put_selection(
     copy_wires(inputs, &mut from);
     write_block(size, next, rows, &mut from, &mut to);
     copy_wires(&to[..end], outputs);
-}
-
-// The checks of writing S: 2, 4, 12, 13, 11.
-fn check_selection(
-    m: u32,
-    n: u32,
-    inputs: &[u16],
-    next: FabricWire,
-    rows: usize,
-    outputs: usize,
-) -> Answer
-    ensures { λ r. ⌜ answerNumber r ≡ selectionWriteFault m n (now (inputs .entry)) (next .0) rows outputs ⌝ }
-{
-    match check_sides(m, n) {
-        Answer::Refused(f) => Answer::Refused(f),
-        Answer::Done => check_lent(m, n, inputs, next, rows, outputs),
-    }
-}
-
-// Those of the lent list and buffers: 12, 13, 11.
-fn check_lent(
-    m: u32,
-    n: u32,
-    inputs: &[u16],
-    next: FabricWire,
-    rows: usize,
-    outputs: usize,
-) -> Answer
-    requires { ⌜ Sides m n ⌝ }
-    ensures { λ r. ⌜ answerNumber r ≡ lentFault m n (now (inputs .entry)) (next .0) rows outputs ⌝ }
-{
-    if inputs.len() != m as usize {
-        return Answer::Refused(Fault::Contact);
-    }
-    match check_wires(inputs, next, selection_wires(m, n) as u32) {
-        Answer::Refused(f) => Answer::Refused(f),
-        Answer::Done => check_room(selection_count(m, n) as u32, n, rows, outputs),
-    }
 }

@@ -2,7 +2,7 @@
 use native.Mathlib.Omega.{arith}
 use borrow.Author.Needs.{needs}
 use Rattle.sizes.specs.SizesLaws.{few-wires}
-use Rattle.selection_rows.specs.SelectionWriteLaws.{rows-make}
+use Rattle.write_checks.specs.WriteChecksLaws.{rows-make}
 use Rattle.fabric_rows.proofs.counting.selection_counts.Statement.{statement}
 use Rattle.fabric_rows.proofs.counting.selection_counts.Tie as tie
 

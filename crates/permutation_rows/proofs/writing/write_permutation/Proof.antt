@@ -4,15 +4,15 @@ use lib.ListN.{length}
 use borrow.Author.Needs.{needs}
 use Rattle.fault.specs.Number.{faultNumber, answerNumber}
 use Rattle.fault.specs.BuffersLaws.{filled-refused, is-filled}
-use Rattle.permutation_rows.specs.WriteCalls.{writeFault}
-use Rattle.permutation_rows.specs.WriteLaws.{write-passes}
+use Rattle.write_checks.specs.WriteChecks.{writeFault}
+use Rattle.write_checks.specs.WriteChecksLaws.{write-passes}
 use Rattle.permutation_rows.proofs.writing.write_permutation.Statement.{statement}
 use Rattle.permutation_rows.proofs.writing.write_permutation.Tie as tie
 
 -- where the checks are done, none fails
 none : (c : tie.After-enum-told) → let a = c .before .before .before .before .before .before .args in
     0 ≡ writeFault (a .n) (a .inputs .now) (a .next .0) (length (a .rows .now)) (length (a .outputs .now))
-none c = ap answerNumber (sym (c .enum-told .given .1)) ∙ c .before .before .check-write .ensures
+none c = ap answerNumber (sym (c .enum-told .given .1)) ∙ c .before .before .check-permutation-write .ensures
 
 passes : tie.Need-put-permutation-requires
 passes c κs = write-passes _ _ _ _ _ (sym (none (c .before .before)))
@@ -20,7 +20,7 @@ passes c κs = write-passes _ _ _ _ _ (sym (none (c .before .before)))
 -- where one fails, its number is the answer
 refusal : (c : tie.After-f) → let a = c .before .before .before .before .before .before .args in
     faultNumber (c .f .given .0 .0) ≡ writeFault (a .n) (a .inputs .now) (a .next .0) (length (a .rows .now)) (length (a .outputs .now))
-refusal c = ap answerNumber (sym (c .f .given .1)) ∙ c .before .before .check-write .ensures
+refusal c = ap answerNumber (sym (c .f .given .1)) ∙ c .before .before .check-permutation-write .ensures
 
 refused : tie.Need-returns
 refused c =

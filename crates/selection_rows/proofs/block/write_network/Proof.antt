@@ -1,6 +1,6 @@
 -- `selection_rows::block::write_network` meets its contract: P's checks pass, so that its call writes P. Assumes nothing.
 use borrow.Author.Needs.{needs}
-use Rattle.permutation_rows.specs.WriteLaws.{write-done}
+use Rattle.write_checks.specs.WriteChecksLaws.{write-done}
 use Rattle.selection_rows.specs.BlockLaws.{filled-over}
 use Rattle.selection_rows.proofs.block.write_network.Statement.{statement}
 use Rattle.selection_rows.proofs.block.write_network.Tie as tie

@@ -4,15 +4,15 @@ use lib.ListN.{length}
 use borrow.Author.Needs.{needs}
 use Rattle.fault.specs.Number.{faultNumber, answerNumber}
 use Rattle.fault.specs.BuffersLaws.{filled-refused, is-filled}
-use Rattle.selection_rows.specs.WriteCalls.{selectionWriteFault}
-use Rattle.selection_rows.specs.SelectionWriteLaws.{selection-write-passes}
+use Rattle.write_checks.specs.WriteChecks.{selectionWriteFault}
+use Rattle.write_checks.specs.WriteChecksLaws.{selection-write-passes}
 use Rattle.selection_rows.proofs.writing.write_selection.Statement.{statement}
 use Rattle.selection_rows.proofs.writing.write_selection.Tie as tie
 
 -- where the checks are done, none fails
 none : (c : tie.After-enum-told) → let a = c .before .before .before .before .before .before .args in
     0 ≡ selectionWriteFault (a .m) (a .n) (a .inputs .now) (a .next .0) (length (a .rows .now)) (length (a .outputs .now))
-none c = ap answerNumber (sym (c .enum-told .given .1)) ∙ c .before .before .check-selection .ensures
+none c = ap answerNumber (sym (c .enum-told .given .1)) ∙ c .before .before .check-selection-write .ensures
 
 passes : tie.Need-put-selection-requires
 passes c κs = selection-write-passes _ _ _ _ _ _ (sym (none (c .before .before)))
@@ -21,7 +21,7 @@ passes c κs = selection-write-passes _ _ _ _ _ _ (sym (none (c .before .before)
 refusal : (c : tie.After-f) → let a = c .before .before .before .before .before .before .args in
     faultNumber (c .f .given .0 .0)
     ≡ selectionWriteFault (a .m) (a .n) (a .inputs .now) (a .next .0) (length (a .rows .now)) (length (a .outputs .now))
-refusal c = ap answerNumber (sym (c .f .given .1)) ∙ c .before .before .check-selection .ensures
+refusal c = ap answerNumber (sym (c .f .given .1)) ∙ c .before .before .check-selection-write .ensures
 
 refused : tie.Need-returns
 refused c =

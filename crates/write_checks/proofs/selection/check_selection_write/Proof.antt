@@ -1,13 +1,13 @@
--- `selection_rows::writing::check_selection` meets its contract: 2 and 4 first, then the others. Assumes nothing.
+-- `write_checks::selection::check_selection_write` meets its contract: 2 and 4 first, then the others. Assumes nothing.
 use mathlib.Core.Path.{_≡_, sym, ap, _∙_}
 use borrow.Author.Needs.{needs}
 use Rattle.fault.specs.Number.{answerNumber}
 use Rattle.fault.specs.ChecksLaws.{first-refuses, second-answers}
 use Rattle.sizes.specs.Sizes.{sidesFault}
 use Rattle.sizes.specs.SizesLaws.{sides-allowed}
-use Rattle.selection_rows.specs.WriteCalls.{selectionWriteFault}
-use Rattle.selection_rows.proofs.writing.check_selection.Statement.{statement}
-use Rattle.selection_rows.proofs.writing.check_selection.Tie as tie
+use Rattle.write_checks.specs.WriteChecks.{selectionWriteFault}
+use Rattle.write_checks.proofs.selection.check_selection_write.Statement.{statement}
+use Rattle.write_checks.proofs.selection.check_selection_write.Tie as tie
 
 -- where the sizes are allowed
 allowed : (c : tie.After-enum-told) → let a = c .before .before .before .before .args in 0 ≡ sidesFault (a .m) (a .n)
@@ -26,7 +26,7 @@ asked : tie.Need-returns-2
 unfolding selectionWriteFault
 asked c = second-answers _ _ _ (allowed (c .before)) (c .check-lent .ensures)
 
-pub check-selection-spec : {M : Type 1} → statement M
-check-selection-spec =
+pub check-selection-write-spec : {M : Type 1} → statement M
+check-selection-write-spec =
     tie.close
     (tie.spec (λ c κs. search needs) (λ c. search needs) (λ c. search needs) sides refused asked)

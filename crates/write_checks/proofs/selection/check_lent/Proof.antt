@@ -1,4 +1,4 @@
--- `selection_rows::writing::check_lent` meets its contract: 12, 13, 11, each asked where those before it pass. Assumes nothing.
+-- `write_checks::selection::check_lent` meets its contract: 12, 13, 11, each asked where those before it pass. Assumes nothing.
 use native.Mathlib.Omega.{arith}
 use mathlib.Core.Path.{_≡_, sym, ap, _∙_}
 use lib.ListN.{length}
@@ -10,9 +10,9 @@ use Rattle.networks.specs.Selection.{selectionCount, selectionWires}
 use Rattle.sizes.specs.SizesLaws.{few-wires}
 use Rattle.elements.specs.Checks.{listFault, wiresFault, buffersFault}
 use Rattle.elements.specs.ChecksLaws.{list-faultless}
-use Rattle.selection_rows.specs.SelectionWriteLaws.{rows-make}
-use Rattle.selection_rows.proofs.writing.check_lent.Statement.{statement}
-use Rattle.selection_rows.proofs.writing.check_lent.Tie as tie
+use Rattle.write_checks.specs.WriteChecksLaws.{rows-make}
+use Rattle.write_checks.proofs.selection.check_lent.Statement.{statement}
+use Rattle.write_checks.proofs.selection.check_lent.Tie as tie
 
 other-length : tie.Need-returns
 unfolding listFault

@@ -1,4 +1,4 @@
--- `permutation_rows::writing::check_write` meets its contract: 2, 12, 13, 11, each asked where those before it pass. Assumes nothing.
+-- `write_checks::permutation::check_permutation_write` meets its contract: 2, 12, 13, 11, each asked where those before it pass. Assumes nothing.
 use native.Mathlib.Omega.{arith}
 use mathlib.Core.Path.{_≡_, sym, ap, _∙_}
 use mathlib.Core.Bool.{true}
@@ -13,9 +13,9 @@ use Rattle.networks.specs.Permutation.{permutationCount}
 use Rattle.sizes.specs.Sizes.{maxSize, maxLevel, sizeAllowed}
 use Rattle.sizes.specs.SizesLaws.{size-is, few-rows}
 use Rattle.elements.specs.Checks.{listFault, wiresFault, buffersFault}
-use Rattle.permutation_rows.specs.WriteCalls.{rowsOf, writeFault}
-use Rattle.permutation_rows.proofs.writing.check_write.Statement.{statement}
-use Rattle.permutation_rows.proofs.writing.check_write.Tie as tie
+use Rattle.write_checks.specs.WriteChecks.{rowsOf, writeFault}
+use Rattle.write_checks.proofs.permutation.check_permutation_write.Statement.{statement}
+use Rattle.write_checks.proofs.permutation.check_permutation_write.Tie as tie
 
 size : tie.Need-returns
 unfolding writeFault
@@ -64,8 +64,8 @@ room c =
     second-answers _ _ _ (ap answerNumber (sym (c .before .enum-told .given .1)) ∙ asked .check-wires .ensures) (c .check-room .ensures)
     ∙ rest (asked .before)
 
-pub check-write-spec : {M : Type 1} → statement M
-check-write-spec =
+pub check-permutation-write-spec : {M : Type 1} → statement M
+check-permutation-write-spec =
     tie.close
     (tie.spec
     (λ c κs. search needs) size count (λ c κs. search needs) (λ c. omega (arith, few c)) (λ c. omega (arith, few c)) (λ c κs. search needs)

@@ -1,0 +1,27 @@
+ghost use mathlib.Core.Path.{_≡_};
+ghost use Rattle.fault.specs.Number.{answerNumber};
+ghost use Rattle.write_checks.specs.WriteChecks.{writeFault};
+use elements::FabricWire;
+use elements::check_room;
+use elements::check_wires;
+use fault::Answer;
+use fault::Fault;
+use sizes::permutation_count;
+use sizes::size_allowed;
+
+// The checks of writing P: 2, 12, 13, 11.
+pub fn check_permutation_write(n: u32, inputs: &[u16], next: FabricWire, rows: usize, outputs: usize) -> Answer
+    ensures { λ r. ⌜ answerNumber r ≡ writeFault n (now (inputs .entry)) (next .0) rows outputs ⌝ }
+{
+    if !size_allowed(n) {
+        return Answer::Refused(Fault::Inputs);
+    }
+    if inputs.len() != n as usize {
+        return Answer::Refused(Fault::Contact);
+    }
+    let count = permutation_count(n) as u32;
+    match check_wires(inputs, next, 2 * count) {
+        Answer::Refused(f) => Answer::Refused(f),
+        Answer::Done => check_room(count, n, rows, outputs),
+    }
+}
