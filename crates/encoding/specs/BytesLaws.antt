@@ -12,7 +12,7 @@ use Rattle.plan.specs.Rules.{operandAllowed}
 use Rattle.plan.specs.Faults.{Accepted}
 use Rattle.plan.specs.RulesLaws.{count-bounds, map-bound, operand-bounds, table-bound, source-bounds}
 use Rattle.plan.specs.FaultsLaws.{AllowedGate, accepted-allowed}
-use Rattle.reading.specs.PlanFile.{mapBit}
+use Rattle.cursor.specs.Fields.{mapBit}
 use Rattle.encoding.specs.Encoding.{byte, word, whereStanding, encodeGate, joined, encode, LeavesOutDefaults, Choice, OfBytes}
 
 -- numbers written in one and two bytes

@@ -10,7 +10,7 @@ use Rattle.plan.specs.declared.record.Plan.{Plan}
 use Rattle.plan.specs.Record.{gateAt, outputAt, gateWire, planOf}
 use Rattle.plan.specs.Rules.{mapAllowed}
 use Rattle.plan.specs.Faults.{Accepted}
-use Rattle.reading.specs.PlanFile.{mapBit}
+use Rattle.cursor.specs.Fields.{mapBit}
 
 -- a one-byte number
 abbrev pub byte : ℕ → List ℕ

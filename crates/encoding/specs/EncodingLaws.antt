@@ -19,8 +19,9 @@ use Rattle.plan.specs.Rules.{countAllowed, mapAllowed, operandAllowed, tableAll
 use Rattle.plan.specs.Faults.{Accepted}
 use Rattle.plan.specs.RulesLaws.{count-bounds, default-allowed}
 use Rattle.plan.specs.FaultsLaws.{AllowedGate, AllowedPlan, accepted-allowed}
-use Rattle.reading.specs.Parsing.{Parsed, got}
-use Rattle.reading.specs.PlanFile.{mapBit, gateStep, outputStep, notStub, atEnd, planFile, outcome, planRead}
+use Rattle.cursor.specs.Parsing.{Parsed, got}
+use Rattle.cursor.specs.Fields.{mapBit, gateStep}
+use Rattle.reading.specs.PlanFile.{outputStep, notStub, atEnd, planFile, outcome, planRead}
 use Rattle.encoding.specs.Encoding.{byte, word, whereStanding, encodeGate, joined, encode, LeavesOutDefaults, Choice, used, OfBytes, Encoded}
 use Rattle.encoding.specs.ListLaws.{joined-length, joined-shorter, used-places}
 use Rattle.encoding.specs.ReadingLaws.{Stands, stands-append, stands-split, nothing-stands, whole-stands, stands-to-end, stands-length}

@@ -15,7 +15,7 @@ use borrow.Author.Tests.{ltb-false, le-ltb}
 use Rattle.lists.specs.Lists.{listOf}
 use Rattle.fault.specs.declared.Fault.{Fault}
 use Rattle.fault.specs.ChecksLaws.{number-positive}
-use Rattle.reading.specs.Parsing.{Parsed, got, refused, Step, followed, field, wordAt, byteAt, standing, inOrder}
+use Rattle.cursor.specs.Parsing.{Parsed, got, refused, Step, followed, field, wordAt, byteAt, standing, inOrder}
 use Rattle.encoding.specs.ListLaws.{joined-same}
 use Rattle.encoding.specs.Encoding.{byte, word, joined, whereStanding, OfBytes}
 

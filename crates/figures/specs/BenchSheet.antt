@@ -8,8 +8,9 @@ use Rattle.plan.specs.declared.record.PlanWire.{PlanWire}
 use Rattle.plan.specs.declared.record.Plan.{Plan}
 use Rattle.plan.specs.Record.{places, zeroPlan}
 use Rattle.plan.specs.Rules.{countAllowed, mapAllowed, operandAllowed, tableAllowed, sourceAllowed}
-use Rattle.reading.specs.Parsing.{field, inOrder}
-use Rattle.reading.specs.PlanFile.{gateStep, notStub, atEnd, planFile, ReadOutcome, planRead}
+use Rattle.cursor.specs.Parsing.{field, inOrder}
+use Rattle.cursor.specs.Fields.{gateStep}
+use Rattle.reading.specs.PlanFile.{notStub, atEnd, planFile, ReadOutcome, planRead}
 use Rattle.lists.specs.Lists.{listOf}
 use Rattle.fault.specs.Checks.{firstOf, roomFault}
 use Rattle.plan.specs.Faults.{countsFault, gateFault, outputFault, planFault}

@@ -1,10 +1,7 @@
 -- Document 01, "The plan": the plan file, and reading it.
--- reading steps and how one follows another
-pub mod Parsing
-pub mod ParsingLaws
--- the plan file
+-- the plan file and the order of its checks
 pub mod PlanFile
--- what the answers of the reading calls say
+-- what the answers of reading say
 pub mod Answers
 -- the plan file in the parts that the code reads
 pub mod Parts

@@ -8,8 +8,9 @@ use Rattle.plan.specs.declared.record.Plan.{Plan}
 use Rattle.plan.specs.declared.record.PlanWire.{PlanWire}
 use Rattle.plan.specs.Record.{maxInputs, maxGates, maxOutputs, wire, zeroGate, places, planOf}
 use Rattle.reading.specs.declared.reading.PartRead.{PartRead}
-use Rattle.reading.specs.Parsing.{Step, _>>=_, pure}
-use Rattle.reading.specs.PlanFile.{countField, notStub, atEnd, gateSteps, outputSteps}
+use Rattle.cursor.specs.Parsing.{Step, _>>=_, pure}
+use Rattle.cursor.specs.Fields.{countField}
+use Rattle.reading.specs.PlanFile.{notStub, atEnd, gateSteps, outputSteps}
 use Rattle.reading.specs.Answers.{partAnswer}
 
 -- the record with these gates, its other gate places zero

@@ -14,9 +14,10 @@ use Rattle.plan.specs.Record.{maxInputs, maxGates, maxOutputs, wire, zeroGate, 
 use Rattle.plan.specs.RecordLaws.{places-more}
 use Rattle.plan.specs.Rules.{countAllowed}
 use Rattle.plan.specs.RulesLaws.{count-bounds}
-use Rattle.reading.specs.Parsing.{Parsed, got, refused, Step, followed, _>>=_, wordAt, inOrder}
-use Rattle.reading.specs.ParsingLaws.{field-allowed, item-got, item-refused, still-refused}
-use Rattle.reading.specs.PlanFile.{countField, planFile}
+use Rattle.cursor.specs.Parsing.{Parsed, got, refused, Step, followed, _>>=_, wordAt, inOrder}
+use Rattle.cursor.specs.ParsingLaws.{field-allowed, item-got, item-refused, still-refused}
+use Rattle.cursor.specs.Fields.{countField}
+use Rattle.reading.specs.PlanFile.{planFile}
 use Rattle.reading.specs.Parts.{withGates, withOutputs, countsPart, headerPart, gatesPart, outputsPart, endPart, bodyPart, Blank}
 
 -- i items are read, from the cursor `start` up to `at`, and stand in their places

@@ -1,50 +1,16 @@
 -- Document 01, "The plan": the plan file, and the order of checks in reading.
-use Prim.Native.Nat.{ℕ, _-_, _/_, _%_, _^_}
-use mathlib.Core.Bool.{Bool, cond}
+use Prim.Native.Nat.{ℕ}
+use mathlib.Core.Bool.{cond}
 use mathlib.Core.List.{List}
-use lib.Dec.{ltb, eqb}
+use lib.Dec.{ltb}
 use lib.ListN.{length}
 use Rattle.fault.specs.declared.Fault.{Fault}
 use Rattle.plan.specs.declared.record.Gate.{Gate}
 use Rattle.plan.specs.declared.record.Plan.{Plan}
 use Rattle.plan.specs.declared.record.PlanWire.{PlanWire}
 use Rattle.plan.specs.Record.{maxInputs, maxGates, maxOutputs, wire, gateWire, planOf, zeroPlan}
-use Rattle.plan.specs.Rules.{countAllowed, mapAllowed, operandAllowed, tableAllowed, sourceAllowed}
-use Rattle.reading.specs.Parsing.{Parsed, Step, got, refused, refuse, _>>=_, pure, wordAt, byteAt, field, standing, inOrder}
-
-abbrev pub countField : ℕ → Fault → Step ℕ
-countField limit f = field 2 wordAt (countAllowed limit) f
-
-abbrev pub mapField : Step ℕ
-mapField = field 1 byteAt mapAllowed Fault.Map
-
--- an operand of the gate whose own wire is `own`
-abbrev pub operandField : ℕ → Step ℕ
-operandField own = field 2 wordAt (operandAllowed own) Fault.Operand
-
-abbrev pub tableField : Step ℕ
-tableField = field 1 byteAt tableAllowed Fault.Table
-
--- an output of a plan with u inputs and k gates
-abbrev pub outputField : ℕ → ℕ → Step ℕ
-outputField u k = field 2 wordAt (sourceAllowed u k) Fault.Source
-
--- whether bit i of a map byte stands
-abbrev pub mapBit : ℕ → ℕ → Bool
-mapBit map i = eqb (map / 2 ^ i % 2) 1
-
--- the fields of a gate with this map byte, only those whose map bit stands: an absent first operand is the wire just before the gate, an
--- absent second operand is the same wire as the first, an absent table is 8
-abbrev pub gateFields : ℕ → ℕ → Step Gate
-gateFields own map =
-    standing (mapBit map 0) (operandField own) (own - 1) >>= λ first.
-    standing (mapBit map 1) (operandField own) first >>= λ second.
-    standing (mapBit map 2) tableField 8 >>= λ table.
-    pure (record { first = wire first; second = wire second; table = table })
-
--- a gate: one map byte, then its fields
-unfoldable pub gateStep : ℕ → Step Gate
-gateStep own = mapField >>= gateFields own
+use Rattle.cursor.specs.Parsing.{Parsed, Step, got, refused, refuse, _>>=_, pure, inOrder}
+use Rattle.cursor.specs.Fields.{countField, outputField, gateStep}
 
 -- the k gates of a plan with u inputs; gate i, counted from 0, has the wire u + i + 1
 abbrev pub gateSteps : ℕ → ℕ → Step (List Gate)

@@ -1,5 +1,4 @@
 // Reading a plan from a file. For any bytes the reader says, with proof, whether they are a plan, which fault they have and where.
-mod cursor;
 mod reading;
 
 pub use reading::PlanRead;

@@ -4,23 +4,17 @@ ghost use mathlib.Core.Path.{_≡_};
 ghost use mathlib.Core.List.{[]};
 ghost use Prim.Native.Nat.{_≤_, _<_};
 ghost use Rattle.plan.specs.Record.{maxInputs, maxGates, maxOutputs, wire, places, planOf, zeroPlan, gateWire};
-ghost use Rattle.reading.specs.Parsing.{standing};
-ghost use Rattle.reading.specs.PlanFile.{countField, mapBit, operandField, tableField, gateFields, gateStep, planRead};
-ghost use Rattle.reading.specs.Answers.{countAnswer, operandAnswer, tableAnswer, gateAnswer, partAnswer, readAnswer};
+ghost use Rattle.reading.specs.PlanFile.{planRead};
+ghost use Rattle.reading.specs.Answers.{partAnswer, readAnswer};
 ghost use Rattle.reading.specs.Parts.{Blank, Limited, CountsRead, GatesRead, countsPart, headerPart, outputsPart, endPart, bodyPart};
-use crate::cursor::Cursor;
-use crate::cursor::MapStep;
-use crate::cursor::OperandStep;
-use crate::cursor::OutputStep;
-use crate::cursor::TableStep;
-use crate::cursor::left_of;
-use crate::cursor::word_at;
+use cursor::CountStep;
+use cursor::Cursor;
+use cursor::GateStep;
+use cursor::OutputStep;
 use fault::Fault;
 use fault::Refusal;
-use plan::Gate;
 use plan::Plan;
 use plan::PlanWire;
-use plan::count_allowed;
 
 pub enum ReadAnswer {
     Accepted,
@@ -31,16 +25,6 @@ pub enum ReadAnswer {
 pub struct PlanRead {
     pub answer: ReadAnswer,
     pub plan: Plan,
-}
-
-pub(crate) enum GateStep {
-    Gate(Gate, Cursor),
-    Refused(Refusal),
-}
-
-pub(crate) enum CountStep {
-    Count(u16, Cursor),
-    Refused(Refusal),
 }
 
 pub(crate) enum Progress {
@@ -98,27 +82,6 @@ fn refused_part(x: Refusal) -> PartRead
     }
 }
 
-// A count at a cursor, from 1 to its limit; the fault is its word in the refusal table.
-fn read_count(file: &[u8], c: Cursor, limit: usize, fault: Fault) -> CountStep
-    ensures { λ r. ⌜ countAnswer r ≡ countField limit fault (now (file .entry)) (c .at) ⌝ }
-{
-    let at = c.at;
-    if left_of(file, at) < 2 {
-        return CountStep::Refused(Refusal {
-            fault: Fault::Cut,
-            at: at,
-        });
-    }
-    let count = word_at(file, at);
-    if count_allowed(count as u32, limit) {
-        return CountStep::Count(count, Cursor { at: at + 2 });
-    }
-    CountStep::Refused(Refusal {
-        fault: fault,
-        at: at,
-    })
-}
-
 // The record of three counts, every place zero.
 fn blank_plan(inputs: u16, gates: u16, outputs: u16) -> Plan
     ensures { λ r. ⌜ r ≡ planOf inputs gates outputs [] [] ⌝ }
@@ -147,16 +110,11 @@ fn read_header(file: &[u8]) -> PartRead
 fn read_counts(file: &[u8], c: Cursor) -> PartRead
     ensures { λ r. ⌜ CountsRead countsPart (now (file .entry)) (c .at) r ⌝ }
 {
-    match read_count(file, c, Plan::MAX_INPUTS, Fault::Inputs) {
+    match c.count(file, Plan::MAX_INPUTS, Fault::Inputs) {
         CountStep::Refused(x) => refused_part(x),
-        CountStep::Count(u, c1) => match read_count(file, c1, Plan::MAX_GATES, Fault::Gates) {
+        CountStep::Count(u, c1) => match c1.count(file, Plan::MAX_GATES, Fault::Gates) {
             CountStep::Refused(x) => refused_part(x),
-            CountStep::Count(k, c2) => match read_count(
-                file,
-                c2,
-                Plan::MAX_OUTPUTS,
-                Fault::Outputs,
-            ) {
+            CountStep::Count(k, c2) => match c2.count(file, Plan::MAX_OUTPUTS, Fault::Outputs) {
                 CountStep::Refused(x) => refused_part(x),
                 CountStep::Count(v, c3) => PartRead {
                     progress: Progress::Next(c3),
@@ -225,7 +183,7 @@ fn read_gates(file: &[u8], c: Cursor, p: Plan) -> PartRead
     let mut at = c;
     let mut i: usize = 0;
     while i < count {
-        match read_gate(file, at, gate_wire(inputs, i)) {
+        match at.gate(file, gate_wire(inputs, i)) {
             GateStep::Refused(x) => {
                 return refused_part(x);
             }
@@ -270,76 +228,4 @@ fn read_outputs(file: &[u8], c: Cursor, p: Plan) -> PartRead
         progress: Progress::Next(at),
         plan: plan,
     }
-}
-
-// A gate: the map byte, then the fields that it says stand.
-fn read_gate(file: &[u8], c: Cursor, own: PlanWire) -> GateStep
-    requires { ⌜ 1 ≤ own .0 ⌝ }
-    ensures { λ r. ⌜ gateAnswer r ≡ gateStep (own .0) (now (file .entry)) (c .at) ⌝ }
-{
-    match c.map_byte(file) {
-        MapStep::Refused(x) => GateStep::Refused(x),
-        MapStep::Map(map, next) => read_fields(file, next, own, map),
-    }
-}
-
-// The fields of a gate with this map byte.
-fn read_fields(file: &[u8], c: Cursor, own: PlanWire, map: u8) -> GateStep
-    requires { ⌜ 1 ≤ own .0 ⌝ }
-    ensures { λ r. ⌜ gateAnswer r ≡ gateFields (own .0) map (now (file .entry)) (c .at) ⌝ }
-{
-    match standing_operand(file, c, map, 0, own, PlanWire(own.0 - 1)) {
-        OperandStep::Refused(x) => GateStep::Refused(x),
-        OperandStep::Operand(first, c1) => match standing_operand(file, c1, map, 1, own, first) {
-            OperandStep::Refused(x) => GateStep::Refused(x),
-            OperandStep::Operand(second, c2) => match standing_table(file, c2, map, 2) {
-                TableStep::Refused(x) => GateStep::Refused(x),
-                TableStep::Table(table, c3) => GateStep::Gate(
-                    Gate {
-                        first: first,
-                        second: second,
-                        table: table,
-                    },
-                    c3,
-                ),
-            },
-        },
-    }
-}
-
-// Whether a bit of a map byte stands.
-fn map_bit(map: u8, place: u8) -> bool
-    requires { ⌜ place < 8 ⌝ }
-    ensures { λ r. ⌜ r ≡ mapBit map place ⌝ }
-{
-    (map >> place) & 1 == 1
-}
-
-// An operand if its map bit stands, its default if not.
-fn standing_operand(
-    file: &[u8],
-    c: Cursor,
-    map: u8,
-    place: u8,
-    own: PlanWire,
-    default: PlanWire,
-) -> OperandStep
-    requires { ⌜ place < 8 ⌝ }
-    ensures { λ r. ⌜ operandAnswer r ≡ standing (mapBit map place) (operandField (own .0)) (default .0) (now (file .entry)) (c .at) ⌝ }
-{
-    if map_bit(map, place) {
-        return c.operand(file, own);
-    }
-    OperandStep::Operand(default, c)
-}
-
-// A table if its map bit stands, AND if not.
-fn standing_table(file: &[u8], c: Cursor, map: u8, place: u8) -> TableStep
-    requires { ⌜ place < 8 ⌝ }
-    ensures { λ r. ⌜ tableAnswer r ≡ standing (mapBit map place) tableField 8 (now (file .entry)) (c .at) ⌝ }
-{
-    if map_bit(map, place) {
-        return c.table(file);
-    }
-    TableStep::Table(8, c)
 }

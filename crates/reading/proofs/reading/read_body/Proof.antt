@@ -1,7 +1,7 @@
 -- `reading::reading::read_body` meets its contract: each part hands its plan and cursor to the next. Assumes nothing.
 use mathlib.Core.Path.{sym, ap, _∙_}
 use borrow.Author.Needs.{needs}
-use Rattle.reading.specs.Parsing.{followed}
+use Rattle.cursor.specs.Parsing.{followed}
 use Rattle.reading.specs.Answers.{reached}
 use Rattle.reading.specs.Parts.{bodyPart}
 use Rattle.reading.proofs.reading.read_body.Statement.{statement}

@@ -2,8 +2,8 @@
 -- limit. Assumes nothing.
 use mathlib.Core.Path.{sym, ap, _∙_}
 use borrow.Author.Needs.{needs}
-use Rattle.reading.specs.Parsing.{followed}
-use Rattle.reading.specs.Answers.{countAnswer}
+use Rattle.cursor.specs.Parsing.{followed}
+use Rattle.cursor.specs.Answers.{countAnswer}
 use Rattle.reading.specs.Parts.{countsPart}
 use Rattle.reading.specs.PartsLaws.{blank-of, zero-blank, count-within}
 use Rattle.reading.proofs.reading.read_counts.Statement.{statement}
@@ -12,15 +12,15 @@ use Rattle.reading.proofs.reading.read_counts.Tie as tie
 no-inputs : tie.Need-returns
 unfolding countsPart
 no-inputs c =
-    let e = ap countAnswer (sym (c .before .before .x .given .1)) ∙ c .before .before .before .before .read-count .ensures in
+    let e = ap countAnswer (sym (c .before .before .x .given .1)) ∙ c .before .before .before .before .count .ensures in
     rw (c .refused-part .ensures) (record { parsed = ap (followed _ _) e; blank = zero-blank })
 
 no-gates : tie.Need-returns-2
 unfolding countsPart
 no-gates c =
     let u = c .before .before .before .before .before .before in
-    let e₁ = ap countAnswer (sym (u .u .given .1)) ∙ u .before .before .read-count .ensures in
-    let e₂ = ap countAnswer (sym (c .before .before .x2 .given .1)) ∙ c .before .before .before .before .read-count2 .ensures in
+    let e₁ = ap countAnswer (sym (u .u .given .1)) ∙ u .before .before .count .ensures in
+    let e₂ = ap countAnswer (sym (c .before .before .x2 .given .1)) ∙ c .before .before .before .before .count2 .ensures in
     rw (c .refused-part2 .ensures) (record { parsed = ap (followed _ _) e₂ ∙ ap (followed _ _) e₁; blank = zero-blank })
 
 no-outputs : tie.Need-returns-3
@@ -28,9 +28,9 @@ unfolding countsPart
 no-outputs c =
     let k = c .before .before .before .before .before .before in
     let u = k .before .before .before .before in
-    let e₁ = ap countAnswer (sym (u .u .given .1)) ∙ u .before .before .read-count .ensures in
-    let e₂ = ap countAnswer (sym (k .k .given .1)) ∙ k .before .before .read-count2 .ensures in
-    let e₃ = ap countAnswer (sym (c .before .before .x3 .given .1)) ∙ c .before .before .before .before .read-count3 .ensures in
+    let e₁ = ap countAnswer (sym (u .u .given .1)) ∙ u .before .before .count .ensures in
+    let e₂ = ap countAnswer (sym (k .k .given .1)) ∙ k .before .before .count2 .ensures in
+    let e₃ = ap countAnswer (sym (c .before .before .x3 .given .1)) ∙ c .before .before .before .before .count3 .ensures in
     rw (c .refused-part3 .ensures)
     (record { parsed = ap (followed _ _) e₃ ∙ ap (followed _ _) e₂ ∙ ap (followed _ _) e₁; blank = zero-blank })
 
@@ -40,9 +40,9 @@ counts c =
     let v = c .before .before in
     let k = v .before .before .before .before in
     let u = k .before .before .before .before in
-    let e₁ = ap countAnswer (sym (u .u .given .1)) ∙ u .before .before .read-count .ensures in
-    let e₂ = ap countAnswer (sym (k .k .given .1)) ∙ k .before .before .read-count2 .ensures in
-    let e₃ = ap countAnswer (sym (v .v .given .1)) ∙ v .before .before .read-count3 .ensures in
+    let e₁ = ap countAnswer (sym (u .u .given .1)) ∙ u .before .before .count .ensures in
+    let e₂ = ap countAnswer (sym (k .k .given .1)) ∙ k .before .before .count2 .ensures in
+    let e₃ = ap countAnswer (sym (v .v .given .1)) ∙ v .before .before .count3 .ensures in
     rw (c .blank-plan .ensures) (record {
       parsed = ap (followed _ _) e₃ ∙ ap (followed _ _) e₂ ∙ ap (followed _ _) e₁;
       blank = blank-of _ _ _ (count-within _ _ _ _ _ _ e₁) (count-within _ _ _ _ _ _ e₂) (count-within _ _ _ _ _ _ e₃);

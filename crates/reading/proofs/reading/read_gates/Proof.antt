@@ -5,9 +5,9 @@ use mathlib.Core.Path.{_≡_, refl, sym, ap, _∙_}
 use Prim.Native.Nat.{_≤_, _-_}
 use borrow.Author.Needs.{needs}
 use Rattle.plan.specs.Record.{maxGates, zeroGate, gateWire}
-use Rattle.reading.specs.Parsing.{got, followed}
-use Rattle.reading.specs.PlanFile.{gateStep}
-use Rattle.reading.specs.Answers.{gateAnswer}
+use Rattle.cursor.specs.Parsing.{got, followed}
+use Rattle.cursor.specs.Fields.{gateStep}
+use Rattle.cursor.specs.Answers.{gateAnswer}
 use Rattle.reading.specs.Parts.{gatesPart}
 use Rattle.reading.specs.PartsLaws.{ReadSoFar, SameCounts, none-read, one-more, one-refused, all-read, gates-held}
 use Rattle.reading.proofs.reading.read_gates.Statement.{statement}
@@ -36,7 +36,7 @@ refused c =
     let turn = met .before .before .before in
     let start = turn .before .before .before in
     let e =
-    ap gateAnswer (sym (c .before .before .x .given .1)) ∙ met .read-gate .ensures
+    ap gateAnswer (sym (c .before .before .x .given .1)) ∙ met .gate .ensures
     ∙ ap (λ w. gateStep w (start .args .file .now) (turn .loop .at .at)) (met .before .gate-wire .ensures) in
     rw (c .refused-part .ensures) (record {
       parsed = ap (followed _ _) (one-refused _ _ _ _ _ _ _ _ _ _ _ (omega arith) (turn .loop .inv .3) e);
@@ -50,7 +50,7 @@ again c =
     let turn = met .before .before .before in
     let start = turn .before .before .before in
     let e =
-    ap gateAnswer (sym (c .before .gate .given .1)) ∙ met .read-gate .ensures
+    ap gateAnswer (sym (c .before .gate2 .given .1)) ∙ met .gate .ensures
     ∙ ap (λ w. gateStep w (start .args .file .now) (turn .loop .at .at)) (met .before .gate-wire .ensures) in
     let same = turn .loop .inv .1 in (
       omega arith,

@@ -5,9 +5,9 @@ use mathlib.Core.Path.{_≡_, refl, sym, ap, _∙_}
 use Prim.Native.Nat.{_≤_, _-_}
 use borrow.Author.Needs.{needs}
 use Rattle.plan.specs.Record.{maxOutputs, wire}
-use Rattle.reading.specs.Parsing.{got, followed}
+use Rattle.cursor.specs.Parsing.{got, followed}
 use Rattle.reading.specs.PlanFile.{outputStep}
-use Rattle.reading.specs.Answers.{outputAnswer}
+use Rattle.cursor.specs.Answers.{outputAnswer}
 use Rattle.reading.specs.Parts.{outputsPart}
 use Rattle.reading.specs.PartsLaws.{ReadSoFar, SameCounts, none-read, one-more, one-refused, all-read, outputs-held}
 use Rattle.reading.proofs.reading.read_outputs.Statement.{statement}

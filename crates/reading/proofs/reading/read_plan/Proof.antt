@@ -1,7 +1,7 @@
 -- `reading::reading::read_plan` meets its contract: the header, then the body, is the whole file. Assumes nothing.
 use mathlib.Core.Path.{sym, ap, _∙_}
 use borrow.Author.Needs.{needs}
-use Rattle.reading.specs.Parsing.{followed}
+use Rattle.cursor.specs.Parsing.{followed}
 use Rattle.reading.specs.PlanFile.{outcome, planRead}
 use Rattle.reading.specs.Answers.{reached}
 use Rattle.reading.specs.PartsLaws.{whole-file}

@@ -1,45 +1,51 @@
-// The cursor of a plan file: each step takes the file and the cursor and hands back the value with the next cursor, or the refusal.
+// The fields of a plan file: each step takes the file and the cursor and hands back the value with the next cursor, or the refusal.
 ghost use mathlib.Core.Path.{_≡_};
 ghost use Prim.Native.Nat.{_+_, _-_, _*_, _≤_, _<_};
 ghost use lib.ListN.{length};
-ghost use Rattle.reading.specs.Parsing.{wordAt};
-ghost use Rattle.reading.specs.PlanFile.{mapField, operandField, tableField, outputField};
-ghost use Rattle.reading.specs.Answers.{mapAnswer, operandAnswer, tableAnswer, outputAnswer};
+ghost use Rattle.cursor.specs.Parsing.{wordAt};
+ghost use Rattle.cursor.specs.Fields.{countField, mapField, operandField, tableField, outputField};
+ghost use Rattle.cursor.specs.Answers.{countAnswer, mapAnswer, operandAnswer, tableAnswer, outputAnswer};
 use fault::Fault;
 use fault::Refusal;
 use plan::PlanWire;
+use plan::count_allowed;
 use plan::map_allowed;
 use plan::operand_allowed;
 use plan::source_allowed;
 use plan::table_allowed;
 
 // A place in a file.
-pub(crate) struct Cursor {
+pub struct Cursor {
     pub at: usize,
 }
 
-pub(crate) enum MapStep {
+pub enum CountStep {
+    Count(u16, Cursor),
+    Refused(Refusal),
+}
+
+pub enum MapStep {
     Map(u8, Cursor),
     Refused(Refusal),
 }
 
-pub(crate) enum OperandStep {
+pub enum OperandStep {
     Operand(PlanWire, Cursor),
     Refused(Refusal),
 }
 
-pub(crate) enum TableStep {
+pub enum TableStep {
     Table(u8, Cursor),
     Refused(Refusal),
 }
 
-pub(crate) enum OutputStep {
+pub enum OutputStep {
     Output(PlanWire, Cursor),
     Refused(Refusal),
 }
 
 // How many bytes stand from at on.
-pub(crate) fn left_of(file: &[u8], at: usize) -> usize
+fn left_of(file: &[u8], at: usize) -> usize
     ensures { λ r. ⌜ r ≡ length (now (file .entry)) - at ⌝ }
 {
     if at <= file.len() {
@@ -56,7 +62,7 @@ fn word_of(low: u8, high: u8) -> u16
 }
 
 // The two-byte number at a place.
-pub(crate) fn word_at(file: &[u8], at: usize) -> u16
+fn word_at(file: &[u8], at: usize) -> u16
     requires { ⌜ 2 ≤ length (now file) - at ⌝ }
     ensures { λ r. ⌜ r ≡ wordAt (now (file .entry)) at ⌝ }
 {
@@ -64,8 +70,29 @@ pub(crate) fn word_at(file: &[u8], at: usize) -> u16
 }
 
 impl Cursor {
+    // A count, from 1 to its limit; the fault is its word in the refusal table.
+    pub fn count(self, file: &[u8], limit: usize, fault: Fault) -> CountStep
+        ensures { λ r. ⌜ countAnswer r ≡ countField limit fault (now (file .entry)) (self .at) ⌝ }
+    {
+        let at = self.at;
+        if left_of(file, at) < 2 {
+            return CountStep::Refused(Refusal {
+                fault: Fault::Cut,
+                at: at,
+            });
+        }
+        let count = word_at(file, at);
+        if count_allowed(count as u32, limit) {
+            return CountStep::Count(count, Cursor { at: at + 2 });
+        }
+        CountStep::Refused(Refusal {
+            fault: fault,
+            at: at,
+        })
+    }
+
     // The map byte of a gate.
-    pub(crate) fn map_byte(self, file: &[u8]) -> MapStep
+    pub fn map_byte(self, file: &[u8]) -> MapStep
         ensures { λ r. ⌜ mapAnswer r ≡ mapField (now (file .entry)) (self .at) ⌝ }
     {
         let at = self.at;
@@ -86,7 +113,7 @@ impl Cursor {
     }
 
     // An operand of the gate whose own wire is own.
-    pub(crate) fn operand(self, file: &[u8], own: PlanWire) -> OperandStep
+    pub fn operand(self, file: &[u8], own: PlanWire) -> OperandStep
         ensures { λ r. ⌜ operandAnswer r ≡ operandField (own .0) (now (file .entry)) (self .at) ⌝ }
     {
         let at = self.at;
@@ -107,7 +134,7 @@ impl Cursor {
     }
 
     // The table of a gate.
-    pub(crate) fn table(self, file: &[u8]) -> TableStep
+    pub fn table(self, file: &[u8]) -> TableStep
         ensures { λ r. ⌜ tableAnswer r ≡ tableField (now (file .entry)) (self .at) ⌝ }
     {
         let at = self.at;
@@ -128,7 +155,7 @@ impl Cursor {
     }
 
     // An output of a plan with so many inputs and gates.
-    pub(crate) fn output(self, file: &[u8], inputs: u16, gates: u16) -> OutputStep
+    pub fn output(self, file: &[u8], inputs: u16, gates: u16) -> OutputStep
         ensures { λ r. ⌜ outputAnswer r ≡ outputField inputs gates (now (file .entry)) (self .at) ⌝ }
     {
         let at = self.at;

@@ -1,10 +1,10 @@
--- `reading::cursor::Cursor::map_byte` meets its contract: the three cases of a field of one byte. Assumes nothing.
+-- `cursor::cursor::Cursor::map_byte` meets its contract: the three cases of a field of one byte. Assumes nothing.
 use mathlib.Core.Path.{refl}
 use native.Mathlib.Omega.{arith}
 use borrow.Author.Needs.{needs}
-use Rattle.reading.specs.ParsingLaws.{field-cut, field-got, field-bad}
-use Rattle.reading.proofs.cursor.Cursor.map_byte.Statement.{statement}
-use Rattle.reading.proofs.cursor.Cursor.map_byte.Tie as tie
+use Rattle.cursor.specs.ParsingLaws.{field-cut, field-got, field-bad}
+use Rattle.cursor.proofs.cursor.Cursor.map_byte.Statement.{statement}
+use Rattle.cursor.proofs.cursor.Cursor.map_byte.Tie as tie
 
 cut : tie.Need-returns
 cut c = field-cut _ _ _ _ _ _ (omega arith)

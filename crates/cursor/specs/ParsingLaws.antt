@@ -9,7 +9,7 @@ use borrow.Author.Tests.{lt-ltb, le-ltb}
 use lib.Dec.{ltb}
 use lib.ListN.{length}
 use Rattle.fault.specs.declared.Fault.{Fault}
-use Rattle.reading.specs.Parsing.{got, refused, refuse, Step, field, inOrder}
+use Rattle.cursor.specs.Parsing.{got, refused, refuse, Step, field, inOrder}
 
 -- v is the field's value, and r says whether it is allowed
 module _ (width : ℕ) (value : List ℕ → ℕ → ℕ) (allowed : ℕ → Bool) (f : Fault) (s : List ℕ) (at : ℕ) where

@@ -1,7 +1,7 @@
--- `reading::reading::standing_table` meets its contract. Assumes nothing.
+-- `cursor::gate::standing_table` meets its contract. Assumes nothing.
 use borrow.Author.Needs.{needs}
-use Rattle.reading.proofs.reading.standing_table.Statement.{statement}
-use Rattle.reading.proofs.reading.standing_table.Tie as tie
+use Rattle.cursor.proofs.gate.standing_table.Statement.{statement}
+use Rattle.cursor.proofs.gate.standing_table.Tie as tie
 
 stands : tie.Need-returns
 stands c = rw (← c .before .before .map-bit .ensures, c .before .if1 .taken) (c .table .ensures)

@@ -1,7 +1,7 @@
--- `reading::reading::standing_operand` meets its contract. Assumes nothing.
+-- `cursor::gate::standing_operand` meets its contract. Assumes nothing.
 use borrow.Author.Needs.{needs}
-use Rattle.reading.proofs.reading.standing_operand.Statement.{statement}
-use Rattle.reading.proofs.reading.standing_operand.Tie as tie
+use Rattle.cursor.proofs.gate.standing_operand.Statement.{statement}
+use Rattle.cursor.proofs.gate.standing_operand.Tie as tie
 
 stands : tie.Need-returns
 stands c = rw (← c .before .before .map-bit .ensures, c .before .if1 .taken) (c .operand .ensures)

@@ -1,9 +1,9 @@
--- `reading::cursor::Cursor::operand` meets its contract: the three cases of a field of two bytes. Assumes nothing.
+-- `cursor::cursor::Cursor::operand` meets its contract: the three cases of a field of two bytes. Assumes nothing.
 use native.Mathlib.Omega.{arith}
 use borrow.Author.Needs.{needs}
-use Rattle.reading.specs.ParsingLaws.{field-cut, field-got, field-bad}
-use Rattle.reading.proofs.cursor.Cursor.operand.Statement.{statement}
-use Rattle.reading.proofs.cursor.Cursor.operand.Tie as tie
+use Rattle.cursor.specs.ParsingLaws.{field-cut, field-got, field-bad}
+use Rattle.cursor.proofs.cursor.Cursor.operand.Statement.{statement}
+use Rattle.cursor.proofs.cursor.Cursor.operand.Tie as tie
 
 cut : tie.Need-returns
 cut c = field-cut _ _ _ _ _ _ (omega arith)

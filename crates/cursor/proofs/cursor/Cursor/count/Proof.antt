@@ -1,9 +1,9 @@
--- `reading::reading::read_count` meets its contract: the three cases of a field of two bytes. Assumes nothing.
+-- `cursor::cursor::Cursor::count` meets its contract: the three cases of a field of two bytes. Assumes nothing.
 use native.Mathlib.Omega.{arith}
 use borrow.Author.Needs.{needs}
-use Rattle.reading.specs.ParsingLaws.{field-cut, field-got, field-bad}
-use Rattle.reading.proofs.reading.read_count.Statement.{statement}
-use Rattle.reading.proofs.reading.read_count.Tie as tie
+use Rattle.cursor.specs.ParsingLaws.{field-cut, field-got, field-bad}
+use Rattle.cursor.proofs.cursor.Cursor.count.Statement.{statement}
+use Rattle.cursor.proofs.cursor.Cursor.count.Tie as tie
 
 cut : tie.Need-returns
 cut c = field-cut _ _ _ _ _ _ (omega arith)
@@ -16,7 +16,7 @@ bad : tie.Need-returns-3
 bad c =
     field-bad _ _ _ _ _ _ _ _ (c .before .before .word-at .ensures) (c .before .count-allowed .ensures) (omega arith) (c .if2 .left)
 
-pub read-count-spec : {M : Type 1} → statement M
-read-count-spec =
+pub count-spec : {M : Type 1} → statement M
+count-spec =
     tie.close
     (tie.spec (λ c κs. search needs) cut (λ c κs. search needs) (λ c. search needs) (λ c κs. search needs) (λ c. search needs) value bad)
