@@ -13,10 +13,6 @@ use Rattle.fault.specs.Number.{faultNumber}
 use Rattle.fault.specs.ChecksLaws.{number-positive}
 use Rattle.fault.specs.Buffers.{over, filled}
 
--- nothing is written yet
-pub over-none : {A : Type 0} (old : List A) → old ≡ over [] old
-over-none old = refl
-
 -- one entry more
 pub over-more : {A : Type 0} (new old : List A) (x : A) → length new < length old → set (over new old) (length new) x ≡ over (new ++ (x ∷ [])) old
 over-more new old x h =

@@ -15,7 +15,7 @@ use Rattle.networks.specs.Loops.{flipped, perm-lt}
 use Rattle.networks.specs.WantedLaws.{taker-perm}
 use Rattle.networks.specs.Counting.{oneIf, countOf}
 use Rattle.networks.specs.CountingLaws.{passed, both-ways, not-fails, or-le, one-lt, count-none, count-rest, count-before, count-later}
-use Rattle.networks.specs.CountingLaws.{NthOf, nth-at, nth-is, count-cover, count-single}
+use Rattle.networks.specs.CountingLaws.{NthOf, nth-at, count-cover, count-single}
 use Rattle.networks.specs.Completion.{isTaken, isIdle, isFree, completed}
 use Rattle.networks.specs.Completion.{PartialInjection, Left, FilledBy, RisingCompletion}
 
@@ -97,12 +97,6 @@ module _ (N : ℕ) {has : ℕ → Bool} {f : ℕ → ℕ} (I : PartialInjection 
       let enough = taken-few has f N N in
       let h = count-before (isIdle has) x N l (ap not e) in
       rw (lt-ltb x N l, e) (nth-at (isFree N has f) N (countOf (isIdle has) x) (omega arith))
-
-  -- that place tells it
-  pub completed-here : (x p : ℕ) → x < N → has x ≡ false → p < N → isFree N has f p ≡ true → countOf (isFree N has f) p ≡ countOf (isIdle has) x
-      → g x ≡ p
-  unfolding completed
-  completed-here x p l e m q c = rw (lt-ltb x N l, e, ← c) (nth-is (isFree N has f) N p m q)
 
   completed-left : (x : ℕ) → x < N → has x ≡ false → Left N has f (g x)
   completed-left x l e =

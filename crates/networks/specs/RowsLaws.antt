@@ -2,7 +2,7 @@
 -- Then what a run leaves (wires, bits, gate number), and that decoding undoes `flat`.
 use mathlib.Core.Path.{_≡_, refl, sym, ap, _∙_}
 use mathlib.Core.List.{List, [], _∷_, _++_, append-assoc, append-nil}
-use Prim.Native.Nat.{ℕ, zero, suc, _+_, _*_, _^_, _<_}
+use Prim.Native.Nat.{ℕ, zero, suc, _+_, _*_, _<_}
 use native.Mathlib.Nat.{le-refl, le-step, add-zero, add-assoc, zero-add, le-of-suc-le-suc, not-suc-le-zero}
 use native.Mathlib.Omega.{arith}
 use lib.ListN.{length, getD, drop, length-append, List·getD-append}
@@ -10,7 +10,7 @@ use lib.Seq.{drop-drop}
 use Rattle.lists.specs.Lists.{listOf, Every, every-none, every-more}
 use Rattle.lists.specs.ListsLaws.{length-listOf, every-listOf, below-pair}
 use Rattle.networks.specs.Rows.{Row, X, Y, Gate, inputsOf, makes, takes, gatesIn, total, IsX, is-X, MadeBefore, made-none, made-more}
-use Rattle.networks.specs.Rows.{stride, gateBits, entries, flat, rowOf, decode, InFamily, State, outputs, step, run}
+use Rattle.networks.specs.Rows.{stride, entries, flat, rowOf, decode, InFamily, State, outputs, step, run}
 
 -- ---- lists of rows
 
@@ -61,10 +61,6 @@ madeBefore-listOf next (suc n) f g hf hg =
 
 -- ---- the table's entries
 
-pub takes-gate : (ws : List ℕ) → InFamily (Gate ws) → takes (Gate ws) ≡ gateBits
-unfolding inputsOf takes
-takes-gate ws e = ap (λ k. 2 ^ k) e
-
 entries-length : (row : Row) → InFamily row → length (entries row) ≡ stride
 unfolding inputsOf entries
 entries-length (X l r) e = refl
@@ -90,24 +86,6 @@ pub decode-flat : {rows : List Row} → Every InFamily rows → decode (flat row
 unfolding flat decode
 decode-flat every-none = refl
 decode-flat (every-more {a = row} {l = rows} f fs) = rw (decode-entries row (flat rows) f, decode-flat fs)
-
--- n rows of entries, then others
-pub decode-append : (n : ℕ) (es fs : List ℕ) → length es ≡ stride * n → decode (es ++ fs) ≡ decode es ++ decode fs
-unfolding decode
-decode-append n [] fs e = refl
-decode-append n (k ∷ []) fs e = absurd (omega arith)
-decode-append n (k ∷ l ∷ []) fs e = absurd (omega arith)
-decode-append zero (k ∷ l ∷ r ∷ es) fs e = absurd (omega arith)
-decode-append (suc n) (k ∷ l ∷ r ∷ es) fs e = rw (decode-append n es fs (omega arith))
-
-pub length-decode : (n : ℕ) (es : List ℕ) → length es ≡ stride * n → length (decode es) ≡ n
-unfolding decode
-length-decode zero [] e = refl
-length-decode (suc n) [] e = absurd (omega arith)
-length-decode n (k ∷ []) e = absurd (omega arith)
-length-decode n (k ∷ l ∷ []) e = absurd (omega arith)
-length-decode zero (k ∷ l ∷ r ∷ es) e = absurd (omega arith)
-length-decode (suc n) (k ∷ l ∷ r ∷ es) e = ap suc (length-decode n es (omega arith))
 
 -- row i stands at the entries from stride * i on
 pub decode-at : (es : List ℕ) (i : ℕ) (d : Row) → i < length (decode es)

@@ -1,24 +1,19 @@
 -- What writing P writes has its stated length, and is P where its checks pass.
-use mathlib.Core.Path.{_≡_, refl, sym, ap, _∙_}
+use mathlib.Core.Path.{_≡_, sym, ap, _∙_}
 use mathlib.Core.List.{List}
-use Prim.Native.Nat.{ℕ, _+_, _-_, _*_, _^_, _≤_}
+use Prim.Native.Nat.{ℕ, _-_, _*_, _^_, _≤_}
 use native.Mathlib.Omega.{arith}
 use lib.ListN.{length, take, drop}
 use lib.Pow.{pow-pos}
 use lib.Seq.{take-at}
-use Rattle.lists.specs.Lists.{Below}
 use Rattle.fault.specs.Buffers.{over}
-use Rattle.fault.specs.ChecksLaws.{unless-zero, and-then-zero}
-use Rattle.powers.specs.PowersLaws.{ceilLog-power}
 use Rattle.networks.specs.Rows.{stride, flat, decode}
 use Rattle.networks.specs.RowsLaws.{decode-flat}
 use Rattle.networks.specs.Permutation.{permutationCount, permutationOuts, permutationRows}
 use Rattle.networks.specs.PermutationLaws.{permutation-totals, length-permutationOuts}
-use Rattle.sizes.specs.Sizes.{maxLevel, levelOf}
-use Rattle.sizes.specs.SizesLaws.{SizeIs, size-is, power-allowed}
-use Rattle.elements.specs.Wires.{maxWires}
+use Rattle.sizes.specs.Sizes.{levelOf}
+use Rattle.sizes.specs.SizesLaws.{SizeIs}
 use Rattle.elements.specs.WiresLaws.{wires-copied}
-use Rattle.elements.specs.ChecksLaws.{list-faultless, wires-faultless, buffers-faultless}
 use Rattle.write_checks.specs.WriteChecksLaws.{WritePasses, write-passes}
 use Rattle.write_checks.specs.WriteChecks.{rowsOf, writeFault}
 use Rattle.permutation_rows.specs.WriteCalls.{writtenRows, writtenOutputs}

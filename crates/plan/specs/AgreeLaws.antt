@@ -1,10 +1,7 @@
 -- Unused places never matter: plans that agree on the counts and the used places have the same faults.
-use mathlib.Core.Path.{_≡_, refl, ap₂, _∙_}
-use mathlib.Core.List.{List}
-use Prim.Native.Nat.{ℕ, zero, suc, _<_, _≤_}
+use mathlib.Core.Path.{_≡_, refl, ap₂}
+use Prim.Native.Nat.{ℕ, zero, suc, _<_}
 use native.Mathlib.Omega.{arith}
-use lib.ListN.{length}
-use Rattle.lists.specs.ListsLaws.{listOf-ext}
 use Rattle.fault.specs.Checks.{andThen, firstOf}
 use Rattle.plan.specs.declared.record.Plan.{Plan}
 use Rattle.plan.specs.Record.{gateAt, outputAt, gateWire}

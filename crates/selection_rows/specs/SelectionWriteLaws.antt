@@ -6,22 +6,18 @@ use native.Mathlib.Decide.{decLt}
 use native.Mathlib.Omega.{arith}
 use lib.ListN.{length, getD, take, drop, replicate, length-replicate, getD-replicate, List·getD-append, List·getD-eq-default}
 use lib.Seq.{ext-getD, take-at, take-all, take-append-le, getD-drop, getD-append-add}
-use Rattle.lists.specs.Lists.{Below}
 use Rattle.lists.specs.ListsLaws.{getD-listOf, listOf-ext}
 use Rattle.fault.specs.Buffers.{over}
-use Rattle.fault.specs.ChecksLaws.{and-then-zero}
 use Rattle.fault.specs.PartsLaws.{length-over, length-filled}
 use Rattle.powers.specs.PowersLaws.{ceilLog-power}
 use Rattle.networks.specs.Rows.{stride, flat, decode}
 use Rattle.networks.specs.RowsLaws.{length-flat, decode-flat}
-use Rattle.networks.specs.Selection.{selectionLevel, padded, wholeRows, wholeOuts, wholeCount, wholeWires}
+use Rattle.networks.specs.Selection.{selectionLevel, padded, wholeRows, wholeOuts}
 use Rattle.networks.specs.Selection.{selectionRows, selectionOuts, selectionCount, selectionWires}
 use Rattle.networks.specs.SelectionLaws.{outputs-fit, length-padded, getD-padded, below-padded, length-wholeOuts}
 use Rattle.networks.specs.SelectionLaws.{length-selectionRows, selection-totals, length-selectionOuts}
 use Rattle.sizes.specs.Sizes.{maxSize, levelOf}
-use Rattle.sizes.specs.SizesLaws.{size-is, power-allowed, power-small, Sides, sides-allowed, side-level}
-use Rattle.elements.specs.Wires.{maxWires}
-use Rattle.elements.specs.ChecksLaws.{list-faultless, wires-faultless, buffers-faultless}
+use Rattle.sizes.specs.SizesLaws.{size-is, power-allowed, power-small, side-level}
 use Rattle.write_checks.specs.WriteChecksLaws.{SelectionWritePasses, selection-write-passes, some-wire}
 use Rattle.write_checks.specs.WriteChecks.{selectionWriteFault}
 use Rattle.selection_rows.specs.WriteCalls.{selectionWrittenRows, selectionWrittenOutputs}

@@ -1,12 +1,12 @@
 -- A size that is allowed is two to the power of its level, which is at most 9, and so is the level of S(m, n). The counts are small then.
-use mathlib.Core.Path.{_≡_, refl, sym, ap, _∙_}
+use mathlib.Core.Path.{_≡_, refl, ap, _∙_}
 use mathlib.Core.Logic.{_↔_}
 use mathlib.Core.Bool.{true, _&&_, and-eq-true-iff}
 use Prim.Native.Nat.{ℕ, _+_, _-_, _*_, _^_, _≤_, max}
 use native.Mathlib.Nat.{mul-le-mul, mul-comm}
 use native.Mathlib.Omega.{arith}
 use borrow.Author.Tests.{leb-true, eqb-true, le-leb, eq-eqb}
-use lib.Dec.{leb, eqb, lit≤}
+use lib.Dec.{leb, eqb}
 use lib.Pow.{pow-mono, pow-pos}
 use Rattle.fault.specs.ChecksLaws.{unless-zero, and-then-zero}
 use Rattle.powers.specs.Powers.{ceilLog, ceilPower}

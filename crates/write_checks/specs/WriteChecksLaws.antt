@@ -14,7 +14,7 @@ use Rattle.sizes.specs.Sizes.{maxLevel, levelOf}
 use Rattle.sizes.specs.SizesLaws.{SizeIs, size-is, power-allowed, Sides, sides-allowed}
 use Rattle.elements.specs.Wires.{maxWires}
 use Rattle.elements.specs.ChecksLaws.{list-faultless, wires-faultless, buffers-faultless}
-use Rattle.write_checks.specs.WriteChecks.{rowsOf, writeFault, lentFault, selectionWriteFault}
+use Rattle.write_checks.specs.WriteChecks.{rowsOf, writeFault, selectionWriteFault}
 
 -- ---- P
 

@@ -10,7 +10,13 @@ use sizes::permutation_count;
 use sizes::size_allowed;
 
 // The checks of writing P: 2, 12, 13, 11.
-pub fn check_permutation_write(n: u32, inputs: &[u16], next: FabricWire, rows: usize, outputs: usize) -> Answer
+pub fn check_permutation_write(
+    n: u32,
+    inputs: &[u16],
+    next: FabricWire,
+    rows: usize,
+    outputs: usize,
+) -> Answer
     ensures { λ r. ⌜ answerNumber r ≡ writeFault n (now (inputs .entry)) (next .0) rows outputs ⌝ }
 {
     if !size_allowed(n) {

@@ -1,5 +1,4 @@
 -- `permutation_rows::level::feed_halves` meets its contract: the first outputs, and behind them the second ones. Assumes nothing.
-use native.Mathlib.Omega.{arith}
 use borrow.Author.Needs.{needs}
 use Rattle.permutation_rows.specs.HalvesLaws.{halves-fed}
 use Rattle.permutation_rows.proofs.level.feed_halves.Statement.{statement}

@@ -1,6 +1,6 @@
 -- `permutation_rows::level::put_switches` meets its contract: X on a list and on its part from `gap` on. Assumes nothing.
 use native.Mathlib.Omega.{arith}
-use mathlib.Core.Path.{_≡_, ap, _∙_}
+use mathlib.Core.Path.{ap, _∙_}
 use borrow.Author.Needs.{needs}
 use Rattle.fault.specs.Buffers.{over}
 use Rattle.fault.specs.PartsLaws.{partOf}

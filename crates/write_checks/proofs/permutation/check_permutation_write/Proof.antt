@@ -9,7 +9,6 @@ use borrow.Author.Tests.{not-true, not-false, eq-eqb, ne-eqb}
 use Rattle.fault.specs.Number.{answerNumber}
 use Rattle.fault.specs.Checks.{andThen}
 use Rattle.fault.specs.ChecksLaws.{first-refuses, second-answers}
-use Rattle.networks.specs.Permutation.{permutationCount}
 use Rattle.sizes.specs.Sizes.{maxSize, maxLevel, sizeAllowed}
 use Rattle.sizes.specs.SizesLaws.{size-is, few-rows}
 use Rattle.elements.specs.Checks.{listFault, wiresFault, buffersFault}
