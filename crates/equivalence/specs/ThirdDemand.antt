@@ -1,6 +1,7 @@
 -- Document 01's third demand, over the definitions that the contracts of the four calls equate: their answers, and the lent buffers after them,
 -- from any entry buffers. "For every accepted plan, every input row and whatever the lent buffers held, the run of the fabric for the plan's three
--- counts with the plan's program bits writes the outputs that plan evaluation writes, one by one. None of these calls refuses then."
+-- counts with the plan's program bits writes the outputs that plan evaluation writes, one by one. The fabric depends on the three counts alone.
+-- None of these calls refuses then."
 use mathlib.Core.Path.{_≡_, sym, ap, _∙_}
 use mathlib.Core.List.{List}
 use Prim.Native.Nat.{ℕ, _<_, _≤_}
@@ -48,6 +49,11 @@ pub counts-pass : (p : Plan) → Accepted p → countsFault (p .inputs) (p .«ga
 unfolding planFault
 counts-pass p a = and-then-zero _ _ .0 a .0
 
+-- two fabric calls with equal counts agree up to the stated length, whatever the buffers held
+pub same-fabric : (u k v : ℕ) (table table′ : List ℕ) → fabricFault u k v (length table) ≡ 0 → fabricFault u k v (length table′) ≡ 0
+    → take (tableLength u k v) (fabricResult u k v table) ≡ take (tableLength u k v) (fabricResult u k v table′)
+same-fabric u k v table table′ e e′ = fabric-written-read u k v table e ∙ sym (fabric-written-read u k v table′ e′)
+
 module _ (p : Plan) (row table program work evaluated ran : List ℕ) where
   abbrev u : ℕ
   u = p .inputs
@@ -65,12 +71,13 @@ module _ (p : Plan) (row table program work evaluated ran : List ℕ) where
   abbrev pub bytesWritten : List ℕ
   bytesWritten = take (programLength p) (planProgramResult p program)
 
-  -- what the four calls give: no refusal, and the run's outputs are evaluation's, one by one
+  -- what the four calls give: no refusal; a table that is the same whatever the buffer held; and the run's outputs are evaluation's, one by one
   pub record ThirdDemand : Type 0 where
     pub evaluates : evaluateFault p row (length evaluated) ≡ 0
     pub fabricates : fabricFault u k v (length table) ≡ 0
     pub programs : planProgramFault p (length program) ≡ 0
     pub runs : runFault entriesWritten bytesWritten row (length work) (length ran) ≡ 0
+    pub alone : (other : List ℕ) → fabricFault u k v (length other) ≡ 0 → take (entriesOf p) (fabricResult u k v other) ≡ entriesWritten
     pub same : (j : ℕ) → j < v → getD (runResult entriesWritten bytesWritten row work ran) j 0 ≡ getD (evaluateResult p row evaluated) j 0
 
   module _ (accepted : Accepted p) (contact : ContactRow u row) (rooms : Rooms p (length table) (length program) (length work) (length evaluated) (length ran))
@@ -119,12 +126,14 @@ module _ (p : Plan) (row table program work evaluated ran : List ℕ) where
 
       -- the third demand
       pub third-demand : ThirdDemand
-      third-demand = record { evaluates = evaluates-here; fabricates = fabricates-here; programs = programs-here; runs = runs-here; same = same-here }
-
--- The fabric depends on the three counts alone: two fabric calls with equal counts agree up to the stated length, whatever the buffers held.
-pub same-fabric : (u k v : ℕ) (table table′ : List ℕ) → fabricFault u k v (length table) ≡ 0 → fabricFault u k v (length table′) ≡ 0
-    → take (tableLength u k v) (fabricResult u k v table) ≡ take (tableLength u k v) (fabricResult u k v table′)
-same-fabric u k v table table′ e e′ = fabric-written-read u k v table e ∙ sym (fabric-written-read u k v table′ e′)
+      third-demand = record {
+        evaluates = evaluates-here;
+        fabricates = fabricates-here;
+        programs = programs-here;
+        runs = runs-here;
+        alone = λ other e. same-fabric u k v other table e fabricates-here;
+        same = same-here;
+      }
 
 -- So two accepted plans that share their counts have the same table.
 pub same-table : (p q : Plan) (table table′ : List ℕ) → Accepted p → Accepted q → p .inputs ≡ q .inputs → p .«gate_count» ≡ q .«gate_count»

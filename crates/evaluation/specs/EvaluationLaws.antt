@@ -20,8 +20,8 @@ use Rattle.plan.specs.FaultsLaws.{GateWithin, accepted-counts, accepted-gate, a
 use Rattle.evaluation.specs.Evaluation.{valueOn, planWires, namedBy, tableBit, gateBit, contactFault, evaluateFault}
 
 -- the wires of the largest plan
-abbrev pub maxWires : ℕ
-maxWires = maxInputs + maxGates
+abbrev pub maxPlanWires : ℕ
+maxPlanWires = maxInputs + maxGates
 
 -- an accepted plan with a row of its inputs
 pub record Evaluable (p : Plan) (row : List ℕ) : Type 0 where
@@ -69,14 +69,14 @@ wire-bit p row h (suc n) i = more-bits (planWires 0 gateBit p row n) _ (wire-bit
 pub record GateRoom (p : Plan) (i : ℕ) : Type 0 where
   pub place : i < maxGates
   pub within : GateWithin (gateWire (p .inputs) i) (gateAt p i)
-  pub own : p .inputs + i < maxWires
-  pub upTo : gateWire (p .inputs) i ≤ maxWires
+  pub own : p .inputs + i < maxPlanWires
+  pub upTo : gateWire (p .inputs) i ≤ maxPlanWires
 
 -- where output j of an accepted plan and its wire stand
 pub record OutputRoom (p : Plan) (j : ℕ) : Type 0 where
   pub place : j < maxOutputs
   pub someWire : 1 ≤ outputAt p j .0
-  pub upTo : outputAt p j .0 ≤ maxWires
+  pub upTo : outputAt p j .0 ≤ maxPlanWires
 
 pub output-room : (p : Plan) → Accepted p → (j : ℕ) → j < p .«output_count» → OutputRoom p j
 output-room p accepted j h =
@@ -85,7 +85,7 @@ output-room p accepted j h =
     record { place = omega arith; someWire = omega arith; upTo = omega arith }
 
 module _ (p : Plan) (row : List ℕ) (e : Evaluable p row) where
-  pub row-room : length row ≤ maxWires
+  pub row-room : length row ≤ maxPlanWires
   row-room =
       let c = accepted-counts p (e .accepted) in
       let l = row-length (p .inputs) row (e .contacts) in
@@ -96,23 +96,23 @@ module _ (p : Plan) (row : List ℕ) (e : Evaluable p row) where
       let c = accepted-counts p (e .accepted) in
       record { place = omega arith; within = accepted-gate p (e .accepted) i h; own = omega arith; upTo = omega arith }
 
-  pub held-bit : (wires : List ℕ) (i n : ℕ) → wires ≡ places maxWires 0 (planWires 0 gateBit p row i) → getD wires n 0 ≤ 1
+  pub held-bit : (wires : List ℕ) (i n : ℕ) → wires ≡ places maxPlanWires 0 (planWires 0 gateBit p row i) → getD wires n 0 ≤ 1
   held-bit wires i n h =
-      rw (h, getD-places maxWires 0 (planWires 0 gateBit p row i) n)
+      rw (h, getD-places maxPlanWires 0 (planWires 0 gateBit p row i) n)
       (wire-bit p row (row-bit (p .inputs) row (e .contacts)) i n)
 
   -- gate i's bit r goes to its own wire
-  pub gate-held : (wires : List ℕ) (i r : ℕ) → i < p .«gate_count» → wires ≡ places maxWires 0 (planWires 0 gateBit p row i)
+  pub gate-held : (wires : List ℕ) (i r : ℕ) → i < p .«gate_count» → wires ≡ places maxPlanWires 0 (planWires 0 gateBit p row i)
       → r ≡ tableBit (gateAt p i .table) (valueOn 0 wires (gateAt p i .first)) (valueOn 0 wires (gateAt p i .second))
-      → set wires (p .inputs + i) r ≡ places maxWires 0 (planWires 0 gateBit p row (i + 1))
+      → set wires (p .inputs + i) r ≡ places maxPlanWires 0 (planWires 0 gateBit p row (i + 1))
   unfolding planWires
   gate-held wires i r h held er =
       let ws = planWires 0 gateBit p row i in
       let g = gate-room i h in
       let l = row-length (p .inputs) row (e .contacts) in
       let lw : length ws ≡ p .inputs + i = length-planWires 0 gateBit p row i ∙ ap (λ n. n + i) l in
-      rw (add-one i, er, held, getD-places maxWires 0 ws (gateAt p i .first .0 - 1), getD-places maxWires 0 ws (gateAt p i .second .0 - 1))
-      (places-more maxWires 0 ws _ (p .inputs + i) lw (g .own))
+      rw (add-one i, er, held, getD-places maxPlanWires 0 ws (gateAt p i .first .0 - 1), getD-places maxPlanWires 0 ws (gateAt p i .second .0 - 1))
+      (places-more maxPlanWires 0 ws _ (p .inputs + i) lw (g .own))
 
 -- what the checks of evaluation give where none fails
 pub record EvaluationPasses (p : Plan) (row : List ℕ) (n : ℕ) : Type 0 where

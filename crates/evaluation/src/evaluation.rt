@@ -7,7 +7,7 @@ ghost use Rattle.fault.specs.Buffers.{over};
 ghost use Rattle.plan.specs.Record.{places};
 ghost use Rattle.plan.specs.Faults.{Accepted};
 ghost use Rattle.evaluation.specs.Evaluation.{tableBit, gateBit, planWires, namedBy, contactFault, evaluateFault, evaluateResult};
-ghost use Rattle.evaluation.specs.EvaluationLaws.{maxWires, Evaluable};
+ghost use Rattle.evaluation.specs.EvaluationLaws.{maxPlanWires, Evaluable};
 use fault::Answer;
 use fault::Fault;
 use plan::Plan;
@@ -15,7 +15,7 @@ use plan::PlanWire;
 use plan::plan_fault;
 
 // The wires of the largest plan.
-const MAX_WIRES: usize = Plan::MAX_INPUTS + Plan::MAX_GATES;
+const MAX_PLAN_WIRES: usize = Plan::MAX_INPUTS + Plan::MAX_GATES;
 
 // The plan's outputs on a row of inputs, each 0 or 1, into the first entries of the result.
 pub fn evaluate(plan: Plan, row: &[u8], result: &mut [u8]) -> Answer
@@ -75,11 +75,11 @@ fn gate_bit(table: u8, a: u8, b: u8) -> u8
 }
 
 // The inputs' bits on their wires, the other wires 0. Wire w stands at place w - 1.
-fn input_wires(row: &[u8]) -> [u8; MAX_WIRES]
-    requires { ⌜ length (now row) ≤ maxWires ⌝ }
-    ensures { λ r. ⌜ r ≡ places maxWires 0 (now (row .entry)) ⌝ }
+fn input_wires(row: &[u8]) -> [u8; MAX_PLAN_WIRES]
+    requires { ⌜ length (now row) ≤ maxPlanWires ⌝ }
+    ensures { λ r. ⌜ r ≡ places maxPlanWires 0 (now (row .entry)) ⌝ }
 {
-    let mut wires = [0u8; MAX_WIRES];
+    let mut wires = [0u8; MAX_PLAN_WIRES];
     let mut i: usize = 0;
     while i < row.len() {
         wires[i] = row[i];
@@ -97,9 +97,9 @@ fn place_of(wire: PlanWire) -> usize
 }
 
 // The bits on all wires of the plan.
-fn gate_wires(plan: Plan, row: &[u8]) -> [u8; MAX_WIRES]
+fn gate_wires(plan: Plan, row: &[u8]) -> [u8; MAX_PLAN_WIRES]
     requires { ⌜ Evaluable plan (now row) ⌝ }
-    ensures { λ r. ⌜ r ≡ places maxWires 0 (planWires 0 gateBit plan (now (row .entry)) (plan .«gate_count»)) ⌝ }
+    ensures { λ r. ⌜ r ≡ places maxPlanWires 0 (planWires 0 gateBit plan (now (row .entry)) (plan .«gate_count»)) ⌝ }
 {
     let inputs = plan.inputs as usize;
     let count = plan.gate_count as usize;
@@ -116,7 +116,7 @@ fn gate_wires(plan: Plan, row: &[u8]) -> [u8; MAX_WIRES]
 }
 
 // The bits on the wires that the outputs name, into the first entries of the result.
-fn write_outputs(plan: Plan, wires: [u8; MAX_WIRES], result: &mut [u8])
+fn write_outputs(plan: Plan, wires: [u8; MAX_PLAN_WIRES], result: &mut [u8])
     requires { ⌜ Accepted plan ⌝ }
     requires { ⌜ plan .«output_count» ≤ length (now result) ⌝ }
     ensures { λ _. ⌜ now (result .exit) ≡ over (namedBy 0 plan wires (plan .«output_count»)) (now (result .entry)) ⌝ }

@@ -2,4 +2,4 @@
 -- a figure, and the claim that a table of them holds
 pub mod Figure
 -- the starred figures
-pub mod BenchSheet
+pub mod StatedFigures

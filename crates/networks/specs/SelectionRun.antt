@@ -42,7 +42,7 @@ module _ {A : Type 0} (none : A) (gate : ℕ → List ℕ → List A → A) wher
   chosen v (suc b) x y = refl
 
   -- one Y row
-  last-y : (l r : ℕ) (t : State A) → on none (run none gate (Y l r ∷ []) t) (length (t .wires) + 0)
+  pub last-y : (l r : ℕ) (t : State A) → on none (run none gate (Y l r ∷ []) t) (length (t .wires) + 0)
       ≡ choose (getD (t .bits) 0 0) (on none t l) (on none t r)
   unfolding run step outputs
   last-y l r t = getD-append-add (t .wires) _ 0 none

@@ -1,3 +1,4 @@
+// The plan record in memory, with its limits.
 ghost use mathlib.Core.Path.{_≡_};
 ghost use Prim.Native.Nat.{_≤_, _<_};
 ghost use Rattle.plan.specs.Record.{maxInputs, maxGates, zeroPlan, gateWire};

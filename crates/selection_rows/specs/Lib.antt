@@ -1,7 +1,7 @@
 -- Writing S, as document 01 has it: the definitions of the call.
--- the checks in their order, and the lent buffers after the call
+-- the lent buffers after the call
 pub mod WriteCalls
--- what the functions under the call answer and need
+-- what the functions under the call need
 pub mod Block
 -- Laws of the definitions.
 -- the chain, and the block of all N positions

@@ -7,13 +7,14 @@ use Prim.Native.Nat.{ℕ, zero, suc, _+_, _<_}
 use native.Mathlib.Nat.{le-refl, le-step, add-zero, eq-or-lt-of-le, le-of-suc-le-suc}
 use native.Mathlib.Omega.{arith}
 use lib.ListN.{length, getD, drop}
-use lib.Seq.{getD-append-add, getD-drop}
+use lib.Seq.{getD-drop}
 use Rattle.lists.specs.Lists.{listOf, Every, every-none, every-more}
 use Rattle.lists.specs.ListsLaws.{every-append, below-pair}
 use Rattle.networks.specs.Rows.{Row, Y, Gate, inputsOf, makes, takes, gatesIn, total, gateBits, InFamily, MadeBefore, made-none, made-more}
-use Rattle.networks.specs.Rows.{choose, State, on, outputs, step, run}
+use Rattle.networks.specs.Rows.{choose, State, on, run}
 use Rattle.networks.specs.RowsLaws.{total-append, madeBefore-append, run-append, run-keeps, run-wires, run-bits}
 use Rattle.networks.specs.SelectionLaws.{Totals}
+use Rattle.networks.specs.SelectionRun.{last-y}
 
 -- rows that make so many wires, take so many bits and are so many gates
 pub record Sums (rows : List Row) (made taken count : ℕ) : Type 0 where
@@ -75,11 +76,6 @@ module _ {A : Type 0} (none : A) (gate : ℕ → List ℕ → List A → A) wher
   unfolding listOf
   runY-more k f g s = run-append none gate _ _ s
 
-  last-y : (l r : ℕ) (t : State A) → on none (run none gate (Y l r ∷ []) t) (length (t .wires) + 0)
-      ≡ choose (getD (t .bits) 0 0) (on none t l) (on none t r)
-  unfolding run step outputs
-  last-y l r t = getD-append-add (t .wires) _ 0 none
-
   pub runY-at : (k : ℕ) (f g : ℕ → ℕ) (s : State A) → ((j : ℕ) → j < k → f j < length (s .wires)) → ((j : ℕ) → j < k → g j < length (s .wires))
       → (j : ℕ) → j < k → on none (runY k f g s) (length (s .wires) + j) ≡ choose (getD (s .bits) j 0) (on none s (f j)) (on none s (g j))
   runY-at zero f g s hf hg j l = absurd (omega arith)
@@ -108,5 +104,5 @@ module _ {A : Type 0} (none : A) (gate : ℕ → List ℕ → List A → A) wher
       go : (j < k → on none t (w + j) ≡ value j) → (j ≡ k) ⊎ (j < k) → on none (run none gate (Y (f k) (g k) ∷ []) t) (w + j) ≡ value j
       go ih (inl e) =
           let p : w + j ≡ length (t .wires) + 0 = omega (arith, runY-made k f g s) in
-          rw (p, last-y (f k) (g k) t, bit, left, right, e)
+          rw (p, last-y none gate (f k) (g k) t, bit, left, right, e)
       go ih (inr m) = run-keeps none gate (Y (f k) (g k) ∷ []) t (w + j) none (omega (arith, runY-made k f g s)) ∙ ih m

@@ -20,10 +20,10 @@ writeFault N ins next rows outputs =
     (andThen (listFault N ins) (andThen (wiresFault ins (2 * rowsOf N) next) (buffersFault (rowsOf N) N rows outputs)))
 
 -- of writing S(m, n) those after the sizes': 12, 13, 11
-abbrev pub lentFault : ℕ → ℕ → List ℕ → ℕ → ℕ → ℕ → ℕ
-lentFault m n ins next rows outputs =
+abbrev pub wiresAndRoomFault : ℕ → ℕ → List ℕ → ℕ → ℕ → ℕ → ℕ
+wiresAndRoomFault m n ins next rows outputs =
     andThen (listFault m ins) (andThen (wiresFault ins (selectionWires m n) next) (buffersFault (selectionCount m n) n rows outputs))
 
 -- the checks of writing S(m, n): 2, 4, 12, 13, 11
 unfoldable pub selectionWriteFault : ℕ → ℕ → List ℕ → ℕ → ℕ → ℕ → ℕ
-selectionWriteFault m n ins next rows outputs = andThen (sidesFault m n) (lentFault m n ins next rows outputs)
+selectionWriteFault m n ins next rows outputs = andThen (sidesFault m n) (wiresAndRoomFault m n ins next rows outputs)

@@ -1,3 +1,4 @@
+// The checks of writing P. They touch no buffer.
 ghost use mathlib.Core.Path.{_≡_};
 ghost use Rattle.fault.specs.Number.{answerNumber};
 ghost use Rattle.write_checks.specs.WriteChecks.{writeFault};

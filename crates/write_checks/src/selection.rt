@@ -1,7 +1,8 @@
+// The checks of writing S. They touch no buffer.
 ghost use mathlib.Core.Path.{_≡_};
 ghost use Rattle.fault.specs.Number.{answerNumber};
 ghost use Rattle.sizes.specs.SizesLaws.{Sides};
-ghost use Rattle.write_checks.specs.WriteChecks.{lentFault, selectionWriteFault};
+ghost use Rattle.write_checks.specs.WriteChecks.{wiresAndRoomFault, selectionWriteFault};
 use elements::FabricWire;
 use elements::check_room;
 use elements::check_wires;
@@ -24,12 +25,12 @@ pub fn check_selection_write(
 {
     match check_sides(m, n) {
         Answer::Refused(f) => Answer::Refused(f),
-        Answer::Done => check_lent(m, n, inputs, next, rows, outputs),
+        Answer::Done => check_wires_and_room(m, n, inputs, next, rows, outputs),
     }
 }
 
 // Those of the lent list and buffers: 12, 13, 11.
-fn check_lent(
+fn check_wires_and_room(
     m: u32,
     n: u32,
     inputs: &[u16],
@@ -38,7 +39,7 @@ fn check_lent(
     outputs: usize,
 ) -> Answer
     requires { ⌜ Sides m n ⌝ }
-    ensures { λ r. ⌜ answerNumber r ≡ lentFault m n (now (inputs .entry)) (next .0) rows outputs ⌝ }
+    ensures { λ r. ⌜ answerNumber r ≡ wiresAndRoomFault m n (now (inputs .entry)) (next .0) rows outputs ⌝ }
 {
     if inputs.len() != m as usize {
         return Answer::Refused(Fault::Contact);

@@ -1,4 +1,4 @@
--- `plan::evaluation::check_evaluate` meets its contract: plan faults, 12, 11, each asked where those before it pass. Assumes nothing.
+-- `evaluation::evaluation::check_evaluate` meets its contract: plan faults, 12, 11, each asked where those before it pass. Assumes nothing.
 use mathlib.Core.Path.{sym, ap, _∙_}
 use borrow.Author.Needs.{needs}
 use borrow.Author.Tests.{lt-leb, le-leb}

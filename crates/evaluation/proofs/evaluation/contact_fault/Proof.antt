@@ -1,4 +1,4 @@
--- `plan::evaluation::contact_fault` meets its contract. The loop's invariant: the first i entries pass. Assumes nothing.
+-- `evaluation::evaluation::contact_fault` meets its contract. The loop's invariant: the first i entries pass. Assumes nothing.
 use native.Mathlib.Omega.{arith}
 use mathlib.Core.Path.{_≡_, refl, sym, ap}
 use Prim.Native.Nat.{_≤_, _-_}

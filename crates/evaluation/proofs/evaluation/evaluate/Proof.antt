@@ -1,4 +1,4 @@
--- `plan::evaluation::evaluate` meets its contract: the checks decide, and where none fails the outputs are written. Assumes nothing.
+-- `evaluation::evaluation::evaluate` meets its contract: the checks decide, and where none fails the outputs are written. Assumes nothing.
 use mathlib.Core.Path.{_≡_, sym, ap, _∙_}
 use borrow.Author.Needs.{needs}
 use lib.ListN.{length}

@@ -1,4 +1,4 @@
--- `plan::evaluation::gate_bit` meets its contract: a shift and a mask of one bit. Assumes nothing.
+-- `evaluation::evaluation::gate_bit` meets its contract: a shift and a mask of one bit. Assumes nothing.
 use Prim.Native.Nat.{_+_, _*_, _/_, _^_}
 use native.Mathlib.Omega.{arith}
 use borrow.Author.Needs.{needs}

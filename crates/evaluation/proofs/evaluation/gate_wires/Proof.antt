@@ -1,4 +1,4 @@
--- `plan::evaluation::gate_wires` meets its contract. The loop's invariant: the inputs' and the first i gates' bits stand in their places.
+-- `evaluation::evaluation::gate_wires` meets its contract. The loop's invariant: the inputs' and the first i gates' bits stand in their places.
 -- Assumes nothing.
 use native.Mathlib.Omega.{arith}
 use mathlib.Core.Path.{_≡_, ap, ap₂, _∙_}
@@ -7,12 +7,12 @@ use borrow.Author.Needs.{needs}
 use lib.ListN.{getD}
 use Rattle.plan.specs.Record.{places, gateAt}
 use Rattle.evaluation.specs.Evaluation.{planWires, gateBit, tableBit}
-use Rattle.evaluation.specs.EvaluationLaws.{maxWires, GateRoom, row-room, gate-room, held-bit, gate-held}
+use Rattle.evaluation.specs.EvaluationLaws.{maxPlanWires, GateRoom, row-room, gate-room, held-bit, gate-held}
 use Rattle.evaluation.proofs.evaluation.gate_wires.Statement.{statement}
 use Rattle.evaluation.proofs.evaluation.gate_wires.Tie as tie
 
 abbrev Inv-loop : tie.InvT-loop
-Inv-loop row plan inputs count wires₀ i₀ wires i = (i ≤ count) × (wires ≡ places maxWires 0 (planWires 0 gateBit plan row i))
+Inv-loop row plan inputs count wires₀ i₀ wires i = (i ≤ count) × (wires ≡ places maxPlanWires 0 (planWires 0 gateBit plan row i))
 
 abbrev μ-loop : tie.MeasureT-loop
 μ-loop row plan inputs count wires₀ i₀ wires i = count - i
@@ -69,7 +69,7 @@ all : tie.Need-returns Inv-loop μ-loop
 all c =
     let start = c .before .before .before .before .args in
     let e : c .before .loop .i ≡ start .t1 .«gate_count» = omega arith in
-    c .before .loop .inv .1 ∙ ap (λ n. places maxWires 0 (planWires 0 gateBit (start .t1) (start .row .now) n)) e
+    c .before .loop .inv .1 ∙ ap (λ n. places maxPlanWires 0 (planWires 0 gateBit (start .t1) (start .row .now) n)) e
 
 pub gate-wires-spec : {M : Type 1} → statement M
 gate-wires-spec =

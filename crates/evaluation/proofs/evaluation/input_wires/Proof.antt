@@ -1,4 +1,4 @@
--- `plan::evaluation::input_wires` meets its contract. The loop's invariant: the first i entries of the row stand in their places.
+-- `evaluation::evaluation::input_wires` meets its contract. The loop's invariant: the first i entries of the row stand in their places.
 -- Assumes nothing.
 use native.Mathlib.Omega.{arith}
 use mathlib.Core.Path.{_≡_, refl, ap, _∙_}
@@ -9,12 +9,12 @@ use lib.ListN.{length, take}
 use lib.Seq.{take-suc, take-length, length-take-le}
 use Rattle.plan.specs.Record.{places}
 use Rattle.plan.specs.RecordLaws.{places-more}
-use Rattle.evaluation.specs.EvaluationLaws.{maxWires}
+use Rattle.evaluation.specs.EvaluationLaws.{maxPlanWires}
 use Rattle.evaluation.proofs.evaluation.input_wires.Statement.{statement}
 use Rattle.evaluation.proofs.evaluation.input_wires.Tie as tie
 
 abbrev Inv-loop : tie.InvT-loop
-Inv-loop row wires₀ i₀ wires i = (i ≤ length row) × (wires ≡ places maxWires 0 (take i row))
+Inv-loop row wires₀ i₀ wires i = (i ≤ length row) × (wires ≡ places maxPlanWires 0 (take i row))
 
 abbrev μ-loop : tie.MeasureT-loop
 μ-loop row wires₀ i₀ wires i = length row - i
@@ -36,7 +36,7 @@ all : tie.Need-returns Inv-loop μ-loop
 all c =
     let row = c .before .before .args .row .now in
     let e : c .before .loop .i ≡ length row = omega arith in
-    c .before .loop .inv .1 ∙ ap (places maxWires 0) (ap (λ n. take n row) e ∙ take-length row)
+    c .before .loop .inv .1 ∙ ap (places maxPlanWires 0) (ap (λ n. take n row) e ∙ take-length row)
 
 pub input-wires-spec : {M : Type 1} → statement M
 input-wires-spec =

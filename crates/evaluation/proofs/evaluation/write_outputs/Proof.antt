@@ -1,4 +1,4 @@
--- `plan::evaluation::write_outputs` meets its contract. The loop's invariant: the first i entries are the values on the wires that the first
+-- `evaluation::evaluation::write_outputs` meets its contract. The loop's invariant: the first i entries are the values on the wires that the first
 -- i outputs name. Assumes nothing.
 use native.Mathlib.Omega.{arith}
 use mathlib.Core.Path.{_≡_, refl, ap, _∙_}

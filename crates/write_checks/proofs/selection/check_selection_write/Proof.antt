@@ -13,7 +13,7 @@ use Rattle.write_checks.proofs.selection.check_selection_write.Tie as t
 allowed : (c : tie.After-enum-told) → let a = c .before .before .before .before .args in 0 ≡ sidesFault (a .m) (a .n)
 allowed c = ap answerNumber (sym (c .enum-told .given .1)) ∙ c .before .before .check-sides .ensures
 
-sides : tie.Need-check-lent-requires
+sides : tie.Need-check-wires-and-room-requires
 sides c κs = sides-allowed _ _ .0 (sym (allowed c))
 
 refused : tie.Need-returns
@@ -24,7 +24,7 @@ refused c =
 
 asked : tie.Need-returns-2
 unfolding selectionWriteFault
-asked c = second-answers _ _ _ (allowed (c .before)) (c .check-lent .ensures)
+asked c = second-answers _ _ _ (allowed (c .before)) (c .check-wires-and-room .ensures)
 
 pub check-selection-write-spec : {M : Type 1} → statement M
 check-selection-write-spec =

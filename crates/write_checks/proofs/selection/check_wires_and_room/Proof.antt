@@ -1,4 +1,4 @@
--- `write_checks::selection::check_lent` meets its contract: 12, 13, 11, each asked where those before it pass. Assumes nothing.
+-- `write_checks::selection::check_wires_and_room` meets its contract: 12, 13, 11, each asked where those before it pass. Assumes nothing.
 use native.Mathlib.Omega.{arith}
 use mathlib.Core.Path.{_≡_, sym, ap, _∙_}
 use lib.ListN.{length}
@@ -11,8 +11,8 @@ use Rattle.sizes.specs.SizesLaws.{few-wires}
 use Rattle.elements.specs.Checks.{listFault, wiresFault, buffersFault}
 use Rattle.elements.specs.ChecksLaws.{list-faultless}
 use Rattle.write_checks.specs.WriteChecksLaws.{rows-make}
-use Rattle.write_checks.proofs.selection.check_lent.Statement.{statement}
-use Rattle.write_checks.proofs.selection.check_lent.Tie as tie
+use Rattle.write_checks.proofs.selection.check_wires_and_room.Statement.{statement}
+use Rattle.write_checks.proofs.selection.check_wires_and_room.Tie as tie
 
 other-length : tie.Need-returns
 unfolding listFault
@@ -63,8 +63,8 @@ room c =
     second-answers _ _ _ (listed (asked .before .before))
     (second-answers _ _ _ (ap answerNumber (sym (told .enum-told .given .1)) ∙ made asked) (roomed c))
 
-pub check-lent-spec : {M : Type 1} → statement M
-check-lent-spec =
+pub check-wires-and-room-spec : {M : Type 1} → statement M
+check-wires-and-room-spec =
     tie.close
     (tie.spec
     other-length (λ c κs. search needs) few-made (λ c κs. search needs) (λ c. search needs) (λ c. search needs) (λ c κs. search needs) few-rows

@@ -16,18 +16,22 @@ use Rattle.fault.specs.Checks.{firstOf, roomFault}
 use Rattle.plan.specs.Faults.{countsFault, gateFault, outputFault, planFault}
 use Rattle.powers.specs.Powers.{firstFit, ceilLog, ceilPower}
 use Rattle.networks.specs.Bits.{setBit, storeBits, pack}
-use Rattle.networks.specs.Permutation.{permutationCount, inputRows, outputRows, firsts, seconds, permutationRows, permutationOuts, partner, iterate, walk, key, least, lowest, side, pick, inHalf, permutationBits}
+use Rattle.networks.specs.Permutation.{permutationCount, inputRows, outputRows, firsts, seconds, permutationRows, permutationOuts}
+use Rattle.networks.specs.Permutation.{partner, iterate, walk, key, least, lowest, side, pick, inHalf, permutationBits}
 use Rattle.networks.specs.Wanted.{mapping, takerOf, inverse, wantedBits}
 use Rattle.networks.specs.Counting.{countOf, nthOf}
 use Rattle.networks.specs.Completion.{isTaken, completed}
-use Rattle.networks.specs.Selection.{selectionLevel, padded, chainWire, chainRows, chainOuts, wholeRows, wholeOuts, wholeCount, wholeWires, selectionRows, selectionOuts, selectionCount, selectionWires, wanting, headOf, copyOf, wholeProgram, selectionBits}
-use Rattle.sizes.specs.Sizes.{sizeAllowed, sideAllowed, sidesFault}
+use Rattle.networks.specs.Selection.{selectionLevel, padded, chainWire, chainRows, chainOuts, wholeRows, wholeOuts, wholeCount, wholeWires}
+use Rattle.networks.specs.Selection.{selectionRows, selectionOuts, selectionCount, selectionWires, wanting, headOf, copyOf, wholeProgram, selectionBits}
+use Rattle.sizes.specs.Sizes.{sizeAllowed, levelOf, sideAllowed, sidesFault}
 use Rattle.elements.specs.Checks.{listFault, bitsFault}
 use Rattle.permutation_bits.specs.ProgramCalls.{notAmong, sourceFault, wantedFault, programFault, programResult}
 use Rattle.selection_bits.specs.ProgramCalls.{selectedFault, selectionWantedFault, selectionProgramFault, selectionProgramResult}
 use Rattle.networks.specs.Rows.{entries, flat, choose}
-use Rattle.universal.specs.Universal.{mixRows, wiresFrom, universalCount, universalWires, universalTakes, universalRows, universalOuts, tableProgram, isOf, wantedGate, wantedGates, mixBits, universalBits}
-use Rattle.universal.specs.Fabric.{inputWires, fabricRows, fabricOuts, fabricCount, fabricWires, fabricTakes, fabricTable, paddedGate, wantedInput, wantedInputs, wantedOutputs, planBits, planProgram}
+use Rattle.universal.specs.Universal.{mixRows, wiresFrom, universalCount, universalWires, universalTakes, universalRows, universalOuts}
+use Rattle.universal.specs.Universal.{tableProgram, isOf, wantedGate, wantedGates, mixBits, universalBits}
+use Rattle.universal.specs.Fabric.{inputWires, fabricRows, fabricOuts, fabricCount, fabricWires, fabricTakes, fabricTable}
+use Rattle.universal.specs.Fabric.{paddedGate, wantedInput, wantedInputs, wantedOutputs, planBits, planProgram}
 use Rattle.fabric_rows.specs.FabricCalls.{counting, fabricFault, fabricResult}
 use Rattle.fabric_bits.specs.ProgramCalls.{planProgramFault, planProgramResult}
 use Rattle.figures.specs.Figure.{Figure, Holds, passes, passes-holds}
@@ -57,20 +61,20 @@ refuses file number at = record {
   stated = outcomeNumbers (record { number = number; at = at; plan = zeroPlan });
 }
 
--- programming P(N) for the wanted inputs succeeds and makes a byte of ones the program of these bits
+-- the bits of P(N) for the wanted inputs are these, and programming it succeeds and makes a byte of ones their program
 unfoldable pub programs : ℕ → List ℕ → List ℕ → Figure
 unfolding firstOf listOf firstFit ceilLog ceilPower sizeAllowed notAmong sourceFault wantedFault listFault bitsFault setBit storeBits pack
 programs N wanted bits = record {
-  computed = programFault N wanted 1 ∷ programResult N wanted (255 ∷ []);
-  stated = 0 ∷ pack bits;
+  computed = programFault N wanted 1 ∷ (wantedBits (levelOf N) wanted ++ programResult N wanted (255 ∷ []));
+  stated = 0 ∷ (bits ++ pack bits);
 }
 
--- programming S(m, n) for the wanted inputs, likewise
+-- S(m, n) likewise
 unfoldable pub selects : ℕ → ℕ → List ℕ → List ℕ → Figure
 unfolding firstOf listOf firstFit ceilLog sideAllowed sidesFault selectedFault selectionWantedFault listFault bitsFault setBit storeBits pack
 selects m n wanted bits = record {
-  computed = selectionProgramFault m n wanted 1 ∷ selectionProgramResult m n wanted (255 ∷ []);
-  stated = 0 ∷ pack bits;
+  computed = selectionProgramFault m n wanted 1 ∷ (selectionBits m n wanted ++ selectionProgramResult m n wanted (255 ∷ []));
+  stated = 0 ∷ (bits ++ pack bits);
 }
 
 -- the fabric of three counts has so many rows, wires and program bits
@@ -101,8 +105,8 @@ planned file bytes = record {
 
 -- a header that passes leaves a file of six bytes cut before its first map byte, and a map byte 7 one of seven bytes cut before its
 -- first operand
-unfoldable pub benchSheet : List Figure
-benchSheet =
+unfoldable pub statedFigures : List Figure
+statedFigures =
     -- u 0: refusal 2 at 0; u 64 passes, 65 is 2
     refuses (0 ∷ 0 ∷ 1 ∷ 0 ∷ 1 ∷ 0 ∷ []) 2 0
     ∷ refuses (64 ∷ 0 ∷ 1 ∷ 0 ∷ 1 ∷ 0 ∷ []) 5 6
@@ -137,10 +141,10 @@ benchSheet =
     ∷ []
 
 -- the claim
-pub bench-sheet : Holds benchSheet
-unfolding benchSheet passes refuses programs selects counts fabricates planned selectionRows selectionOuts wholeRows wholeOuts padded chainWire
+pub figures-hold : Holds statedFigures
+unfolding statedFigures passes refuses programs selects counts fabricates planned selectionRows selectionOuts wholeRows wholeOuts padded chainWire
     chainRows chainOuts inputRows outputRows firsts seconds permutationRows permutationOuts entries flat inputWires fabricRows fabricOuts fabricTable
     mixRows wiresFrom universalRows universalOuts paddedGate wantedInput wantedInputs wantedOutputs planBits planProgram tableProgram isOf wantedGate
     wantedGates mixBits universalBits choose selectionLevel wholeCount selectionCount wanting headOf copyOf wholeProgram selectionBits countOf nthOf
     isTaken completed permutationCount partner iterate walk key least lowest side pick inHalf permutationBits mapping takerOf inverse wantedBits
-bench-sheet = passes-holds benchSheet refl
+figures-hold = passes-holds statedFigures refl
