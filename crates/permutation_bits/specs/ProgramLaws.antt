@@ -28,9 +28,9 @@ use Rattle.sizes.specs.Sizes.{maxSize, maxLevel, sizeAllowed, levelOf}
 use Rattle.sizes.specs.SizesLaws.{SizeIs, size-is, power-allowed, few-rows}
 use Rattle.elements.specs.Checks.{listFault, bitsFault, bitsAtFault}
 use Rattle.elements.specs.ChecksLaws.{list-faultless, bits-faultless, bits-at-front, stored-done}
-use Rattle.permutation_bits.specs.Levels.{Blank}
-use Rattle.permutation_bits.specs.Mappings.{IsPerm, listBits}
-use Rattle.permutation_bits.specs.MappingsLaws.{listed, bits-listed}
+use Rattle.loops.specs.Levels.{Blank}
+use Rattle.loops.specs.Mappings.{IsPerm, listBits}
+use Rattle.loops.specs.MappingsLaws.{listed, bits-listed}
 use Rattle.permutation_bits.specs.ProgramCalls.{notAmong, sourceAllowed, sourceCheck, sourceFault, wantedFault, bitCount, programFault, programAtFault, programResult, programAtResult}
 
 -- ---- check 9

@@ -6,8 +6,8 @@ ghost use Rattle.networks.specs.Bits.{storeBits};
 ghost use Rattle.networks.specs.Permutation.{permutationCount};
 ghost use Rattle.sizes.specs.Sizes.{maxLevel};
 ghost use Rattle.sizes.specs.SizesLaws.{CountIs};
-ghost use Rattle.permutation_bits.specs.Mappings.{IsPerm, listBits};
-ghost use Rattle.permutation_bits.specs.Levels.{BlockRoom, HalfRoom};
+ghost use Rattle.loops.specs.Mappings.{IsPerm, listBits};
+ghost use Rattle.loops.specs.Levels.{BlockRoom, HalfRoom};
 use crate::level::program_level;
 use sizes::permutation_count;
 

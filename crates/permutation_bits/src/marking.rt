@@ -5,8 +5,8 @@ ghost use Prim.Native.Nat.{_<_, _≤_};
 ghost use lib.ListN.{length, getD, drop, replicate};
 ghost use Rattle.networks.specs.Permutation.{partner};
 ghost use Rattle.sizes.specs.Sizes.{maxSize};
-ghost use Rattle.permutation_bits.specs.Mappings.{Paired, walkIn, sideList};
-ghost use Rattle.permutation_bits.specs.Marking.{unmarked, pairMarked, startOf, Leads, Traced, Visited};
+ghost use Rattle.loops.specs.Mappings.{Paired, walkIn, sideList};
+ghost use Rattle.loops.specs.Marking.{unmarked, pairMarked, startOf, Leads, Traced, Visited};
 use elements::fill_bytes;
 
 // The mark of an output that no walk has reached yet; 0 is the upper half, 1 the lower.

@@ -10,7 +10,7 @@ ghost use Rattle.networks.specs.Bits.{storeBits};
 ghost use Rattle.networks.specs.Wanted.{Wanted, mapping, wantedBits};
 ghost use Rattle.sizes.specs.Sizes.{maxSize, levelOf};
 ghost use Rattle.sizes.specs.SizesLaws.{SizeIs};
-ghost use Rattle.permutation_bits.specs.Levels.{Blank};
+ghost use Rattle.loops.specs.Levels.{Blank};
 ghost use Rattle.permutation_bits.specs.ProgramCalls.{bitCount, sourceFault, wantedFault, programFault, programAtFault, programResult, programAtResult};
 use crate::block::program_block;
 use crate::marking::wide;

@@ -10,8 +10,8 @@ use borrow.Fn.PlainCycle.{Measures, is, falls, and}
 use borrow.Rule.Slice.PartMut.{mid-len, drop-put}
 use lib.ListN.{length, take, drop}
 use Rattle.networks.specs.Bits.{AreBytes, storeBits}
-use Rattle.permutation_bits.specs.Mappings.{listBits}
-use Rattle.permutation_bits.specs.LevelsLaws.{halving, level-room, half-room, part-room, upper-perm, lower-perm, block-stored, no-bits}
+use Rattle.loops.specs.Mappings.{listBits}
+use Rattle.loops.specs.LevelsLaws.{halving, level-room, half-room, part-room, upper-perm, lower-perm, block-stored, no-bits}
 use Rattle.permutation_bits.proofs.block.program_block.Reads as program-block
 use Rattle.permutation_bits.proofs.block.program_block.Kinds as program-block-kinds
 use Rattle.permutation_bits.proofs.block.+program_block+program_half.Lts-program_block as program-block-lts

@@ -3,8 +3,8 @@ use mathlib.Core.Path.{sym, ap, _∙_}
 use borrow.Author.Needs.{needs}
 use Prim.Native.Nat.{_/_}
 use lib.ListN.{length}
-use Rattle.permutation_bits.specs.Mappings.{Paired, sideList, inverseList}
-use Rattle.permutation_bits.specs.MappingsLaws.{paired}
+use Rattle.loops.specs.Mappings.{Paired, sideList, inverseList}
+use Rattle.loops.specs.MappingsLaws.{paired}
 use Rattle.permutation_bits.proofs.level.find_sides.Statement.{statement}
 use Rattle.permutation_bits.proofs.level.find_sides.Tie as tie
 

@@ -6,7 +6,7 @@ use borrow.Author.Needs.{needs}
 use lib.ListN.{length, getD, length-set}
 use lib.Seq.{sets}
 use Rattle.lists.specs.Lists.{listOf}
-use Rattle.permutation_bits.specs.Mappings.{halfEntry}
+use Rattle.loops.specs.Mappings.{halfEntry}
 use Rattle.elements.specs.StoreLaws.{set-none, set-step}
 use Rattle.permutation_bits.proofs.level.half_map.Statement.{statement}
 use Rattle.permutation_bits.proofs.level.half_map.Tie as tie

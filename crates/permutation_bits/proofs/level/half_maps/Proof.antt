@@ -5,7 +5,7 @@ use borrow.Author.Needs.{needs}
 use lib.ListN.{length}
 use lib.Seq.{sets}
 use Rattle.lists.specs.ListsLaws.{length-listOf}
-use Rattle.permutation_bits.specs.Mappings.{halfList, halfEntry}
+use Rattle.loops.specs.Mappings.{halfList, halfEntry}
 use Rattle.elements.specs.StoreLaws.{sets-halves}
 use Rattle.permutation_bits.proofs.level.half_maps.Statement.{statement}
 use Rattle.permutation_bits.proofs.level.half_maps.Tie as tie

@@ -4,7 +4,7 @@ use Prim.Native.Nat.{_-_, _≤_, _<_}
 use native.Mathlib.Omega.{arith}
 use borrow.Author.Needs.{needs}
 use lib.ListN.{length}
-use Rattle.permutation_bits.specs.MappingsLaws.{Inverted, entry-lt, inverted-more, inverted-all}
+use Rattle.loops.specs.MappingsLaws.{Inverted, entry-lt, inverted-more, inverted-all}
 use Rattle.permutation_bits.proofs.level.invert.Statement.{statement}
 use Rattle.permutation_bits.proofs.level.invert.Tie as tie
 

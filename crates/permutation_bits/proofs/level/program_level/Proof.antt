@@ -2,9 +2,9 @@
 use mathlib.Core.Path.{_≡_, _∙_}
 use borrow.Author.Needs.{needs}
 use lib.ListN.{length}
-use Rattle.permutation_bits.specs.Mappings.{inverseList, sidesOf}
-use Rattle.permutation_bits.specs.Levels.{SidesKnown}
-use Rattle.permutation_bits.specs.MappingsLaws.{sides-known, levelled}
+use Rattle.loops.specs.Mappings.{inverseList, sidesOf}
+use Rattle.loops.specs.Levels.{SidesKnown}
+use Rattle.loops.specs.MappingsLaws.{sides-known, levelled}
 use Rattle.permutation_bits.proofs.level.program_level.Statement.{statement}
 use Rattle.permutation_bits.proofs.level.program_level.Tie as tie
 

@@ -4,7 +4,7 @@ use Prim.Native.Nat.{_+_, _/_}
 use borrow.Author.Needs.{needs}
 use lib.ListN.{length}
 use Rattle.networks.specs.Bits.{storeBits}
-use Rattle.permutation_bits.specs.Mappings.{outputSides}
+use Rattle.loops.specs.Mappings.{outputSides}
 use Rattle.permutation_bits.proofs.level.store_rows.Statement.{statement}
 use Rattle.permutation_bits.proofs.level.store_rows.Tie as tie
 

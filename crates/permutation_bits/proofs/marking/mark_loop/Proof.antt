@@ -4,7 +4,7 @@ use mathlib.Core.Path.{_≡_, _∙_}
 use Prim.Native.Nat.{suc, _-_, _≤_, _<_}
 use native.Mathlib.Omega.{arith}
 use lib.ListN.{length}
-use Rattle.permutation_bits.specs.MarkingLaws.{Walked, walked-none, walked-more, walked-round, walked-short, walked-below, pair-lt}
+use Rattle.loops.specs.MarkingLaws.{Walked, walked-none, walked-more, walked-round, walked-short, walked-below, pair-lt}
 use Rattle.permutation_bits.proofs.marking.mark_loop.Statement.{statement}
 use Rattle.permutation_bits.proofs.marking.mark_loop.Tie as tie
 

@@ -2,7 +2,7 @@
 use mathlib.Core.Path.{ap}
 use borrow.Author.Needs.{needs}
 use lib.ListN.{set, length-set}
-use Rattle.permutation_bits.specs.Marking.{pairMarked}
+use Rattle.loops.specs.Marking.{pairMarked}
 use Rattle.permutation_bits.proofs.marking.mark_pair.Statement.{statement}
 use Rattle.permutation_bits.proofs.marking.mark_pair.Tie as tie
 

@@ -5,7 +5,7 @@ use Prim.Native.Nat.{_-_, _≤_}
 use native.Mathlib.Omega.{arith}
 use borrow.Author.Needs.{needs}
 use Rattle.elements.specs.StoreLaws.{bytes-filled}
-use Rattle.permutation_bits.specs.MarkingLaws.{filled-whole, Swept, swept-none, swept-more, swept-all, start-below, leads}
+use Rattle.loops.specs.MarkingLaws.{filled-whole, Swept, swept-none, swept-more, swept-all, start-below, leads}
 use Rattle.permutation_bits.proofs.marking.mark_sides.Statement.{statement}
 use Rattle.permutation_bits.proofs.marking.mark_sides.Tie as tie
 

@@ -1,7 +1,7 @@
 -- `permutation_bits::marking::start_of` meets its contract, case by case. Assumes nothing.
 use mathlib.Core.Path.{sym}
 use borrow.Author.Needs.{needs}
-use Rattle.permutation_bits.specs.MarkingLaws.{start-first, start-next}
+use Rattle.loops.specs.MarkingLaws.{start-first, start-next}
 use Rattle.permutation_bits.proofs.marking.start_of.Statement.{statement}
 use Rattle.permutation_bits.proofs.marking.start_of.Tie as tie
 

@@ -6,7 +6,7 @@ use native.Mathlib.Omega.{arith}
 use borrow.Author.Needs.{needs}
 use lib.ListN.{length, getD}
 use Rattle.networks.specs.Permutation.{partner}
-use Rattle.permutation_bits.specs.MarkingLaws.{place-lt, pair-lt, step-is}
+use Rattle.loops.specs.MarkingLaws.{place-lt, pair-lt, step-is}
 use Rattle.permutation_bits.proofs.marking.step.Statement.{statement}
 use Rattle.permutation_bits.proofs.marking.step.Tie as tie
 

@@ -10,7 +10,7 @@ use lib.Seq.{length-take-le}
 use Rattle.networks.specs.Bits.{storeBits}
 use Rattle.networks.specs.Wanted.{wantedBits}
 use Rattle.sizes.specs.Sizes.{levelOf}
-use Rattle.permutation_bits.specs.Mappings.{listBits}
+use Rattle.loops.specs.Mappings.{listBits}
 use Rattle.elements.specs.StoreLaws.{store-part}
 use Rattle.permutation_bits.specs.ProgramLaws.{few-bits, front-perm, front-bits}
 use Rattle.permutation_bits.proofs.programming.program_wanted.Statement.{statement}

@@ -6,7 +6,7 @@ use mathlib.Core.Logic.{_≢_}
 use mathlib.Core.List.{List}
 use lib.ListN.{length, getD, set}
 use Rattle.networks.specs.Permutation.{partner, lowest}
-use Rattle.permutation_bits.specs.Mappings.{mapOf, sideIn}
+use Rattle.loops.specs.Mappings.{mapOf, sideIn}
 
 -- the mark of a place that no loop has reached yet
 abbrev pub unmarked : ℕ

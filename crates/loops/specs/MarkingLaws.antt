@@ -16,8 +16,8 @@ use Rattle.networks.specs.Orbits.{Reach, reach-trans, once-round, Attained}
 use Rattle.networks.specs.Loops.{partner-partner, partner-half, partner-lt, same-pair, key-at, key-inj, key-partner, key-last, key-other, KeyAt, in-last, elsewhere, flipped, perm-lt}
 use Rattle.networks.specs.Loops.{walk-lt, walk-closes, walk-sym, walk-mirror, lowest-at, lowest-low, lowest-same, lowest-partner, side-along, side-partner}
 use Rattle.networks.specs.Halves.{side-lt, output-sides}
-use Rattle.permutation_bits.specs.Mappings.{mapOf, Paired, walkIn, sideIn, sideList}
-use Rattle.permutation_bits.specs.Marking.{unmarked, pairMarked, startOf, loopOf, loopIn, Leads, Traced, Visited}
+use Rattle.loops.specs.Mappings.{mapOf, Paired, walkIn, sideIn, sideList}
+use Rattle.loops.specs.Marking.{unmarked, pairMarked, startOf, loopOf, loopIn, Leads, Traced, Visited}
 
 -- ---- one pair
 

@@ -12,9 +12,9 @@ use Rattle.lists.specs.ListsLaws.{length-listOf}
 use Rattle.networks.specs.Bits.{AreBits, AreBytes, storeBits}
 use Rattle.networks.specs.BitsLaws.{bits-listOf}
 use Rattle.networks.specs.Permutation.{permutationCount, permutationBits}
-use Rattle.permutation_bits.specs.Mappings.{IsPerm, inverseOf, listBits, inputSides, outputSides, halfList, inverseList, sidesOf, Levelled}
-use Rattle.permutation_bits.specs.MappingsLaws.{half-size, half-listed, level-bits, length-listBits, listBits-bits, sides-bits}
-use Rattle.permutation_bits.specs.Levels.{LevelRoom, BlockRoom, HalfRoom}
+use Rattle.loops.specs.Mappings.{IsPerm, inverseOf, listBits, inputSides, outputSides, halfList, inverseList, sidesOf, Levelled}
+use Rattle.loops.specs.MappingsLaws.{half-size, half-listed, level-bits, length-listBits, listBits-bits, sides-bits}
+use Rattle.loops.specs.Levels.{LevelRoom, BlockRoom, HalfRoom}
 use Rattle.elements.specs.StoreLaws.{store-level}
 
 -- a block that has halves

@@ -18,9 +18,9 @@ use Rattle.networks.specs.Halves.{half-perm, side-lt, output-sides}
 use Rattle.networks.specs.Routing.{length-permutationBits, permutationBits-bits}
 use Rattle.networks.specs.Wanted.{takerOf}
 use Rattle.networks.specs.WantedLaws.{taker-perm}
-use Rattle.permutation_bits.specs.Mappings.{mapOf, inverseOf, IsPerm, listBits, Paired, sideIn, inverseList, inputSides, outputSides, halfList, sidesOf, Levelled}
-use Rattle.permutation_bits.specs.Levels.{LevelRoom, SidesKnown}
-use Rattle.permutation_bits.specs.MarkingLaws.{read-map}
+use Rattle.loops.specs.Mappings.{mapOf, inverseOf, IsPerm, listBits, Paired, sideIn, inverseList, inputSides, outputSides, halfList, sidesOf, Levelled}
+use Rattle.loops.specs.Levels.{LevelRoom, SidesKnown}
+use Rattle.loops.specs.MarkingLaws.{read-map}
 
 -- ---- lists given place by place
 
