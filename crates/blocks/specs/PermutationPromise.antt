@@ -16,11 +16,12 @@ use Rattle.networks.specs.WantedLaws.{mapping-at, length-wantedBits, wantedBits
 use Rattle.sizes.specs.Sizes.{levelOf}
 use Rattle.sizes.specs.SizesLaws.{SizeIs}
 use Rattle.write_checks.specs.WriteChecks.{rowsOf, writeFault}
-use Rattle.permutation_rows.specs.WriteCalls.{writtenRows, writtenOutputs}
 use Rattle.write_checks.specs.WriteChecksLaws.{write-passes}
+use Rattle.permutation_rows.specs.WriteCalls.{writtenRows, writtenOutputs}
 use Rattle.permutation_rows.specs.WriteLaws.{written-read}
-use Rattle.permutation_bits.specs.ProgramCalls.{bitCount, programFault, programAtFault, programResult, programAtResult}
-use Rattle.permutation_bits.specs.ProgramLaws.{fault-at, program-passes}
+use Rattle.wanted_checks.specs.Checks.{bitCount, programFault, programAtFault}
+use Rattle.wanted_checks.specs.ChecksLaws.{fault-at, program-passes}
+use Rattle.permutation_bits.specs.ProgramCalls.{programResult, programAtResult}
 
 -- the wanted list at the block's level
 at-level : {N : ℕ} {wanted : List ℕ} → SizeIs N → Wanted N wanted → Wanted (2 ^ levelOf N) wanted

@@ -12,11 +12,13 @@ use Rattle.networks.specs.Selection.{selectionCount}
 use Rattle.networks.specs.SelectionRouting.{selected-at}
 use Rattle.networks.specs.SelectionRun.{packed-selection-delivers}
 use Rattle.write_checks.specs.WriteChecks.{selectionWriteFault}
-use Rattle.selection_rows.specs.WriteCalls.{selectionWrittenRows, selectionWrittenOutputs}
 use Rattle.write_checks.specs.WriteChecksLaws.{selection-write-passes, some-wire}
+use Rattle.selection_rows.specs.WriteCalls.{selectionWrittenRows, selectionWrittenOutputs}
 use Rattle.selection_rows.specs.SelectionWriteLaws.{selection-written-read}
-use Rattle.selection_bits.specs.ProgramCalls.{selectionProgramFault, selectionProgramResult}
-use Rattle.selection_bits.specs.SelectionProgramLaws.{selection-fault-at, selection-program-passes, selection-programmed-read}
+use Rattle.wanted_checks.specs.Checks.{selectionProgramFault}
+use Rattle.wanted_checks.specs.ChecksLaws.{selection-fault-at, selection-program-passes}
+use Rattle.selection_bits.specs.ProgramCalls.{selectionProgramResult}
+use Rattle.selection_bits.specs.SelectionProgramLaws.{selection-programmed-read}
 
 pub selection-promise : {A : Type 0} (none : A) (gate : ℕ → List ℕ → List A → A) (m n : ℕ) (ins : List ℕ) (next : ℕ)
     (rows outputs wanted program : List ℕ)

@@ -57,6 +57,13 @@ pub fn copy_wires(from: &[u16], to: &mut [u16])
     }
 }
 
+// An entry of a list, as a place.
+pub fn wide(x: u16) -> usize
+    ensures { λ r. ⌜ (r ≡ x) × (r < maxWires) ⌝ }
+{
+    x as usize
+}
+
 pub(crate) fn smaller(a: usize, b: usize) -> usize
     ensures { λ r. ⌜ r ≡ min a b ⌝ }
 {

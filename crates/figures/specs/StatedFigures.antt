@@ -25,8 +25,9 @@ use Rattle.networks.specs.Selection.{selectionLevel, padded, chainWire, chainRo
 use Rattle.networks.specs.Selection.{selectionRows, selectionOuts, selectionCount, selectionWires, wanting, headOf, copyOf, wholeProgram, selectionBits}
 use Rattle.sizes.specs.Sizes.{sizeAllowed, levelOf, sideAllowed, sidesFault}
 use Rattle.elements.specs.Checks.{listFault, bitsFault}
-use Rattle.permutation_bits.specs.ProgramCalls.{notAmong, sourceFault, wantedFault, programFault, programResult}
-use Rattle.selection_bits.specs.ProgramCalls.{selectedFault, selectionWantedFault, selectionProgramFault, selectionProgramResult}
+use Rattle.wanted_checks.specs.Checks.{selectedFault, notAmong, twiceFault, sourceFault, wantedFault, programFault, selectionWantedFault, selectionProgramFault}
+use Rattle.permutation_bits.specs.ProgramCalls.{programResult}
+use Rattle.selection_bits.specs.ProgramCalls.{selectionProgramResult}
 use Rattle.networks.specs.Rows.{entries, flat, choose}
 use Rattle.universal.specs.Universal.{mixRows, wiresFrom, universalCount, universalWires, universalTakes, universalRows, universalOuts}
 use Rattle.universal.specs.Universal.{tableProgram, isOf, wantedGate, wantedGates, mixBits, universalBits}
@@ -63,7 +64,7 @@ refuses file number at = record {
 
 -- the bits of P(N) for the wanted inputs are these, and programming it succeeds and makes a byte of ones their program
 unfoldable pub programs : ℕ → List ℕ → List ℕ → Figure
-unfolding firstOf listOf firstFit ceilLog ceilPower sizeAllowed notAmong sourceFault wantedFault listFault bitsFault setBit storeBits pack
+unfolding firstOf listOf firstFit ceilLog ceilPower sizeAllowed selectedFault notAmong twiceFault sourceFault wantedFault listFault bitsFault setBit storeBits pack
 programs N wanted bits = record {
   computed = programFault N wanted 1 ∷ (wantedBits (levelOf N) wanted ++ programResult N wanted (255 ∷ []));
   stated = 0 ∷ (bits ++ pack bits);

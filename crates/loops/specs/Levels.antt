@@ -35,8 +35,3 @@ pub record HalfRoom (level at N scratch marks : ℕ) : Type 0 where
   pub within : at + N / 2 ≤ N
   pub scratchSize : scratch ≡ N
   pub marksSize : marks ≡ N
-
--- marks for every place, none set
-pub record Blank (mark : List ℕ) : Type 0 where
-  pub size : length mark ≡ maxSize
-  pub each : (y : ℕ) → y < length mark → getD mark y 0 ≡ 0

@@ -8,6 +8,7 @@ ghost use Rattle.sizes.specs.Sizes.{maxSize};
 ghost use Rattle.loops.specs.Mappings.{Paired, walkIn, sideList};
 ghost use Rattle.loops.specs.Marking.{unmarked, pairMarked, startOf, Leads, Traced, Visited};
 use elements::fill_bytes;
+use elements::wide;
 
 // The mark of an output that no walk has reached yet; 0 is the upper half, 1 the lower.
 const UNMARKED: u8 = 2;
@@ -96,11 +97,4 @@ fn partner_of(x: usize) -> usize
     ensures { λ r. ⌜ r ≡ partner x ⌝ }
 {
     if x % 2 == 0 { x + 1 } else { x - 1 }
-}
-
-// A place, from an entry.
-pub(crate) fn wide(x: u16) -> usize
-    ensures { λ r. ⌜ (r ≡ x) × (r < 65536) ⌝ }
-{
-    x as usize
 }

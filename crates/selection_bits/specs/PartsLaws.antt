@@ -34,8 +34,8 @@ use Rattle.networks.specs.Heads.{head-le, first-perm, position-rule}
 use Rattle.sizes.specs.Sizes.{maxSize, levelOf}
 use Rattle.sizes.specs.SizesLaws.{SizeIs, size-is, power-allowed, side-level}
 use Rattle.permutation_bits.specs.ProgramCalls.{programAtResult}
-use Rattle.permutation_bits.specs.ProgramLaws.{program-at-succeeds, program-stored}
-use Rattle.selection_bits.specs.SelectionProgramLaws.{SelectionPasses}
+use Rattle.wanted_checks.specs.ChecksLaws.{program-at-succeeds, SelectionPasses}
+use Rattle.permutation_bits.specs.ProgramLaws.{program-stored}
 use Rattle.selection_bits.specs.Arrays.{Demand, Holds, isCounted, headBy, HeadsFit, positionBy, Positioned, NetworkRoom, Found}
 use Rattle.selection_bits.specs.Arrays.{networkBits, chainBit, chainBits, firstBits, firstCount, secondBits}
 use Rattle.selection_bits.specs.ArraysLaws.{over-front, over-taken}

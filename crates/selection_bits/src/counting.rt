@@ -6,6 +6,7 @@ ghost use Rattle.networks.specs.Wanted.{mapping};
 ghost use Rattle.networks.specs.Selection.{copies};
 ghost use Rattle.sizes.specs.Sizes.{maxSize};
 ghost use Rattle.selection_bits.specs.Arrays.{Demand, Holds, Blank};
+use elements::wide;
 
 // How many outputs want each input, in `counts`.
 pub(crate) fn count_wanted(wanted: &[u16], counts: &mut [u16])
@@ -27,11 +28,4 @@ pub(crate) fn input_of(wanted: &[u16], o: usize) -> usize
     ensures { λ r. ⌜ (r ≡ mapping (now (wanted .entry)) o) × (r < maxSize) ⌝ }
 {
     wide(wanted[o]) - 1
-}
-
-// A place, from an entry.
-pub(crate) fn wide(x: u16) -> usize
-    ensures { λ r. ⌜ (r ≡ x) × (r < 65536) ⌝ }
-{
-    x as usize
 }

@@ -11,7 +11,7 @@ ghost use Rattle.networks.specs.Wanted.{takerOf};
 ghost use Rattle.networks.specs.Mappings.{wantedOf};
 ghost use Rattle.sizes.specs.Sizes.{maxSize};
 ghost use Rattle.selection_bits.specs.Arrays.{Holds, Blank, headBy, HeadsFit, headInput, positionBy, Positioned, IdleFrom, NextIdle, Placed};
-use crate::counting::wide;
+use elements::wide;
 
 // The head of each of `size` inputs, in `heads`; and at the head of each wanted one the input, counted from 1, in `list`.
 pub(crate) fn place_heads(size: usize, counts: &[u16], heads: &mut [u16], list: &mut [u16])

@@ -1,6 +1,6 @@
 -- `permutation_bits::programming::program_permutation` meets its contract: the checks decide, and where none fails the bits are stored in zeroed
 -- bytes. Assumes nothing.
-use mathlib.Core.Path.{_≡_, refl, sym, ap, _∙_}
+use mathlib.Core.Path.{_≡_, sym, ap, _∙_}
 use Prim.Native.Nat.{_≤_}
 use native.Mathlib.Omega.{arith}
 use borrow.Author.Needs.{needs}
@@ -12,20 +12,17 @@ use Rattle.networks.specs.Wanted.{wantedBits}
 use Rattle.networks.specs.WantedLaws.{length-wantedBits}
 use Rattle.sizes.specs.Sizes.{levelOf}
 use Rattle.elements.specs.StoreLaws.{store-zeroed, bytes-filled}
-use Rattle.permutation_bits.specs.ProgramCalls.{programAtFault}
-use Rattle.permutation_bits.specs.ProgramLaws.{blank, ProgramPasses, program-passes, fault-at, few-bits}
+use Rattle.wanted_checks.specs.Checks.{programAtFault}
+use Rattle.wanted_checks.specs.ChecksLaws.{ProgramPasses, program-passes, fault-at, few-bits}
 use Rattle.permutation_bits.proofs.programming.program_permutation.Statement.{statement}
 use Rattle.permutation_bits.proofs.programming.program_permutation.Tie as tie
 
-for-checks : tie.Need-check-program-requires
-for-checks c κs = blank
-
 -- where the checks are done, none fails
 module _ (c : tie.After-enum-told) where
-  none : let a = c .before .before .before .before .before .before .before .args in 0 ≡ programAtFault (a .n) (a .wanted .now) 0 (length (a .program .now))
-  none = ap answerNumber (sym (c .enum-told .given .1)) ∙ c .before .before .before .check-program .ensures
+  none : let a = c .before .before .before .before .before .args in 0 ≡ programAtFault (a .n) (a .wanted .now) 0 (length (a .program .now))
+  none = ap answerNumber (sym (c .enum-told .given .1)) ∙ c .before .before .check-permutation .ensures
 
-  passes : let a = c .before .before .before .before .before .before .before .args in ProgramPasses (a .n) (a .wanted .now) 0 (length (a .program .now))
+  passes : let a = c .before .before .before .before .before .args in ProgramPasses (a .n) (a .wanted .now) 0 (length (a .program .now))
   passes = program-passes (sym none)
 
 few : tie.Need-add-fill-bytes
@@ -33,30 +30,30 @@ few c = omega (arith, few-bits (passes (c .before .before) .size), c .permutatio
 
 for-bits : tie.Need-program-wanted-requires
 for-bits c κs =
-    let told = c .before .before .before .before .before .before .before .before .before in
-    let h = passes told in
-    let kept = c .before .before .before .before .before .before .fill-bytes .kept .0 in
-    ((h .size, h .wantedOnce), ((refl, refl, told .before .before .before .check-program .kept .1 .1 .1 .1 .0), rw kept (h .fits)))
+    let filled = c .before .before .before .fill-bytes in
+    let h = passes (c .before .before .before .before .before .before) in
+    ((h .size, h .wantedOnce), rw (filled .kept .0) (h .fits))
 
 refused : tie.Need-returns
 refused c =
     let f = c .before .f .given in
-    let a = c .before .before .before .before .before .before .before .before .args in
-    let e = ap answerNumber (sym (f .1)) ∙ c .before .before .before .before .check-program .ensures ∙ fault-at (a .n) (a .wanted .now) (length (a .program .now)) in
+    let a = c .before .before .before .before .before .before .args in
+    let e = ap answerNumber (sym (f .1)) ∙ c .before .before .before .check-permutation .ensures ∙ fault-at (a .n) (a .wanted .now) (length (a .program .now)) in
     (e, filled-refused (f .0 .0) _ _ _ e)
 
 done : tie.Need-returns-2
 done c =
-    let filled = c .before .before .before .before .before .before .before .before .before .before .before .before in
-    let told = filled .before .before .before in
-    let a = told .before .before .before .before .before .before .before .args in
+    let stored = c .before .before .program-wanted in
+    let filled = c .before .before .before .before .before .before .fill-bytes in
+    let counted = c .before .before .before .before .before .before .before .permutation-count in
+    let told = c .before .before .before .before .before .before .before .before .before in
+    let a = told .before .before .before .before .before .args in
     let bits = wantedBits (levelOf (a .n)) (a .wanted .now) in
-    let counted = filled .before .permutation-count .ensures in
-    let room : bytesFor (filled .before .permutation-count .result) ≤ length (a .program .now) = let h = passes told .fits in omega (arith, counted) in
+    let room : bytesFor (counted .result) ≤ length (a .program .now) = let h = passes told .fits in omega (arith, counted .ensures) in
     let z = none told ∙ fault-at (a .n) (a .wanted .now) (length (a .program .now)) in
-    let bytes = ap bytesFor (length-wantedBits (levelOf (a .n)) (a .wanted .now) ∙ sym (filled .before .permutation-count .ensures)) in (
+    let bytes = ap bytesFor (length-wantedBits (levelOf (a .n)) (a .wanted .now) ∙ sym (counted .ensures)) in (
       z,
-      c .before .before .before .before .before .program-wanted .ensures ∙ ap (λ s. storeBits s 0 bits) (filled .fill-bytes .ensures ∙ bytes-filled _ 0 (a .program .now) room)
+      stored .ensures ∙ ap (λ s. storeBits s 0 bits) (filled .ensures ∙ bytes-filled _ 0 (a .program .now) room)
           ∙ store-zeroed bits (a .program .now) _ bytes ∙ filled-done _ _ _ z,
     )
 
@@ -64,5 +61,5 @@ pub program-permutation-spec : {M : Type 1} → statement M
 program-permutation-spec =
     tie.close
     (tie.spec
-    (λ c. search needs) for-checks (λ c. search needs) (λ c. search needs) (λ c κs. search needs) few (λ c κs. search needs)
-    (λ c. search needs) (λ c. search needs) (λ c. search needs) for-bits refused (λ c. search needs) done)
+    (λ c κs. search needs) (λ c. search needs) (λ c. search needs) (λ c κs. search needs) few (λ c κs. search needs) for-bits refused
+    (λ c. search needs) done)

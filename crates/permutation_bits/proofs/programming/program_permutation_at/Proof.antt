@@ -1,42 +1,35 @@
 -- `permutation_bits::programming::program_permutation_at` meets its contract: the checks decide, and where none fails the bits are stored.
 -- Assumes nothing.
-use mathlib.Core.Path.{_≡_, refl, sym, ap, _∙_}
+use mathlib.Core.Path.{_≡_, sym, ap, _∙_}
 use borrow.Author.Needs.{needs}
 use lib.ListN.{length}
 use Rattle.fault.specs.Number.{answerNumber}
 use Rattle.elements.specs.ChecksLaws.{stored-refused, stored-done}
-use Rattle.permutation_bits.specs.ProgramCalls.{programAtFault}
-use Rattle.permutation_bits.specs.ProgramLaws.{blank, program-passes}
+use Rattle.wanted_checks.specs.Checks.{programAtFault}
+use Rattle.wanted_checks.specs.ChecksLaws.{program-passes}
 use Rattle.permutation_bits.proofs.programming.program_permutation_at.Statement.{statement}
 use Rattle.permutation_bits.proofs.programming.program_permutation_at.Tie as tie
 
-for-checks : tie.Need-check-program-requires
-for-checks c κs = blank
-
 -- where the checks are done, none fails
-none : (c : tie.After-enum-told) → let a = c .before .before .before .before .before .before .before .args in 0 ≡ programAtFault (a .n) (a .wanted .now) (a .start) (length (a .program .now))
-none c = ap answerNumber (sym (c .enum-told .given .1)) ∙ c .before .before .before .check-program .ensures
+none : (c : tie.After-enum-told) → let a = c .before .before .before .before .before .args in 0 ≡ programAtFault (a .n) (a .wanted .now) (a .start) (length (a .program .now))
+none c = ap answerNumber (sym (c .enum-told .given .1)) ∙ c .before .before .check-permutation .ensures
 
 for-bits : tie.Need-program-wanted-requires
-for-bits c κs =
-    let told = c .before .before .before .before in
-    let h = program-passes (sym (none told)) in
-    ((h .size, h .wantedOnce), ((refl, refl, told .before .before .before .check-program .kept .1 .1 .1 .1 .0), h .fits))
+for-bits c κs = let h = program-passes (sym (none (c .before))) in ((h .size, h .wantedOnce), h .fits)
 
 refused : tie.Need-returns
 refused c =
     let f = c .before .f .given in
-    let e = ap answerNumber (sym (f .1)) ∙ c .before .before .before .before .check-program .ensures in
+    let e = ap answerNumber (sym (f .1)) ∙ c .before .before .before .check-permutation .ensures in
     (e, stored-refused (f .0 .0) _ _ _ _ e)
 
 done : tie.Need-returns-2
 done c =
-    let z = none (c .before .before .before .before .before .before .before .before .before .before) in
-    (z, c .before .before .before .before .before .program-wanted .ensures ∙ stored-done _ _ _ _ z)
+    let z = none (c .before .before .before .before) in
+    (z, c .before .before .program-wanted .ensures ∙ stored-done _ _ _ _ z)
 
 pub program-permutation-at-spec : {M : Type 1} → statement M
 program-permutation-at-spec =
     tie.close
     (tie.spec
-    (λ c. search needs) for-checks (λ c. search needs) (λ c. search needs) (λ c. search needs) (λ c. search needs) (λ c. search needs) for-bits
-    refused (λ c. search needs) done)
+    (λ c κs. search needs) (λ c. search needs) (λ c. search needs) for-bits refused (λ c. search needs) done)

@@ -11,8 +11,8 @@ use Rattle.networks.specs.Bits.{bytesFor, storeBits}
 use Rattle.networks.specs.Selection.{selectionBits}
 use Rattle.networks.specs.SelectionRouting.{length-selectionBits}
 use Rattle.elements.specs.StoreLaws.{store-zeroed, bytes-filled}
-use Rattle.selection_bits.specs.ProgramCalls.{selectionProgramAtFault}
-use Rattle.selection_bits.specs.SelectionProgramLaws.{SelectionPasses, selection-program-passes, selection-fault-at, few-bits}
+use Rattle.wanted_checks.specs.Checks.{selectionProgramAtFault}
+use Rattle.wanted_checks.specs.ChecksLaws.{SelectionPasses, selection-program-passes, selection-fault-at, few-selection-bits}
 use Rattle.selection_bits.proofs.programming.program_selection.Statement.{statement}
 use Rattle.selection_bits.proofs.programming.program_selection.Tie as tie
 
@@ -20,13 +20,13 @@ use Rattle.selection_bits.proofs.programming.program_selection.Tie as t
 module _ (c : tie.After-enum-told) where
   none : let a = c .before .before .before .before .before .args in
       0 ≡ selectionProgramAtFault (a .m) (a .n) (a .wanted .now) 0 (length (a .program .now))
-  none = ap answerNumber (sym (c .enum-told .given .1)) ∙ c .before .before .check-program .ensures
+  none = ap answerNumber (sym (c .enum-told .given .1)) ∙ c .before .before .check-selection .ensures
 
   passes : let a = c .before .before .before .before .before .args in SelectionPasses (a .m) (a .n) (a .wanted .now) 0 (length (a .program .now))
   passes = selection-program-passes (sym none)
 
 few : tie.Need-add-fill-bytes
-few c = omega (arith, few-bits (passes (c .before .before) .sides), c .selection-count .ensures)
+few c = omega (arith, few-selection-bits (passes (c .before .before) .sides), c .selection-count .ensures)
 
 for-bits : tie.Need-store-program-requires
 for-bits c κs =
@@ -39,7 +39,7 @@ refused c =
     let f = c .before .f .given in
     let a = c .before .before .before .before .before .before .args in
     let front = selection-fault-at (a .m) (a .n) (a .wanted .now) (length (a .program .now)) in
-    let e = ap answerNumber (sym (f .1)) ∙ c .before .before .before .check-program .ensures ∙ front in
+    let e = ap answerNumber (sym (f .1)) ∙ c .before .before .before .check-selection .ensures ∙ front in
     (e, filled-refused (f .0 .0) _ _ _ e)
 
 done : tie.Need-returns-2

@@ -11,8 +11,9 @@ use Rattle.networks.specs.Bits.{storeBits}
 use Rattle.networks.specs.Selection.{selectionBits}
 use Rattle.elements.specs.ChecksLaws.{stored-refused, stored-done}
 use Rattle.elements.specs.StoreLaws.{store-part}
-use Rattle.selection_bits.specs.ProgramCalls.{selectionProgramAtFault}
-use Rattle.selection_bits.specs.SelectionProgramLaws.{SelectionPasses, selection-program-passes, passes-in-part}
+use Rattle.wanted_checks.specs.Checks.{selectionProgramAtFault}
+use Rattle.wanted_checks.specs.ChecksLaws.{SelectionPasses, selection-program-passes}
+use Rattle.selection_bits.specs.SelectionProgramLaws.{passes-in-part}
 use Rattle.selection_bits.proofs.programming.program_selection_at.Statement.{statement}
 use Rattle.selection_bits.proofs.programming.program_selection_at.Tie as tie
 
@@ -20,7 +21,7 @@ use Rattle.selection_bits.proofs.programming.program_selection_at.Tie a
 module _ (c : tie.After-enum-told) where
   none : let a = c .before .before .before .before .before .args in
       0 ≡ selectionProgramAtFault (a .m) (a .n) (a .wanted .now) (a .start) (length (a .program .now))
-  none = ap answerNumber (sym (c .enum-told .given .1)) ∙ c .before .before .check-program .ensures
+  none = ap answerNumber (sym (c .enum-told .given .1)) ∙ c .before .before .check-selection .ensures
 
   passes : let a = c .before .before .before .before .before .args in
       SelectionPasses (a .m) (a .n) (a .wanted .now) (a .start) (length (a .program .now))
@@ -38,7 +39,7 @@ for-bits c κs = (passes-in-part (c .before .before .before .before .before .bef
 refused : tie.Need-returns
 refused c =
     let f = c .before .f .given in
-    let e = ap answerNumber (sym (f .1)) ∙ c .before .before .before .check-program .ensures in
+    let e = ap answerNumber (sym (f .1)) ∙ c .before .before .before .check-selection .ensures in
     (e, stored-refused (f .0 .0) _ _ _ _ e)
 
 done : tie.Need-returns-2

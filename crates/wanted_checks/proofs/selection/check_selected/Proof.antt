@@ -1,17 +1,17 @@
--- `selection_bits::programming::check_selected` meets its contract. The loop's invariant: the first o entries are allowed. Assumes nothing.
+-- `wanted_checks::selection::check_selected` meets its contract. The loop's invariant: the first o entries are allowed. Assumes nothing.
 use mathlib.Core.Path.{_≡_, refl, sym, _∙_}
 use Prim.Native.Nat.{_-_, _≤_}
 use native.Mathlib.Omega.{arith}
 use borrow.Author.Needs.{needs}
 use lib.ListN.{length}
 use Rattle.fault.specs.Checks.{firstOf}
-use Rattle.selection_bits.specs.ProgramCalls.{selectedFault}
-use Rattle.selection_bits.specs.SelectionProgramLaws.{selectedCheck, selected-low, selected-high, selected-is, selected-refused, selected-passed}
-use Rattle.selection_bits.proofs.programming.check_selected.Statement.{statement}
-use Rattle.selection_bits.proofs.programming.check_selected.Tie as tie
+use Rattle.wanted_checks.specs.Checks.{firstSource, selectedAllowed, selectedFault}
+use Rattle.wanted_checks.specs.ChecksLaws.{source-refused, source-passed, selected-low, selected-high, selected-is}
+use Rattle.wanted_checks.proofs.selection.check_selected.Statement.{statement}
+use Rattle.wanted_checks.proofs.selection.check_selected.Tie as tie
 
 abbrev Inv-loop : tie.InvT-loop
-Inv-loop m wanted o₀ o = (o ≤ length wanted) × (firstOf (selectedCheck m wanted) o ≡ 0)
+Inv-loop m wanted o₀ o = (o ≤ length wanted) × (firstSource (selectedAllowed m wanted) o ≡ 0)
 
 abbrev μ-loop : tie.MeasureT-loop
 μ-loop m wanted o₀ o = length wanted - o
@@ -21,17 +21,19 @@ unfolding firstOf
 holds c = (omega arith, refl)
 
 zero : tie.Need-returns Inv-loop μ-loop
+unfolding selectedFault
 zero c =
     let at = c .before .before .before .before in
     let a = at .before .before .args in
-    selected-refused (a .m) (a .wanted .now) (at .loop .o) (omega arith) (at .loop .inv .1)
+    source-refused (selectedAllowed (a .m) (a .wanted .now)) _ (at .loop .o) (omega arith) (at .loop .inv .1)
     (selected-low (a .m) (a .wanted .now) (at .loop .o) (sym (c .before .wide .ensures .0) ∙ c .if1 .taken))
 
 above : tie.Need-returns-2 Inv-loop μ-loop
+unfolding selectedFault
 above c =
     let at = c .before .before .before .before .before in
     let a = at .before .before .args in
-    selected-refused (a .m) (a .wanted .now) (at .loop .o) (omega arith) (at .loop .inv .1)
+    source-refused (selectedAllowed (a .m) (a .wanted .now)) _ (at .loop .o) (omega arith) (at .loop .inv .1)
     (selected-high (a .m) (a .wanted .now) (at .loop .o) (omega arith) (omega arith))
 
 again : tie.Need-loop-again Inv-loop μ-loop
@@ -39,7 +41,7 @@ again c =
     let at = c .before .before .before .before .before in
     let a = at .before .before .args in
     let allowed = selected-is (a .m) (a .wanted .now) (at .loop .o) (omega arith) (omega arith) in
-    (omega arith, selected-passed (a .m) (a .wanted .now) (at .loop .o) (at .loop .inv .1) allowed)
+    (omega arith, source-passed (selectedAllowed (a .m) (a .wanted .now)) (at .loop .o) (at .loop .inv .1) allowed)
 
 all : tie.Need-returns-3 Inv-loop μ-loop
 unfolding selectedFault
