@@ -22,7 +22,8 @@ use Rattle.fabric_rows.specs.FabricCalls.{tableLength, fabricFault, fabricResul
 use Rattle.fabric_rows.specs.FabricWriteLaws.{fabric-succeeds, fabric-written-read}
 use Rattle.fabric_bits.specs.ProgramCalls.{programLength, planProgramFault, planProgramResult}
 use Rattle.fabric_bits.specs.PlanProgramLaws.{program-succeeds, programmed-read}
-use Rattle.run.specs.RunCalls.{runFault, runResult}
+use Rattle.run_checks.specs.RunFault.{runFault}
+use Rattle.run.specs.RunCalls.{runResult}
 use Rattle.equivalence.specs.TwinCalls.{tableOf, entriesOf, wiresOf}
 
 -- "A row of input contacts is u entries, each 0 or 1"

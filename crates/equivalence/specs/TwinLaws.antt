@@ -27,7 +27,8 @@ use Rattle.fabric_rows.specs.declared.counting.Counts.{Counts}
 use Rattle.fabric_rows.specs.FabricWriteLaws.{fabric-written-read}
 use Rattle.fabric_bits.specs.ProgramCalls.{programLength, planProgramResult}
 use Rattle.fabric_bits.specs.PlanProgramLaws.{programmed-read}
-use Rattle.run.specs.RunCalls.{runFault, runWork, runResult}
+use Rattle.run_checks.specs.RunFault.{runFault}
+use Rattle.run.specs.RunCalls.{runWork, runResult}
 use Rattle.equivalence.specs.declared.twin.Lengths.{Lengths}
 use Rattle.equivalence.specs.TwinCalls.{tableOf, entriesOf, wiresOf, twinRoomFault, twinFault, twinEvaluated, twinRan}
 use Rattle.equivalence.specs.ThirdDemand.{counts-pass, ContactRow, Rooms, ThirdDemand, fabric-unrefused, third-demand}

@@ -1,27 +1,47 @@
 -- What a row makes of the bits that it sees, and that it sees on the work buffer what it sees in the run.
 use mathlib.Core.Path.{_≡_, refl, ap, _∙_}
 use mathlib.Core.List.{List, [], _∷_}
-use Prim.Native.Nat.{ℕ, zero, suc, _+_, _*_, _≤_, _<_}
+use Prim.Native.Nat.{ℕ, zero, suc, _+_, _-_, _*_, _≤_, _<_}
 use native.Mathlib.Nat.{add-zero}
 use native.Mathlib.Numerals.{add-one}
 use native.Mathlib.Omega.{arith}
-use lib.ListN.{getD, take, drop, set}
+use lib.ListN.{length, getD, take, drop, set}
 use lib.Seq.{getD-take, getD-drop}
 use Rattle.lists.specs.Lists.{listOf}
 use Rattle.lists.specs.ListsLaws.{getD-listOf}
-use Rattle.networks.specs.Rows.{X, Y, Gate, gateBits, makes, takes, rowOf, choose, State, outputs, lineOf, gateOnBits}
+use Rattle.networks.specs.Rows.{X, Y, Gate, gateBits, takes, rowOf, choose, State, outputs, lineOf, gateOnBits}
 use Rattle.networks.specs.Bits.{bitAt, unpack}
 use Rattle.networks.specs.BitsLaws.{unpack-at}
-use Rattle.universal.specs.Tables.{kindAt, leftAt, rightAt, rowAt}
-use Rattle.run.specs.declared.table.Place.{Place}
-use Rattle.run.specs.RunRows.{seen, rowDone, RowRoom}
+use Rattle.run.specs.RunRows.{seen, rowDone, leftOf, rightOf, RowRoom}
 
 -- ---- what a row makes of what it sees
 
-pub choose-some : (b left right : ℕ) → (b ≡ 0 → ⊥) → right ≡ choose b left right
+-- bit 0 is the left one's, bit 1 the right one's
+pub choose-entry : (table : List ℕ) (at b : ℕ) → b ≤ 1 → getD table (at + 1 + b) 0 ≡ choose b (leftOf table at) (rightOf table at)
 unfolding choose
-choose-some zero left right n = absurd (n refl)
-choose-some (suc b) left right n = refl
+choose-entry table at zero h = ap (λ n. getD table n 0) (add-zero (at + 1))
+choose-entry table at (suc zero) h = ap (λ n. getD table n 0) (omega arith)
+choose-entry table at (suc (suc b)) h = absurd (omega arith)
+
+choose-below : (n b l r : ℕ) → l < n → r < n → choose b l r < n
+unfolding choose
+choose-below n zero l r hl hr = hl
+choose-below n (suc b) l r hl hr = hr
+
+pub chosen-fits : {new at bit made : ℕ} {table work : List ℕ} (b x : ℕ) → RowRoom new table at bit made work
+    → x ≡ choose b (leftOf table at) (rightOf table at) → x < length work
+chosen-fits {made = made} b x room e = omega (arith, choose-below made b _ _ (room .left) (room .right), room .room)
+
+choose-on : (work : List ℕ) (b l r : ℕ) → getD work (choose b l r) 0 ≡ choose b (getD work l 0) (getD work r 0)
+unfolding choose
+choose-on work zero l r = refl
+choose-on work (suc b) l r = refl
+
+choose-other : (b l r : ℕ) → b ≤ 1 → choose (1 - b) l r ≡ choose b r l
+unfolding choose
+choose-other zero l r h = refl
+choose-other (suc zero) l r h = refl
+choose-other (suc (suc b)) l r h = absurd (omega arith)
 
 line-of : (a b : ℕ) → lineOf 0 (a ∷ b ∷ []) ≡ 2 * a + b
 unfolding lineOf
@@ -84,32 +104,15 @@ module _ (program : List ℕ) (n p : ℕ) (work : List ℕ) (s : State ℕ) (lef
 
 -- ---- what the functions of one row leave
 
--- a row as it is read from the table
-module _ {kind l r : ℕ} (table : List ℕ) (i : ℕ) (ek : kind ≡ kindAt table i) (el : l ≡ leftAt table i) (er : r ≡ rightAt table i) where
-  pub row-read : rowOf kind l r ≡ rowAt table i
-  unfolding rowAt
-  row-read = rw (ek, el, er)
+module _ (program work : List ℕ) (bit made l r : ℕ) where
+  pub x-done : (b x y : ℕ) → b ≤ 1 → b ≡ bitAt program bit → x ≡ choose b l r → y ≡ choose (1 - b) l r
+      → set (set work made (getD work x 0)) (made + 1) (getD work y 0) ≡ rowDone (X l r) program bit made work
+  x-done b x y h eb ex ey =
+      rw (ey, choose-other b l r h, ex, choose-on work b l r, choose-on work b r l, x-makes program bit work l r, eb, add-one made)
 
-  pub room-read : {p : Place} {work : List ℕ} → RowRoom (makes (rowAt table i)) (leftAt table i) (rightAt table i) p work
-      → RowRoom (makes (rowOf kind l r)) l r p work
-  room-read room = record {
-    left = rw el (room .left);
-    right = rw er (room .right);
-    leftBit = rw el (room .leftBit);
-    rightBit = rw er (room .rightBit);
-    room = rw row-read (room .room);
-    bits = room .bits;
-  }
+  pub y-done : (b x : ℕ) → b ≡ bitAt program bit → x ≡ choose b l r → set work made (getD work x 0) ≡ rowDone (Y l r) program bit made work
+  y-done b x eb ex = rw (ex, choose-on work b l r, y-makes program bit work l r, eb)
 
-module _ (program work : List ℕ) (p : Place) (l r : ℕ) where
-  pub x-done : (b x y : ℕ) → b ≡ bitAt program (p .bit) → x ≡ choose b (getD work l 0) (getD work r 0) → y ≡ choose b (getD work r 0) (getD work l 0)
-      → set (set work (p .next .0) x) (p .next .0 + 1) y ≡ rowDone (X l r) program p work
-  x-done b x y eb ex ey = rw (x-makes program (p .bit) work l r, ex, ey, eb, add-one (p .next .0))
-
-  pub y-done : (b x : ℕ) → b ≡ bitAt program (p .bit) → x ≡ choose b (getD work l 0) (getD work r 0)
-      → set work (p .next .0) x ≡ rowDone (Y l r) program p work
-  y-done b x eb ex = rw (y-makes program (p .bit) work l r, ex, eb)
-
-  pub g-done : (made x : ℕ) → RowRoom made l r p work → x ≡ bitAt program (p .bit + (2 * getD work l 0 + getD work r 0))
-      → set work (p .next .0) x ≡ rowDone (Gate (l ∷ r ∷ [])) program p work
-  g-done made x room ex = rw (g-makes program (p .bit) work l r (room .leftBit) (room .rightBit), ex)
+  pub g-done : (x : ℕ) → getD work l 0 ≤ 1 → getD work r 0 ≤ 1 → x ≡ bitAt program (bit + (2 * getD work l 0 + getD work r 0))
+      → set work made x ≡ rowDone (Gate (l ∷ r ∷ [])) program bit made work
+  g-done x a b ex = rw (g-makes program bit work l r a b, ex)

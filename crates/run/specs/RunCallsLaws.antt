@@ -12,7 +12,7 @@ use Rattle.fault.specs.Buffers.{over}
 use Rattle.evaluation.specs.EvaluationLaws.{row-length, row-bit}
 use Rattle.universal.specs.Tables.{inputsIn, outputsIn, outputWireAt, wiresIn, runWires, runOutputs}
 use Rattle.universal.specs.TablesLaws.{WellFormed, table-faultless, length-runWires}
-use Rattle.run.specs.RunCalls.{runFault}
+use Rattle.run_checks.specs.RunFault.{runFault}
 use Rattle.run.specs.RunRows.{Runnable, OutputRoom, outputsOn}
 
 -- the outputs' bits, read from the work buffer

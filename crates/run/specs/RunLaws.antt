@@ -1,24 +1,24 @@
 -- The run on the work buffer, row by row: it stands before the first row, then before each next one, and behind the last it has every wire.
 use mathlib.Core.Path.{_≡_, refl, sym, ap, _∙_}
 use mathlib.Core.List.{List, [], _∷_, _++_}
-use Prim.Native.Nat.{ℕ, zero, suc, _+_, _≤_, _<_}
+use Prim.Native.Nat.{ℕ, zero, suc, _+_, _*_, _≤_, _<_}
 use native.Mathlib.Numerals.{add-one}
 use native.Mathlib.Omega.{arith}
 use lib.ListN.{length, getD, drop, length-append, List·getD-append}
 use lib.Seq.{sets, length-sets}
 use Rattle.lists.specs.Lists.{listOf}
 use Rattle.fault.specs.Buffers.{over}
-use Rattle.networks.specs.Rows.{makes, total, outputs, step, run, gateOnBits}
+use Rattle.networks.specs.Rows.{stride, makes, total, rowOf, outputs, step, run, gateOnBits}
 use Rattle.networks.specs.RowsLaws.{run-append, run-wires, run-bits}
 use Rattle.networks.specs.Bits.{unpack, AreBits}
 use Rattle.networks.specs.BitsLaws.{unpack-bits}
-use Rattle.universal.specs.Tables.{inputsIn, rowsIn, kindAt, leftAt, rightAt, rowAt, rowsTo, wiresBefore, bitsBefore, wiresIn, bitsIn}
+use Rattle.universal.specs.Tables.{header, inputsIn, rowsIn, kindAt, leftAt, rightAt, rowAt, rowsTo, wiresBefore, bitsBefore, wiresIn, bitsIn}
 use Rattle.universal.specs.Tables.{maxFabricWires, runStart, runWires}
 use Rattle.universal.specs.TablesLaws.{wires-more, bits-more, run-areBits}
-use Rattle.run.specs.declared.table.Place.{Place}
-use Rattle.run.specs.Places.{PastRow, Counted}
-use Rattle.run.specs.PlacesLaws.{wires-mono, bits-mono, counted-few, counted-more}
-use Rattle.run.specs.RunRows.{seen, rowDone, RowRoom, RowReady, Runnable, stateTo, Stands}
+use Rattle.run_checks.specs.declared.table.RowCounts.{RowCounts}
+use Rattle.run_checks.specs.Counting.{kindWires, CountsOf, Counted}
+use Rattle.run_checks.specs.CountingLaws.{of-kind, wires-mono, bits-mono, counted-few, counted-more}
+use Rattle.run.specs.RunRows.{seen, rowDone, leftOf, rightOf, RowRoom, Runnable, stateTo, Stands}
 use Rattle.run.specs.RowLaws.{sees-row}
 use Rattle.run.specs.WorkLaws.{sets-over, over-longer}
 
@@ -45,7 +45,7 @@ module _ (table program row : List ℕ) where
           each zero = omega arith
           each (suc j) = h .each j
 
-module _ {table program row old : List ℕ} {i : ℕ} {p : Place} {work : List ℕ} (now : Stands table program row old i p work) where
+module _ {table program row old : List ℕ} {i bit made : ℕ} {work : List ℕ} (now : Stands table program row old i bit made work) where
   abbrev ready : Runnable table row (length old)
   ready = now .ready
 
@@ -63,35 +63,40 @@ module _ {table program row old : List ℕ} {i : ℕ} {p : Place} {work : List �
 
   module _ (h : i < rowsIn table) where
     -- the row's wires are made, with a bit on each, and those that it makes have room
-    pub row-ready : rowsIn table ≤ maxFabricWires → RowReady table i p work
-    row-ready few =
+    row-room : rowsIn table ≤ maxFabricWires → RowRoom (kindWires (kindAt table i)) table (header + stride * i) bit made work
+    unfolding rowAt
+    row-room few =
         let r = ready .wellFormed .row i h in
         let start = ready .wellFormed .start in
-        let at = now .place in
-        let c = counted-few table i p (start .inputs) (omega arith) at in
-        let room : RowRoom (makes (rowAt table i)) (leftAt table i) (rightAt table i) p work
-        = record {
+        let at = now .counted in
+        let own = of-kind (kindAt table i) (leftAt table i) (rightAt table i) in
+        record {
+          entries = omega arith;
           left = omega arith;
           right = omega arith;
           leftBit = held-bit (leftAt table i) (r .left);
           rightBit = held-bit (rightAt table i) (r .right);
-          room = omega (arith, wires-more table i, wires-mono table (suc i) (rowsIn table) h, ready .room, now .size);
-          bits = c .bits;
-        } in
-        record { start = start; within = h; few = omega arith; countable = c; room = room }
+          room = omega (arith, wires-more table i, wires-mono table (suc i) (rowsIn table) h, ready .room, now .size, own .wires);
+          bits = counted-few (start .inputs) (omega arith) at .bits;
+        }
+
+    -- the same for what is read
+    pub row-ready : {at kind : ℕ} → rowsIn table ≤ maxFabricWires → at ≡ header + stride * i → kind ≡ kindAt table i
+        → RowRoom (kindWires kind) table at bit made work
+    row-ready few ea ek = rw (ek, ea) (row-room few)
 
     -- it makes what the run makes of it
-    row-made : outputs 0 gateOnBits (rowAt table i) (stateTo table program row i) ≡ outputs 0 gateOnBits (rowAt table i) (seen program (p .bit) work)
+    row-made : outputs 0 gateOnBits (rowAt table i) (stateTo table program row i) ≡ outputs 0 gateOnBits (rowAt table i) (seen program bit work)
     unfolding rowAt
     row-made =
         let r = ready .wellFormed .row i h in
-        let left = bits-left table program row i ∙ ap (λ b. drop b (unpack (bitsIn table) program)) (sym (now .place .bits)) in
-        sees-row program (bitsIn table) (p .bit) work (stateTo table program row i) left (leftAt table i) (rightAt table i)
+        let left = bits-left table program row i ∙ ap (λ b. drop b (unpack (bitsIn table) program)) (sym (now .counted .bits)) in
+        sees-row program (bitsIn table) bit work (stateTo table program row i) left (leftAt table i) (rightAt table i)
         (held-wire (leftAt table i) (r .left)) (held-wire (rightAt table i) (r .right))
         (held-bit (leftAt table i) (r .left)) (held-bit (rightAt table i) (r .right)) (kindAt table i)
-        (omega (arith, bits-more table i, bits-mono table (suc i) (rowsIn table) h, now .place .bits))
+        (omega (arith, bits-more table i, bits-mono table (suc i) (rowsIn table) h, now .counted .bits))
 
-    pub row-more : rowDone (rowAt table i) program p work ≡ over (stateTo table program row (i + 1) .wires) old
+    pub row-more : rowDone (rowAt table i) program bit made work ≡ over (stateTo table program row (i + 1) .wires) old
     unfolding step
     row-more =
         let new = outputs 0 gateOnBits (rowAt table i) (stateTo table program row i) in
@@ -99,21 +104,25 @@ module _ {table program row old : List ℕ} {i : ℕ} {p : Place} {work : List �
         let all = wires-done table program row (i + 1) (ready .contacts) in
         let most = wires-mono table (i + 1) (rowsIn table) (omega arith) in
         let room : length ws + length new ≤ length old = omega (arith, simp length-append at (ap length more), ready .room) in
-        ap (λ xs. sets work (p .next .0) xs) (sym row-made)
-        ∙ ap (λ b. sets b (p .next .0) new) (now .held)
-        ∙ ap (λ n. sets (over ws old) n new) (now .place .wires ∙ sym done)
+        ap (λ xs. sets work made xs) (sym row-made)
+        ∙ ap (λ b. sets b made new) (now .held)
+        ∙ ap (λ n. sets (over ws old) n new) (now .counted .wires ∙ sym done)
         ∙ sets-over ws old new room ∙ ap (λ xs. over xs old) more
 
     -- behind it the run stands before the next row
-    pub stands-more : (q : Place) (after : List ℕ) → PastRow (kindAt table i) p q → after ≡ rowDone (rowAt table i) program p work
-        → Stands table program row old (i + 1) q after
-    stands-more q after past e = record {
-      ready = ready;
-      within = omega arith;
-      place = counted-more table i p q (now .place) past;
-      size = ap length e ∙ length-sets work (p .next .0) (outputs 0 gateOnBits (rowAt table i) (seen program (p .bit) work)) ∙ now .size;
-      held = e ∙ row-more;
-    }
+    pub stands-more : {at kind : ℕ} (c : RowCounts) (after : List ℕ) → at ≡ header + stride * i → kind ≡ kindAt table i → CountsOf kind c
+        → after ≡ rowDone (rowOf kind (leftOf table at) (rightOf table at)) program bit made work
+        → Stands table program row old (i + 1) (bit + c .bits) (made + c .wires) after
+    unfolding rowAt
+    stands-more c after ea ek own e =
+        let done : after ≡ rowDone (rowAt table i) program bit made work = rw (ek, ea) at e in
+        record {
+          ready = ready;
+          within = omega arith;
+          counted = counted-more (now .counted) (rw ek at own);
+          size = ap length done ∙ length-sets work made (outputs 0 gateOnBits (rowAt table i) (seen program bit work)) ∙ now .size;
+          held = done ∙ row-more;
+        }
 
 -- wire 0 and the inputs are wires of the table
 start-wires : (table : List ℕ) → suc (inputsIn table) ≤ wiresIn table
@@ -125,19 +134,19 @@ pub start-room : {table row : List ℕ} {n : ℕ} → Runnable table row n → l
 start-room {table} ready = omega (arith, start-wires table, ready .contacts, ready .room)
 
 -- with wire 0 and the inputs on the work buffer the run stands before the first row
-pub stands-first : (table program row old work : List ℕ) (p : Place) → Runnable table row (length work) → Counted table 0 p
-    → work ≡ over (0 ∷ row) old → Stands table program row work 0 p work
+pub stands-first : (table program row old work : List ℕ) (made : ℕ) → Runnable table row (length work) → Counted table 0 made 0
+    → work ≡ over (0 ∷ row) old → Stands table program row work 0 0 made work
 unfolding listOf run
-stands-first table program row old work p ready place e = record {
+stands-first table program row old work made ready counted e = record {
   ready = ready;
   within = omega arith;
-  place = place;
+  counted = counted;
   size = refl;
   held = rw e (sym (over-longer (0 ∷ row) (0 ∷ row) old (omega arith)));
 }
 
 -- behind the last row it has every wire
-pub stands-last : {table program row start work : List ℕ} {i : ℕ} {p : Place} (old : List ℕ) → Stands table program row start i p work
+pub stands-last : {table program row start work : List ℕ} {i bit made : ℕ} (old : List ℕ) → Stands table program row start i bit made work
     → i ≡ rowsIn table → start ≡ over (0 ∷ row) old → work ≡ over (runWires table program row) old
 unfolding runWires
 stands-last {table} {program} {row} {start} old now all e =

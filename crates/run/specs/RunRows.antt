@@ -10,33 +10,32 @@ use Rattle.networks.specs.Rows.{Row, gateBits, makes, State, outputs, run, gate
 use Rattle.networks.specs.Bits.{bitAt, AreBits}
 use Rattle.universal.specs.Tables.{inputsIn, outputsIn, rowsIn, leftAt, rightAt, rowAt, outputWireAt, rowsTo, wiresIn, maxFabricWires, runStart}
 use Rattle.universal.specs.TablesLaws.{HeaderWithin, WellFormed}
-use Rattle.run.specs.declared.table.Place.{Place}
-use Rattle.run.specs.Places.{maxBits, Countable, Counted}
+use Rattle.run_checks.specs.Counting.{maxBits, Counted}
 
 -- what a row sees: the wires' bits, and the program from its first bit on
 abbrev pub seen : List ℕ → ℕ → List ℕ → State ℕ
-seen program p wires = record { wires = wires; bits = listOf gateBits (λ i. bitAt program (p + i)); gates = 0 }
+seen program bit wires = record { wires = wires; bits = listOf gateBits (λ i. bitAt program (bit + i)); gates = 0 }
 
--- the work buffer after a row at a place
-abbrev pub rowDone : Row → List ℕ → Place → List ℕ → List ℕ
-rowDone row program p work = sets work (p .next .0) (outputs 0 gateOnBits row (seen program (p .bit) work))
+-- the work buffer after a row behind so many made wires
+abbrev pub rowDone : Row → List ℕ → ℕ → ℕ → List ℕ → List ℕ
+rowDone row program bit made work = sets work made (outputs 0 gateOnBits row (seen program bit work))
 
--- a row on two made wires, both with a bit, that makes so many wires within the work buffer
-pub record RowRoom (made l r : ℕ) (p : Place) (work : List ℕ) : Type 0 where
-  pub left : l < p .next .0
-  pub right : r < p .next .0
-  pub leftBit : getD work l 0 ≤ 1
-  pub rightBit : getD work r 0 ≤ 1
-  pub room : p .next .0 + made ≤ length work
-  pub bits : p .bit ≤ maxBits
+-- the wires of the row at a place of the table
+abbrev pub leftOf : List ℕ → ℕ → ℕ
+leftOf table at = getD table (at + 1) 0
 
--- row i stands in the table, and has room in the work buffer at its place
-pub record RowReady (table : List ℕ) (i : ℕ) (p : Place) (work : List ℕ) : Type 0 where
-  pub start : HeaderWithin table
-  pub within : i < rowsIn table
-  pub few : i < maxFabricWires
-  pub countable : Countable p
-  pub room : RowRoom (makes (rowAt table i)) (leftAt table i) (rightAt table i) p work
+abbrev pub rightOf : List ℕ → ℕ → ℕ
+rightOf table at = getD table (at + 2) 0
+
+-- the row at a place of the table: its two wires are made, both with a bit, and so many that it makes have room in the work buffer
+pub record RowRoom (new : ℕ) (table : List ℕ) (at bit made : ℕ) (work : List ℕ) : Type 0 where
+  pub entries : at + 2 < length table
+  pub left : leftOf table at < made
+  pub right : rightOf table at < made
+  pub leftBit : getD work (leftOf table at) 0 ≤ 1
+  pub rightBit : getD work (rightOf table at) 0 ≤ 1
+  pub room : made + new ≤ length work
+  pub bits : bit ≤ maxBits
 
 -- a well-formed table, a row of its inputs, a work buffer for its wires
 pub record Runnable (table row : List ℕ) (work : ℕ) : Type 0 where
@@ -59,10 +58,10 @@ pub record OutputRoom (table : List ℕ) (work result : ℕ) : Type 0 where
 abbrev pub stateTo : List ℕ → List ℕ → List ℕ → ℕ → State ℕ
 stateTo table program row i = run 0 gateOnBits (rowsTo table i) (runStart table program row)
 
--- before row i: the place is its own, and the work buffer holds the run so far, followed by what stood there
-pub record Stands (table program row old : List ℕ) (i : ℕ) (p : Place) (work : List ℕ) : Type 0 where
+-- before row i: wires and bits are counted, and the work buffer holds the run so far, followed by what stood there
+pub record Stands (table program row old : List ℕ) (i bit made : ℕ) (work : List ℕ) : Type 0 where
   pub ready : Runnable table row (length old)
   pub within : i ≤ rowsIn table
-  pub place : Counted table i p
+  pub counted : Counted table i made bit
   pub size : length work ≡ length old
   pub held : work ≡ over (stateTo table program row i .wires) old

@@ -1,29 +1,27 @@
 // The run: every wire's bit into the work buffer, row by row, then the outputs' bits into the result. A program bit is read by shift and mask.
 ghost use mathlib.Core.Path.{_≡_};
 ghost use mathlib.Core.List.{[], _∷_};
-ghost use Prim.Native.Nat.{_<_};
+ghost use Prim.Native.Nat.{_+_, _<_, _≤_};
 ghost use lib.ListN.{length};
 ghost use Rattle.fault.specs.Number.{answerNumber};
 ghost use Rattle.fault.specs.Buffers.{over};
-ghost use Rattle.networks.specs.Rows.{X, Y, Gate, makes, rowOf, choose};
-ghost use Rattle.universal.specs.Tables.{kindAt, rowAt, runWires};
-ghost use Rattle.run.specs.RunCalls.{runFault, runWork, runResult};
-ghost use Rattle.run.specs.Places.{PastRow};
-ghost use Rattle.run.specs.RunRows.{Runnable, RowRoom, RowReady, OutputRoom, outputsOn, rowDone};
-use crate::checking::check_run;
-use crate::table::INPUTS;
-use crate::table::KIND_X;
-use crate::table::KIND_Y;
-use crate::table::OUTPUTS;
-use crate::table::Place;
-use crate::table::ROWS;
-use crate::table::output_wire;
-use crate::table::row_place;
-use crate::table::wide;
-use elements::FabricWire;
+ghost use Rattle.networks.specs.Rows.{X, Y, Gate, rowOf, choose};
+ghost use Rattle.universal.specs.Tables.{runWires};
+ghost use Rattle.run_checks.specs.RunFault.{runFault};
+ghost use Rattle.run.specs.RunCalls.{runWork, runResult};
+ghost use Rattle.run_checks.specs.Counting.{kindWires};
+ghost use Rattle.run.specs.RunRows.{Runnable, RowRoom, OutputRoom, outputsOn, leftOf, rightOf, rowDone};
 use elements::read_bit;
-use elements::wire_at;
 use fault::Answer;
+use run_checks::INPUTS;
+use run_checks::KIND_X;
+use run_checks::KIND_Y;
+use run_checks::OUTPUTS;
+use run_checks::ROWS;
+use run_checks::check_run;
+use run_checks::counts_of;
+use run_checks::row_place;
+use run_checks::wide;
 
 // The run of a table with a program on a row of inputs: every wire's bit into the work buffer, the outputs' bits into the result.
 pub fn run(table: &[u16], program: &[u8], row: &[u8], work: &mut [u8], result: &mut [u8]) -> Answer
@@ -47,11 +45,17 @@ fn run_rows(table: &[u16], program: &[u8], row: &[u8], work: &mut [u8])
     ensures { λ _. ⌜ now (work .exit) ≡ over (runWires (now (table .entry)) (now (program .entry)) (now (row .entry))) (now (work .entry)) ⌝ }
 {
     start_wires(row, work);
-    let rows = wide(table[ROWS]);
-    let mut place = Place::first(table[INPUTS]);
-    let mut i: usize = 0;
+    let rows = table[ROWS];
+    let mut made = 1 + wide(table[INPUTS]);
+    let mut bit: usize = 0;
+    let mut i: u16 = 0;
     while i < rows {
-        place = run_row(table, program, i, place, work);
+        let at = row_place(i);
+        let kind = table[at];
+        run_row(table, at, kind, program, bit, made, work);
+        let own = counts_of(kind);
+        made += own.wires;
+        bit += own.bits;
         i += 1;
     }
 }
@@ -69,83 +73,68 @@ fn start_wires(row: &[u8], work: &mut [u8])
     }
 }
 
-// Row i at its place: its outputs' bits behind the wires that are made. Gives the place behind it.
-fn run_row(table: &[u16], program: &[u8], i: usize, place: Place, work: &mut [u8]) -> Place
-    requires { ⌜ RowReady (now table) i place (now work) ⌝ }
-    ensures { λ _. ⌜ now (work .exit) ≡ rowDone (rowAt (now (table .entry)) i) (now (program .entry)) place (now (work .entry)) ⌝ }
-    ensures { λ r. ⌜ PastRow (kindAt (now (table .entry)) i) place r ⌝ }
-{
-    let at = row_place(i);
-    let kind = table[at];
-    let left = wire_at(table, at + 1);
-    let right = wire_at(table, at + 2);
-    run_kind(kind, left, right, program, place, work);
-    place.past(kind)
-}
-
-// A row of a kind on two wires.
-fn run_kind(
+// The row of a kind at a place of the table, with the program from a bit on: its outputs' bits behind the wires that are made.
+fn run_row(
+    table: &[u16],
+    at: usize,
     kind: u16,
-    left: FabricWire,
-    right: FabricWire,
     program: &[u8],
-    place: Place,
+    bit: usize,
+    made: usize,
     work: &mut [u8],
 )
-    requires { ⌜ RowRoom (makes (rowOf kind (left .0) (right .0))) (left .0) (right .0) place (now work) ⌝ }
-    ensures { λ _. ⌜ now (work .exit) ≡ rowDone (rowOf kind (left .0) (right .0)) (now (program .entry)) place (now (work .entry)) ⌝ }
+    requires { ⌜ RowRoom (kindWires kind) (now table) at bit made (now work) ⌝ }
+    ensures { λ _. ⌜ now (work .exit) ≡ rowDone (rowOf kind (leftOf (now (table .entry)) at) (rightOf (now (table .entry)) at)) (now (program .entry)) bit made (now (work .entry)) ⌝ }
 {
     if kind == KIND_X {
-        run_x(left, right, program, place, work);
+        run_x(table, at, program, bit, made, work);
         return;
     }
     if kind == KIND_Y {
-        run_y(left, right, program, place, work);
+        run_y(table, at, program, bit, made, work);
         return;
     }
-    run_g(left, right, program, place, work);
+    run_g(table, at, program, bit, made, work);
 }
 
 // X: bit 0 straight, bit 1 crossed.
-fn run_x(left: FabricWire, right: FabricWire, program: &[u8], place: Place, work: &mut [u8])
-    requires { ⌜ RowRoom 2 (left .0) (right .0) place (now work) ⌝ }
-    ensures { λ _. ⌜ now (work .exit) ≡ rowDone (X (left .0) (right .0)) (now (program .entry)) place (now (work .entry)) ⌝ }
+fn run_x(table: &[u16], at: usize, program: &[u8], bit: usize, made: usize, work: &mut [u8])
+    requires { ⌜ RowRoom 2 (now table) at bit made (now work) ⌝ }
+    ensures { λ _. ⌜ now (work .exit) ≡ rowDone (X (leftOf (now (table .entry)) at) (rightOf (now (table .entry)) at)) (now (program .entry)) bit made (now (work .entry)) ⌝ }
 {
-    let next = place.next.0 as usize;
-    let a = work[left.0 as usize];
-    let b = work[right.0 as usize];
-    let bit = read_bit(program, place.bit);
-    work[next] = choose(bit, a, b);
-    work[next + 1] = choose(bit, b, a);
+    let b = read_bit(program, bit);
+    let first = work[chosen(table, at, b)];
+    let second = work[chosen(table, at, 1 - b)];
+    work[made] = first;
+    work[made + 1] = second;
 }
 
 // Y: bit 0 gives the left, 1 the right.
-fn run_y(left: FabricWire, right: FabricWire, program: &[u8], place: Place, work: &mut [u8])
-    requires { ⌜ RowRoom 1 (left .0) (right .0) place (now work) ⌝ }
-    ensures { λ _. ⌜ now (work .exit) ≡ rowDone (Y (left .0) (right .0)) (now (program .entry)) place (now (work .entry)) ⌝ }
+fn run_y(table: &[u16], at: usize, program: &[u8], bit: usize, made: usize, work: &mut [u8])
+    requires { ⌜ RowRoom 1 (now table) at bit made (now work) ⌝ }
+    ensures { λ _. ⌜ now (work .exit) ≡ rowDone (Y (leftOf (now (table .entry)) at) (rightOf (now (table .entry)) at)) (now (program .entry)) bit made (now (work .entry)) ⌝ }
 {
-    let next = place.next.0 as usize;
-    let a = work[left.0 as usize];
-    let b = work[right.0 as usize];
-    work[next] = choose(read_bit(program, place.bit), a, b);
+    let b = read_bit(program, bit);
+    work[made] = work[chosen(table, at, b)];
 }
 
 // G: its table is the next four program bits, and gives bit 2a + b.
-fn run_g(left: FabricWire, right: FabricWire, program: &[u8], place: Place, work: &mut [u8])
-    requires { ⌜ RowRoom 1 (left .0) (right .0) place (now work) ⌝ }
-    ensures { λ _. ⌜ now (work .exit) ≡ rowDone (Gate (left .0 ∷ right .0 ∷ [])) (now (program .entry)) place (now (work .entry)) ⌝ }
+fn run_g(table: &[u16], at: usize, program: &[u8], bit: usize, made: usize, work: &mut [u8])
+    requires { ⌜ RowRoom 1 (now table) at bit made (now work) ⌝ }
+    ensures { λ _. ⌜ now (work .exit) ≡ rowDone (Gate (leftOf (now (table .entry)) at ∷ rightOf (now (table .entry)) at ∷ [])) (now (program .entry)) bit made (now (work .entry)) ⌝ }
 {
-    let next = place.next.0 as usize;
-    let a = work[left.0 as usize];
-    let b = work[right.0 as usize];
-    work[next] = read_bit(program, place.bit + (2 * a + b) as usize);
+    let a = work[wide(table[at + 1])];
+    let b = work[wide(table[at + 2])];
+    work[made] = read_bit(program, bit + (2 * a + b) as usize);
 }
 
-// Bit 0: the left bit; bit 1: the right one.
-fn choose(bit: u8, left: u8, right: u8) -> u8
-    ensures { λ r. ⌜ r ≡ choose bit left right ⌝ }
+// The wire that a bit chooses of the row at a place: the left one for 0, the right one for 1. An index and no branch: which bits
+// a program has cannot be foretold.
+fn chosen(table: &[u16], at: usize, b: u8) -> usize
+    requires { ⌜ (at + 2 < length (now table)) × (b ≤ 1) ⌝ }
+    ensures { λ r. ⌜ r ≡ choose b (leftOf (now (table .entry)) at) (rightOf (now (table .entry)) at) ⌝ }
 {
-    if bit == 0 { left } else { right }
+    wide(table[at + 1 + b as usize])
 }
 
 // The bits on the output wires, into the first entries of the result.
@@ -153,11 +142,11 @@ fn write_outputs(table: &[u16], work: &[u8], result: &mut [u8])
     requires { ⌜ OutputRoom (now table) (length (now work)) (length (now result)) ⌝ }
     ensures { λ _. ⌜ now (result .exit) ≡ over (outputsOn (now (table .entry)) (now (work .entry))) (now (result .entry)) ⌝ }
 {
+    let first = row_place(table[ROWS]);
     let count = wide(table[OUTPUTS]);
     let mut j: usize = 0;
     while j < count {
-        let wire = output_wire(table, j);
-        result[j] = work[wire.0 as usize];
+        result[j] = work[wide(table[first + j])];
         j += 1;
     }
 }

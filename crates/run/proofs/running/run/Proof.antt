@@ -6,7 +6,7 @@ use lib.ListN.{length}
 use Rattle.fault.specs.Number.{answerNumber}
 use Rattle.fault.specs.Buffers.{over}
 use Rattle.fault.specs.BuffersLaws.{filled-refused, filled-done}
-use Rattle.run.specs.RunCalls.{runFault}
+use Rattle.run_checks.specs.RunFault.{runFault}
 use Rattle.run.specs.RunRows.{OutputRoom}
 use Rattle.run.specs.RunCallsLaws.{RunPasses, run-passes, outputs-read}
 use Rattle.run.proofs.running.run.Statement.{statement}

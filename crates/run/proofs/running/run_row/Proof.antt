@@ -1,57 +1,52 @@
--- `run::running::run_row` meets its contract: it runs what stands in the table. Assumes nothing.
-use mathlib.Core.Path.{_≡_, ap, subst, _∙_}
-use Prim.Native.Nat.{_+_}
+-- `run::running::run_row` meets its contract, kind by kind. Assumes nothing.
+use mathlib.Core.Path.{sym, ap, subst, _∙_}
 use borrow.Author.Needs.{needs}
-use lib.ListN.{getD}
-use Rattle.universal.specs.Tables.{kindAt, leftAt, rightAt}
-use Rattle.run.specs.Places.{PastRow}
-use Rattle.run.specs.RunRows.{rowDone}
-use Rattle.run.specs.RowLaws.{room-read, row-read}
+use Rattle.networks.specs.Rows.{makes}
+use Rattle.run_checks.specs.CountingLaws.{kind-x, kind-y, kind-g}
+use Rattle.run.specs.RunRows.{RowRoom, rowDone}
 use Rattle.run.proofs.running.run_row.Statement.{statement}
 use Rattle.run.proofs.running.run_row.Tie as tie
 
--- what is read
-kind-read : (c : tie.After-row-place) → let a = c .before .before .before .before .args in
-    getD (a .table .now) (c .row-place .result) 0 ≡ kindAt (a .table .now) (a .i)
-kind-read c = let a = c .before .before .before .before .args in ap (λ n. getD (a .table .now) n 0) (c .row-place .ensures)
+for-x : tie.Need-run-x-requires
+unfolding makes
+for-x c κs =
+    let s = c .before .before .before .before .before in
+    let a = s .args in
+    subst (λ n. RowRoom n (a .table .now) (a .at) (a .bit) (a .made) (a .work .now)) (ap makes (kind-x _ 0 0 (c .before .if1 .taken))) (s .pre)
 
-left-read : (c : tie.After-wire-at) → let a = c .before .before .before .before .before .before .args in
-    c .wire-at .result .0 ≡ leftAt (a .table .now) (a .i)
-left-read c =
-    let placed = c .before .before in
-    let a = placed .before .before .before .before .args in
-    c .wire-at .ensures .0 ∙ ap (λ n. getD (a .table .now) (n + 1) 0) (placed .row-place .ensures)
+ran-x : tie.Need-returns
+ran-x c =
+    let ran = c .before .before in
+    let a = ran .before .before .before .before .before .before .args in
+    ran .run-x .ensures ∙ ap (λ row. rowDone row (a .program .now) (a .bit) (a .made) (a .work .now)) (sym (kind-x _ _ _ (ran .before .before .if1 .taken)))
 
-right-read : (c : tie.After-wire-at2) → let a = c .before .before .before .before .before .before .before .args in
-    c .wire-at2 .result .0 ≡ rightAt (a .table .now) (a .i)
-right-read c =
-    let placed = c .before .before .before in
-    let a = placed .before .before .before .before .args in
-    c .wire-at2 .ensures .0 ∙ ap (λ n. getD (a .table .now) (n + 2) 0) (placed .row-place .ensures)
+for-y : tie.Need-run-y-requires
+unfolding makes
+for-y c κs =
+    let s = c .before .before .before .before .before .before in
+    let a = s .args in
+    subst (λ n. RowRoom n (a .table .now) (a .at) (a .bit) (a .made) (a .work .now)) (ap makes (kind-y _ 0 0 (c .before .if2 .taken))) (s .pre)
 
-for-kind : tie.Need-run-kind-requires
-for-kind c κs =
-    let right = c .before in
-    let left = right .before in
-    let placed = left .before .before in
-    let s = placed .before .before .before .before in
-    room-read (s .args .table .now) (s .args .i) (kind-read placed) (left-read left) (right-read right) (s .pre .room)
+ran-y : tie.Need-returns-2
+ran-y c =
+    let ran = c .before .before in
+    let a = ran .before .before .before .before .before .before .before .args in
+    ran .run-y .ensures ∙ ap (λ row. rowDone row (a .program .now) (a .bit) (a .made) (a .work .now)) (sym (kind-y _ _ _ (ran .before .before .if2 .taken)))
 
-ran : tie.Need-returns
-ran c =
-    let done = c .before .before .before in
-    let right = done .before .before in
-    let left = right .before in
-    let placed = left .before .before in
-    let a = placed .before .before .before .before .args in
-    let row = row-read (a .table .now) (a .i) (kind-read placed) (left-read left) (right-read right) in (
-      done .run-kind .ensures ∙ ap (λ r. rowDone r (a .program .now) (a .place) (a .work .now)) row,
-      subst (λ k. PastRow k (a .place) (c .past .result)) (kind-read placed) (c .past .ensures),
-    )
+for-g : tie.Need-run-g-requires
+unfolding makes
+for-g c κs =
+    let s = c .before .before .before .before .before .before in
+    let a = s .args in
+    let is = kind-g _ 0 0 (c .before .before .if1 .left) (c .before .if2 .left) in
+    subst (λ n. RowRoom n (a .table .now) (a .at) (a .bit) (a .made) (a .work .now)) (ap makes is) (s .pre)
+
+ran-g : tie.Need-returns-3
+ran-g c =
+    let ran = c .before .before in
+    let a = ran .before .before .before .before .before .before .before .args in
+    let is = kind-g _ _ _ (ran .before .before .before .if1 .left) (ran .before .before .if2 .left) in
+    ran .run-g .ensures ∙ ap (λ row. rowDone row (a .program .now) (a .bit) (a .made) (a .work .now)) (sym is)
 
 pub run-row-spec : {M : Type 1} → statement M
-run-row-spec =
-    tie.close
-    (tie.spec
-    (λ c κs. search needs) (λ c. search needs) (λ c. search needs) (λ c. search needs) (λ c κs. search needs) (λ c. search needs)
-    (λ c κs. search needs) for-kind (λ c κs. search needs) (λ c. search needs) ran)
+run-row-spec = tie.close (tie.spec for-x (λ c. search needs) ran-x for-y (λ c. search needs) ran-y for-g (λ c. search needs) ran-g)

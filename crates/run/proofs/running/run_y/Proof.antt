@@ -1,18 +1,27 @@
--- `run::running::run_y` meets its contract. Assumes nothing.
+-- `run::running::run_y` meets its contract: its bit chooses the wire. Assumes nothing.
+use native.Mathlib.Omega.{arith}
 use borrow.Author.Needs.{needs}
-use Rattle.run.specs.RowLaws.{y-done}
+use Rattle.networks.specs.BitsLaws.{bitAt-lt}
+use Rattle.run.specs.RunRows.{leftOf, rightOf}
+use Rattle.run.specs.RowLaws.{chosen-fits, y-done}
 use Rattle.run.proofs.running.run_y.Statement.{statement}
 use Rattle.run.proofs.running.run_y.Tie as tie
 
-chosen : tie.Need-returns
-chosen c =
-    let read = c .before in
-    let a = read .before .before .before .before .before .before .before .before .args in
-    y-done (a .program .now) (a .work .now) (a .place) (a .left .0) (a .right .0) _ _ (read .read-bit .ensures) (c .choose .ensures)
+for-wire : tie.Need-chosen-requires
+for-wire c κs =
+    let s = c .before .before .before .before in
+    (s .pre .entries, omega (arith, c .read-bit .ensures, bitAt-lt (s .args .program .now) (s .args .bit)))
+
+wire-made : tie.Need-slice-read-work
+wire-made c = chosen-fits _ _ (c .before .before .before .before .before .before .pre) (c .before .chosen .ensures)
+
+given : tie.Need-returns
+given c =
+    let read = c .before .before in
+    let a = read .before .before .before .before .args in
+    let table = a .table .now in
+    y-done (a .program .now) (a .work .now) (a .bit) (a .made) (leftOf table (a .at)) (rightOf table (a .at)) _ _
+    (read .read-bit .ensures) (c .before .chosen .ensures)
 
 pub run-y-spec : {M : Type 1} → statement M
-run-y-spec =
-    tie.close
-    (tie.spec
-    (λ c. search needs) (λ c. search needs) (λ c. search needs) (λ c. search needs) (λ c. search needs) (λ c κs. search needs)
-    (λ c κs. search needs) (λ c. search needs) (λ c. search needs) chosen)
+run-y-spec = tie.close (tie.spec (λ c κs. search needs) for-wire wire-made (λ c. search needs) (λ c. search needs) given)

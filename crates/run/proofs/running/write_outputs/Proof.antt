@@ -2,7 +2,7 @@
 -- Assumes nothing.
 use native.Mathlib.Omega.{arith}
 use mathlib.Core.Path.{_≡_, refl, ap, _∙_}
-use Prim.Native.Nat.{ℕ, _-_, _≤_}
+use Prim.Native.Nat.{ℕ, _+_, _-_, _≤_}
 use borrow.Author.Needs.{needs}
 use lib.ListN.{length, getD, set, length-set}
 use Rattle.lists.specs.Lists.{listOf}
@@ -13,51 +13,53 @@ use Rattle.run.proofs.running.write_outputs.Statement.{statement}
 use Rattle.run.proofs.running.write_outputs.Tie as tie
 
 abbrev Inv-loop : tie.InvT-loop
-Inv-loop table work result₀ count j₀ result j =
+Inv-loop table work result₀ first count j₀ result j =
     (j ≤ count) × (length result ≡ length result₀) × (result ≡ over (listOf j (λ k. getD work (outputWireAt table k) 0)) result₀)
 
 abbrev μ-loop : tie.MeasureT-loop
-μ-loop table work result₀ count j₀ result j = count - j
+μ-loop table work result₀ first count j₀ result j = count - j
 
 holds : tie.Need-loop-holds Inv-loop μ-loop
 unfolding listOf
 holds c = (omega arith, refl, refl)
 
-for-wire : tie.Need-output-wire-requires Inv-loop μ-loop
-for-wire c κs =
-    let s = c .before .before .before .before .before .before .before in
-    (s .pre .wellFormed .start, omega arith)
+-- output wire j
+wire-read : (c : tie.After-wide2 Inv-loop μ-loop) → let at = c .before .before .before in
+    c .wide2 .result ≡ outputWireAt (at .before .before .before .before .before .before .before .before .args .table .now) (at .loop .j)
+wire-read c =
+    let at = c .before .before .before in
+    let placed = at .before .before .before in
+    let table = placed .before .before .before .before .before .args .table .now in
+    c .wide2 .ensures .0 ∙ ap (λ n. getD table (n + at .loop .j) 0) (placed .row-place .ensures .0)
 
 wire-fits : tie.Need-shared-slice-read-result Inv-loop μ-loop
 wire-fits c =
-    let wire = c .before .before in
-    let at = wire .before .before in
-    let s = at .before .before .before .before .before .before in
-    omega (arith, wire .output-wire .ensures, s .pre .wellFormed .output (at .loop .j) (omega arith), s .pre .wires)
+    let at = c .before .before .before .before in
+    let s = at .before .before .before .before .before .before .before .before in
+    omega (arith, wire-read (c .before), s .pre .wellFormed .output (at .loop .j) (omega arith), s .pre .wires)
 
 place-fits : tie.Need-slice-write-result Inv-loop μ-loop
 place-fits c =
-    let s = c .before .before .before .before .before .before .before .before .before .before in
+    let s = c .before .before .before .before .before .before .before .before .before .before .before .before in
     omega (arith, s .pre .room)
 
 again : tie.Need-loop-again Inv-loop μ-loop
 again c =
-    let wire = c .before .before in
-    let at = wire .before .before in
-    let s = at .before .before .before .before .before .before in
+    let at = c .before .before .before .before in
+    let s = at .before .before .before .before .before .before .before .before in
     let a = s .args in
     let loop = at .loop in
     let bit : ℕ → ℕ = λ k. getD (a .work .now) (outputWireAt (a .table .now) k) 0 in (
       omega arith,
       simp length-set (loop .inv .1),
-      ap (λ w. set (loop .result) (loop .j) (getD (a .work .now) w 0)) (wire .output-wire .ensures)
+      ap (λ w. set (loop .result) (loop .j) (getD (a .work .now) w 0)) (wire-read (c .before))
           ∙ ap (λ l. set l (loop .j) (bit (loop .j))) (loop .inv .2)
           ∙ listOf-over (loop .j) bit (a .result .now) (omega (arith, s .pre .room)),
     )
 
 all : tie.Need-returns Inv-loop μ-loop
 all c =
-    let a = c .before .before .before .before .before .before .before .args in
+    let a = c .before .before .before .before .before .before .before .before .before .args in
     let e : c .before .loop .j ≡ outputsIn (a .table .now) = omega arith in
     c .before .loop .inv .2 ∙ ap (λ n. over (listOf n (λ k. getD (a .work .now) (outputWireAt (a .table .now) k) 0)) (a .result .now)) e
 
@@ -65,5 +67,5 @@ pub write-outputs-spec : {M : Type 1} → statement M
 write-outputs-spec =
     tie.close
     (tie.spec Inv-loop μ-loop
-    (λ c. search needs) (λ c κs. search needs) holds for-wire (λ c. search needs) wire-fits place-fits
-    (λ c. search needs) (λ c. search needs) again (λ c. search needs) all)
+    (λ c. search needs) (λ c κs. search needs) (λ c. search needs) (λ c κs. search needs) holds (λ c. search needs) (λ c. search needs)
+    (λ c. search needs) (λ c κs. search needs) wire-fits place-fits (λ c. search needs) (λ c. search needs) again (λ c. search needs) all)

@@ -1,0 +1,16 @@
+-- `run::running::chosen` meets its contract: the wires stand behind each other. Assumes nothing.
+use mathlib.Core.Path.{_∙_}
+use borrow.Author.Needs.{needs}
+use Rattle.run.specs.RowLaws.{choose-entry}
+use Rattle.run.proofs.running.chosen.Statement.{statement}
+use Rattle.run.proofs.running.chosen.Tie as tie
+
+wire : tie.Need-returns
+wire c =
+    let s = c .before .before .before in
+    c .wide .ensures .0 ∙ choose-entry (s .args .table .now) (s .args .at) (s .args .b) (s .pre .1)
+
+pub chosen-spec : {M : Type 1} → statement M
+chosen-spec =
+    tie.close
+    (tie.spec (λ c. search needs) (λ c. search needs) (λ c. search needs) (λ c. search needs) (λ c κs. search needs) wire)

@@ -1,0 +1,13 @@
+-- Document 01, the checks of the run of a table with a program on a row of input contacts, in their order.
+use Prim.Native.Nat.{ℕ}
+use mathlib.Core.List.{List}
+use Rattle.fault.specs.Checks.{andThen, roomFault}
+use Rattle.evaluation.specs.Evaluation.{contactFault}
+use Rattle.universal.specs.Tables.{inputsIn, outputsIn, wiresIn, bitsIn, tableFault, programFault}
+
+-- 13, 14, 12, 11: the work buffer has one byte per wire, the result one per output
+unfoldable pub runFault : List ℕ → List ℕ → List ℕ → ℕ → ℕ → ℕ
+runFault table program row work result =
+    andThen (tableFault table)
+    (andThen (programFault (bitsIn table) program)
+    (andThen (contactFault (inputsIn table) row) (andThen (roomFault (wiresIn table) work) (roomFault (outputsIn table) result))))
