@@ -15,9 +15,10 @@ const PAGE: &str = "docs/WHAT_IS_PROVED.md";
 const EXPORTS: &str = "crates/capi/src";
 
 /// The crates whose root hands on the library's calls.
-const LIBRARIES: [&str; 6] = [
+const LIBRARIES: [&str; 7] = [
     "plan",
     "evaluation",
+    "cursor",
     "reading",
     "blocks",
     "fabric",
