@@ -3,19 +3,15 @@ use Rattle.fault.specs.Number.{faultNumber}
 use Rattle.plan.specs.declared.record.Plan.{Plan}
 use Rattle.cursor.specs.Parsing.{Parsed, got}
 use Rattle.cursor.specs.Answers.{refusal}
-use Rattle.reading.specs.declared.reading.Progress.{Progress}
-use Rattle.reading.specs.declared.reading.PartRead.{PartRead}
+use Rattle.reading.specs.declared.reading.Header.{Header}
+use Rattle.reading.specs.declared.reading.HeaderStep.{HeaderStep}
 use Rattle.reading.specs.declared.reading.ReadAnswer.{ReadAnswer}
 use Rattle.reading.specs.declared.reading.PlanRead.{PlanRead}
 use Rattle.reading.specs.PlanFile.{ReadOutcome}
 
--- how far reading came, with the plan so far
-abbrev pub reached : Plan → Progress → Parsed Plan
-reached p (Progress.Next next) = got p (next .at)
-reached p (Progress.Refused x) = refusal x
-
-abbrev pub partAnswer : PartRead → Parsed Plan
-partAnswer r = reached (r .plan) (r .progress)
+abbrev pub headerAnswer : HeaderStep → Parsed Header
+headerAnswer (HeaderStep.Header h next) = got h (next .at)
+headerAnswer (HeaderStep.Refused x) = refusal x
 
 -- the answer of reading: 0 at 0 where a plan was read
 abbrev pub answered : ReadAnswer → Plan → ReadOutcome

@@ -1,80 +1,48 @@
--- The plan file in the parts that the code reads one after another, each adding to the record: the header, the gates, the outputs, the end.
+-- The plan file in the two parts that the code reads one after the other: the header, and the body.
 use Prim.Native.Nat.{ℕ, _≤_}
 use mathlib.Core.Path.{_≡_}
-use mathlib.Core.List.{List, []}
+use mathlib.Core.List.{List}
 use Rattle.fault.specs.declared.Fault.{Fault}
-use Rattle.plan.specs.declared.record.Gate.{Gate}
 use Rattle.plan.specs.declared.record.Plan.{Plan}
-use Rattle.plan.specs.declared.record.PlanWire.{PlanWire}
-use Rattle.plan.specs.Record.{maxInputs, maxGates, maxOutputs, wire, zeroGate, places, planOf}
-use Rattle.reading.specs.declared.reading.PartRead.{PartRead}
+use Rattle.plan.specs.Record.{maxInputs, maxGates, maxOutputs, planOf}
 use Rattle.cursor.specs.Parsing.{Step, _>>=_, pure}
 use Rattle.cursor.specs.Fields.{countField}
+use Rattle.reading.specs.declared.reading.Header.{Header}
+use Rattle.reading.specs.declared.reading.HeaderStep.{HeaderStep}
 use Rattle.reading.specs.PlanFile.{notStub, atEnd, gateSteps, outputSteps}
-use Rattle.reading.specs.Answers.{partAnswer}
+use Rattle.reading.specs.Answers.{headerAnswer}
 
--- the record with these gates, its other gate places zero
-abbrev pub withGates : Plan → List Gate → Plan
-withGates p gs = record {
-  inputs = p .inputs;
-  «gate_count» = p .«gate_count»;
-  «output_count» = p .«output_count»;
-  gates = places maxGates zeroGate gs;
-  outputs = p .outputs;
-}
-
--- the record with these outputs, its other output places zero
-abbrev pub withOutputs : Plan → List PlanWire → Plan
-withOutputs p os = record {
-  inputs = p .inputs;
-  «gate_count» = p .«gate_count»;
-  «output_count» = p .«output_count»;
-  gates = p .gates;
-  outputs = places maxOutputs (wire 0) os;
-}
-
--- the three counts, every place zero
-unfoldable pub countsPart : Step Plan
+-- the three counts
+unfoldable pub countsPart : Step Header
 countsPart =
     countField maxInputs Fault.Inputs >>= λ u.
     countField maxGates Fault.Gates >>= λ k.
     countField maxOutputs Fault.Outputs >>= λ v.
-    pure (planOf u k v [] [])
+    pure (record { inputs = u; gates = k; outputs = v })
 
-unfoldable pub headerPart : Step Plan
+unfoldable pub headerPart : Step Header
 headerPart = notStub >>= λ _. countsPart
 
-unfoldable pub gatesPart : Plan → Step Plan
-gatesPart p = gateSteps (p .inputs) (p .«gate_count») >>= λ gs. pure (withGates p gs)
+-- the gates, the outputs and the end of a file with these counts
+unfoldable pub bodyPart : Header → Step Plan
+bodyPart h =
+    gateSteps (h .inputs) (h .gates) >>= λ gs.
+    outputSteps (h .inputs) (h .gates) (h .outputs) >>= λ os.
+    atEnd >>= λ _.
+    pure (planOf (h .inputs) (h .gates) (h .outputs) gs os)
 
-unfoldable pub outputsPart : Plan → Step Plan
-outputsPart p = outputSteps (p .inputs) (p .«gate_count») (p .«output_count») >>= λ os. pure (withOutputs p os)
+-- counts within the limits
+pub record Limited (h : Header) : Type 0 where
+  pub inputs : h .inputs ≤ maxInputs
+  pub gates : h .gates ≤ maxGates
+  pub outputs : h .outputs ≤ maxOutputs
 
-unfoldable pub endPart : Plan → Step Plan
-endPart p = atEnd >>= λ _. pure p
-
-unfoldable pub bodyPart : Plan → Step Plan
-bodyPart p = gatesPart p >>= λ q. outputsPart q >>= endPart
-
--- a record whose counts are within the limits
-pub record Limited (p : Plan) : Type 0 where
-  pub inputs : p .inputs ≤ maxInputs
-  pub gates : p .«gate_count» ≤ maxGates
-  pub outputs : p .«output_count» ≤ maxOutputs
-
--- a record of counts within the limits, every place zero
-pub record Blank (p : Plan) : Type 0 where
-  pub limited : Limited p
-  pub noGates : p .gates ≡ places maxGates zeroGate []
-  pub noOutputs : p .outputs ≡ places maxOutputs (wire 0) []
+-- counts that were read are within the limits
+abbrev pub LimitedStep : HeaderStep → Type 0
+LimitedStep (HeaderStep.Header h next) = Limited h
+LimitedStep (HeaderStep.Refused x) = Unit
 
 -- what reading the counts by a step ensures
-pub record CountsRead (step : Step Plan) (s : List ℕ) (at : ℕ) (r : PartRead) : Type 0 where
-  pub parsed : partAnswer r ≡ step s at
-  pub blank : Blank (r .plan)
-
--- what reading the gates ensures
-pub record GatesRead (s : List ℕ) (at : ℕ) (p : Plan) (r : PartRead) : Type 0 where
-  pub parsed : partAnswer r ≡ gatesPart p s at
-  pub limited : Limited (r .plan)
-  pub noOutputs : r .plan .outputs ≡ places maxOutputs (wire 0) []
+pub record HeaderRead (step : Step Header) (s : List ℕ) (at : ℕ) (r : HeaderStep) : Type 0 where
+  pub parsed : headerAnswer r ≡ step s at
+  pub limited : LimitedStep r

@@ -3,22 +3,23 @@
 use mathlib.Core.Path.{_≡_, refl, sym, ap, _∙_}
 use mathlib.Core.List.{List, [], _∷_, _++_}
 use Prim.Native.Nat.{ℕ, suc, _+_, _<_, _≤_}
-use native.Mathlib.Omega.{arith}
+use borrow.Author.Tests.{lt-ltb, le-ltb}
 use native.Mathlib.Numerals.{add-one}
 use lib.ListN.{length, set, length-append}
 use Rattle.fault.specs.declared.Fault.{Fault}
 use Rattle.plan.specs.declared.record.Gate.{Gate}
 use Rattle.plan.specs.declared.record.Plan.{Plan}
 use Rattle.plan.specs.declared.record.PlanWire.{PlanWire}
-use Rattle.plan.specs.Record.{maxInputs, maxGates, maxOutputs, wire, zeroGate, places, planOf, zeroPlan}
+use Rattle.plan.specs.Record.{maxGates, maxOutputs, wire, zeroGate, places, planOf}
 use Rattle.plan.specs.RecordLaws.{places-more}
 use Rattle.plan.specs.Rules.{countAllowed}
 use Rattle.plan.specs.RulesLaws.{count-bounds}
-use Rattle.cursor.specs.Parsing.{Parsed, got, refused, Step, followed, _>>=_, wordAt, inOrder}
+use Rattle.cursor.specs.Parsing.{Parsed, got, refused, refuse, Step, followed, _>>=_, wordAt, inOrder}
 use Rattle.cursor.specs.ParsingLaws.{field-allowed, item-got, item-refused, still-refused}
 use Rattle.cursor.specs.Fields.{countField}
-use Rattle.reading.specs.PlanFile.{planFile}
-use Rattle.reading.specs.Parts.{withGates, withOutputs, countsPart, headerPart, gatesPart, outputsPart, endPart, bodyPart, Blank}
+use Rattle.reading.specs.declared.reading.Header.{Header}
+use Rattle.reading.specs.PlanFile.{gateSteps, outputSteps, atEnd, planFile}
+use Rattle.reading.specs.Parts.{countsPart, headerPart, bodyPart}
 
 -- i items are read, from the cursor `start` up to `at`, and stand in their places
 pub record ReadSoFar {A : Type 0} (item : ℕ → Step A) (s : List ℕ) (start n : ℕ) (none : A) (i : ℕ) (held : List A) (at : ℕ) : Type 0 where
@@ -50,42 +51,55 @@ module _ {A : Type 0} (item : ℕ → Step A) (s : List ℕ) (start n : ℕ) (no
       → got (r .items) at ≡ inOrder item k s start
   all-read k i held at e r = rw (← e) (sym (r .parsed))
 
--- two records have the same counts
-pub record SameCounts (p q : Plan) : Type 0 where
-  pub inputs : p .inputs ≡ q .inputs
-  pub gates : p .«gate_count» ≡ q .«gate_count»
-  pub outputs : p .«output_count» ≡ q .«output_count»
+-- the counts of a record
+pub record Counted (u k v : ℕ) (p : Plan) : Type 0 where
+  pub inputs : p .inputs ≡ u
+  pub gates : p .«gate_count» ≡ k
+  pub outputs : p .«output_count» ≡ v
 
-pub gates-held : (p q : Plan) (gs : List Gate) → SameCounts q p → q .gates ≡ places maxGates zeroGate gs → q .outputs ≡ p .outputs
-    → q ≡ withGates p gs
-gates-held p q gs c e o = λ i. record {
+-- a record is made of its counts, gates and outputs
+pub plan-held : (u k v : ℕ) (gs : List Gate) (os : List PlanWire) (p : Plan) → Counted u k v p → p .gates ≡ places maxGates zeroGate gs
+    → p .outputs ≡ places maxOutputs (wire 0) os → p ≡ planOf u k v gs os
+plan-held u k v gs os p c e o = λ i. record {
   inputs = c .inputs i;
   «gate_count» = c .gates i;
   «output_count» = c .outputs i;
   gates = e i;
   outputs = o i;
 }
-
-pub outputs-held : (p q : Plan) (os : List PlanWire) → SameCounts q p → q .gates ≡ p .gates → q .outputs ≡ places maxOutputs (wire 0) os
-    → q ≡ withOutputs p os
-outputs-held p q os c e o = λ i. record {
-  inputs = c .inputs i;
-  «gate_count» = c .gates i;
-  «output_count» = c .outputs i;
-  gates = e i;
-  outputs = o i;
-}
-
--- counts within the limits, every place zero
-pub blank-of : (u k v : ℕ) → u ≤ maxInputs → k ≤ maxGates → v ≤ maxOutputs → Blank (planOf u k v [] [])
-blank-of u k v hu hk hv = record { limited = record { inputs = hu; gates = hk; outputs = hv }; noGates = refl; noOutputs = refl }
-
-pub zero-blank : Blank zeroPlan
-zero-blank = blank-of 0 0 0 (omega arith) (omega arith) (omega arith)
 
 -- a count that was read is within its limit
 pub count-within : (limit : ℕ) (f : Fault) (s : List ℕ) (at n next : ℕ) → got n next ≡ countField limit f s at → n ≤ limit
 count-within limit f s at n next e = count-bounds limit n (field-allowed 2 wordAt (countAllowed limit) f s at n next e) .1
+
+-- the end of a file, and a tail
+at-end : (s : List ℕ) (at : ℕ) → length s ≤ at → got tt at ≡ atEnd s at
+unfolding atEnd
+at-end s at h = rw (le-ltb at (length s) h)
+
+at-tail : (s : List ℕ) (at : ℕ) → at < length s → refuse Fault.Tail at ≡ atEnd s at
+unfolding atEnd
+at-tail s at h = rw (lt-ltb at (length s) h)
+
+-- what the body gives, by the first of its parts that is refused
+module _ (h : Header) (s : List ℕ) (at : ℕ) where
+  pub gates-refused : (m o : ℕ) → refused m o ≡ gateSteps (h .inputs) (h .gates) s at → refused m o ≡ bodyPart h s at
+  unfolding bodyPart
+  gates-refused m o e = ap (followed _ s) e
+
+  module _ (gs : List Gate) (at₁ : ℕ) (e₁ : got gs at₁ ≡ gateSteps (h .inputs) (h .gates) s at) where
+    pub outputs-refused : (m o : ℕ) → refused m o ≡ outputSteps (h .inputs) (h .gates) (h .outputs) s at₁ → refused m o ≡ bodyPart h s at
+    unfolding bodyPart
+    outputs-refused m o e = ap (followed _ s) e ∙ ap (followed _ s) e₁
+
+    module _ (os : List PlanWire) (at₂ : ℕ) (e₂ : got os at₂ ≡ outputSteps (h .inputs) (h .gates) (h .outputs) s at₁) where
+      pub tail-refused : at₂ < length s → refuse Fault.Tail at₂ ≡ bodyPart h s at
+      unfolding bodyPart
+      tail-refused l = ap (followed _ s) (at-tail s at₂ l) ∙ ap (followed _ s) e₂ ∙ ap (followed _ s) e₁
+
+      pub body-read : length s ≤ at₂ → got (planOf (h .inputs) (h .gates) (h .outputs) gs os) at₂ ≡ bodyPart h s at
+      unfolding bodyPart
+      body-read l = ap (followed _ s) (at-end s at₂ l) ∙ ap (followed _ s) e₂ ∙ ap (followed _ s) e₁
 
 -- steps may be grouped either way
 assoc : {A B C : Type 0} (f : A → Step B) (g : B → Step C) (s : List ℕ) (x : Parsed A)
@@ -95,5 +109,5 @@ assoc f g s (refused n at) = refl
 
 -- the header, then the body
 pub whole-file : (s : List ℕ) → planFile s 0 ≡ (headerPart >>= bodyPart) s 0
-unfolding planFile headerPart countsPart bodyPart gatesPart outputsPart endPart
+unfolding planFile headerPart countsPart bodyPart
 whole-file s = simp assoc

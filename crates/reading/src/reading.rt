@@ -1,12 +1,11 @@
 // Reading a plan file: the header, each gate, each output, the end. The first failing check decides, and a refusal leaves no trace of
 // the file in the record.
 ghost use mathlib.Core.Path.{_≡_};
-ghost use mathlib.Core.List.{[]};
 ghost use Prim.Native.Nat.{_≤_, _<_};
-ghost use Rattle.plan.specs.Record.{maxInputs, maxGates, maxOutputs, wire, places, planOf, zeroPlan, gateWire};
-ghost use Rattle.reading.specs.PlanFile.{planRead};
-ghost use Rattle.reading.specs.Answers.{partAnswer, readAnswer};
-ghost use Rattle.reading.specs.Parts.{Blank, Limited, CountsRead, GatesRead, countsPart, headerPart, outputsPart, endPart, bodyPart};
+ghost use Rattle.plan.specs.Record.{maxInputs, maxGates, zeroPlan, gateWire};
+ghost use Rattle.reading.specs.PlanFile.{planRead, outcome};
+ghost use Rattle.reading.specs.Answers.{readAnswer};
+ghost use Rattle.reading.specs.Parts.{Limited, HeaderRead, countsPart, headerPart, bodyPart};
 use cursor::CountStep;
 use cursor::Cursor;
 use cursor::GateStep;
@@ -27,38 +26,25 @@ pub struct PlanRead {
     pub plan: Plan,
 }
 
-pub(crate) enum Progress {
-    Next(Cursor),
-    Refused(Refusal),
+// The three counts of a file.
+pub(crate) struct Header {
+    pub inputs: u16,
+    pub gates: u16,
+    pub outputs: u16,
 }
 
-// How far reading came, with the plan so far.
-pub(crate) struct PartRead {
-    pub progress: Progress,
-    pub plan: Plan,
+pub(crate) enum HeaderStep {
+    Header(Header, Cursor),
+    Refused(Refusal),
 }
 
 // The plan that a file holds.
 pub fn read_plan(file: &[u8]) -> PlanRead
     ensures { λ r. ⌜ readAnswer r ≡ planRead (now (file .entry)) ⌝ }
 {
-    let header = read_header(file);
-    let progress = header.progress;
-    let counts = header.plan;
-    match progress {
-        Progress::Refused(x) => refused_read(x),
-        Progress::Next(next) => {
-            let body = read_body(file, next, counts);
-            let end = body.progress;
-            let plan = body.plan;
-            match end {
-                Progress::Refused(x) => refused_read(x),
-                Progress::Next(_) => PlanRead {
-                    answer: ReadAnswer::Accepted,
-                    plan: plan,
-                },
-            }
-        }
+    match read_header(file) {
+        HeaderStep::Refused(x) => refused_read(x),
+        HeaderStep::Header(header, next) => read_body(file, next, header),
     }
 }
 
@@ -72,33 +58,12 @@ fn refused_read(x: Refusal) -> PlanRead
     }
 }
 
-// A refusal on the way, with the all-zero record.
-fn refused_part(x: Refusal) -> PartRead
-    ensures { λ r. ⌜ r ≡ record { progress = Progress.Refused x; plan = zeroPlan } ⌝ }
-{
-    PartRead {
-        progress: Progress::Refused(x),
-        plan: Plan::zero(),
-    }
-}
-
-// The record of three counts, every place zero.
-fn blank_plan(inputs: u16, gates: u16, outputs: u16) -> Plan
-    ensures { λ r. ⌜ r ≡ planOf inputs gates outputs [] [] ⌝ }
-{
-    let mut plan = Plan::zero();
-    plan.inputs = inputs;
-    plan.gate_count = gates;
-    plan.output_count = outputs;
-    plan
-}
-
 // The three counts of a file that is long enough for them.
-fn read_header(file: &[u8]) -> PartRead
-    ensures { λ r. ⌜ CountsRead headerPart (now (file .entry)) 0 r ⌝ }
+fn read_header(file: &[u8]) -> HeaderStep
+    ensures { λ r. ⌜ HeaderRead headerPart (now (file .entry)) 0 r ⌝ }
 {
     if file.len() < 6 {
-        return refused_part(Refusal {
+        return HeaderStep::Refused(Refusal {
             fault: Fault::Stub,
             at: 0,
         });
@@ -107,60 +72,25 @@ fn read_header(file: &[u8]) -> PartRead
 }
 
 // The three counts.
-fn read_counts(file: &[u8], c: Cursor) -> PartRead
-    ensures { λ r. ⌜ CountsRead countsPart (now (file .entry)) (c .at) r ⌝ }
+fn read_counts(file: &[u8], c: Cursor) -> HeaderStep
+    ensures { λ r. ⌜ HeaderRead countsPart (now (file .entry)) (c .at) r ⌝ }
 {
     match c.count(file, Plan::MAX_INPUTS, Fault::Inputs) {
-        CountStep::Refused(x) => refused_part(x),
+        CountStep::Refused(x) => HeaderStep::Refused(x),
         CountStep::Count(u, c1) => match c1.count(file, Plan::MAX_GATES, Fault::Gates) {
-            CountStep::Refused(x) => refused_part(x),
+            CountStep::Refused(x) => HeaderStep::Refused(x),
             CountStep::Count(k, c2) => match c2.count(file, Plan::MAX_OUTPUTS, Fault::Outputs) {
-                CountStep::Refused(x) => refused_part(x),
-                CountStep::Count(v, c3) => PartRead {
-                    progress: Progress::Next(c3),
-                    plan: blank_plan(u, k, v),
-                },
+                CountStep::Refused(x) => HeaderStep::Refused(x),
+                CountStep::Count(v, c3) => HeaderStep::Header(
+                    Header {
+                        inputs: u,
+                        gates: k,
+                        outputs: v,
+                    },
+                    c3,
+                ),
             },
         },
-    }
-}
-
-// The gates, the outputs and the end of the file.
-fn read_body(file: &[u8], c: Cursor, p: Plan) -> PartRead
-    requires { ⌜ Blank p ⌝ }
-    ensures { λ r. ⌜ partAnswer r ≡ bodyPart p (now (file .entry)) (c .at) ⌝ }
-{
-    let gates = read_gates(file, c, p);
-    let after_gates = gates.progress;
-    let with_gates = gates.plan;
-    match after_gates {
-        Progress::Refused(x) => refused_part(x),
-        Progress::Next(next) => {
-            let outputs = read_outputs(file, next, with_gates);
-            let after_outputs = outputs.progress;
-            let with_outputs = outputs.plan;
-            match after_outputs {
-                Progress::Refused(x) => refused_part(x),
-                Progress::Next(end) => read_end(file, end, with_outputs),
-            }
-        }
-    }
-}
-
-// The end of the file, where no byte may stand.
-fn read_end(file: &[u8], c: Cursor, p: Plan) -> PartRead
-    ensures { λ r. ⌜ partAnswer r ≡ endPart p (now (file .entry)) (c .at) ⌝ }
-{
-    let at = c.at;
-    if at < file.len() {
-        return refused_part(Refusal {
-            fault: Fault::Tail,
-            at: at,
-        });
-    }
-    PartRead {
-        progress: Progress::Next(c),
-        plan: p,
     }
 }
 
@@ -172,20 +102,26 @@ fn gate_wire(inputs: u16, i: usize) -> PlanWire
     PlanWire(inputs + (i as u16) + 1)
 }
 
-// The gates, each to its place.
-fn read_gates(file: &[u8], c: Cursor, p: Plan) -> PartRead
-    requires { ⌜ Blank p ⌝ }
-    ensures { λ r. ⌜ GatesRead (now (file .entry)) (c .at) p r ⌝ }
+// The gates and the outputs, each to its place in the one record, and the end of the file, where no byte may stand.
+fn read_body(file: &[u8], c: Cursor, header: Header) -> PlanRead
+    requires { ⌜ Limited header ⌝ }
+    ensures { λ r. ⌜ readAnswer r ≡ outcome (bodyPart header (now (file .entry)) (c .at)) ⌝ }
 {
-    let inputs = p.inputs;
-    let count = p.gate_count as usize;
-    let mut plan = p;
+    let inputs = header.inputs;
+    let gates = header.gates;
+    let outputs = header.outputs;
+    let gate_count = gates as usize;
+    let output_count = outputs as usize;
+    let mut plan = Plan::zero();
+    plan.inputs = inputs;
+    plan.gate_count = gates;
+    plan.output_count = outputs;
     let mut at = c;
     let mut i: usize = 0;
-    while i < count {
+    while i < gate_count {
         match at.gate(file, gate_wire(inputs, i)) {
             GateStep::Refused(x) => {
-                return refused_part(x);
+                return refused_read(x);
             }
             GateStep::Gate(gate, next) => {
                 plan.gates[i] = gate;
@@ -194,38 +130,28 @@ fn read_gates(file: &[u8], c: Cursor, p: Plan) -> PartRead
         }
         i += 1;
     }
-    PartRead {
-        progress: Progress::Next(at),
-        plan: plan,
-    }
-}
-
-// The outputs, each to its place.
-fn read_outputs(file: &[u8], c: Cursor, p: Plan) -> PartRead
-    requires { ⌜ Limited p ⌝ }
-    requires { ⌜ p .outputs ≡ places maxOutputs (wire 0) [] ⌝ }
-    ensures { λ r. ⌜ partAnswer r ≡ outputsPart p (now (file .entry)) (c .at) ⌝ }
-{
-    let inputs = p.inputs;
-    let gates = p.gate_count;
-    let count = p.output_count as usize;
-    let mut plan = p;
-    let mut at = c;
-    let mut i: usize = 0;
-    while i < count {
+    let mut j: usize = 0;
+    while j < output_count {
         match at.output(file, inputs, gates) {
-            OutputStep::Refused(x) => {
-                return refused_part(x);
+            OutputStep::Refused(y) => {
+                return refused_read(y);
             }
             OutputStep::Output(wire, next) => {
-                plan.outputs[i] = wire;
+                plan.outputs[j] = wire;
                 at = next;
             }
         }
-        i += 1;
+        j += 1;
     }
-    PartRead {
-        progress: Progress::Next(at),
+    let end = at.at;
+    if end < file.len() {
+        return refused_read(Refusal {
+            fault: Fault::Tail,
+            at: end,
+        });
+    }
+    PlanRead {
+        answer: ReadAnswer::Accepted,
         plan: plan,
     }
 }

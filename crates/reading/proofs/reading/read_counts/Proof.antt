@@ -5,54 +5,58 @@ use borrow.Author.Needs.{needs}
 use Rattle.cursor.specs.Parsing.{followed}
 use Rattle.cursor.specs.Answers.{countAnswer}
 use Rattle.reading.specs.Parts.{countsPart}
-use Rattle.reading.specs.PartsLaws.{blank-of, zero-blank, count-within}
+use Rattle.reading.specs.PartsLaws.{count-within}
 use Rattle.reading.proofs.reading.read_counts.Statement.{statement}
 use Rattle.reading.proofs.reading.read_counts.Tie as tie
 
 no-inputs : tie.Need-returns
 unfolding countsPart
 no-inputs c =
-    let e = ap countAnswer (sym (c .before .before .x .given .1)) ∙ c .before .before .before .before .count .ensures in
-    rw (c .refused-part .ensures) (record { parsed = ap (followed _ _) e; blank = zero-blank })
+    let u = c .before in
+    let e = ap countAnswer (sym (u .x .given .1)) ∙ u .before .before .count .ensures in
+    record { parsed = ap (followed _ _) e; limited = tt }
 
 no-gates : tie.Need-returns-2
 unfolding countsPart
 no-gates c =
-    let u = c .before .before .before .before .before .before in
+    let k = c .before in
+    let u = k .before .before .before .before in
     let e₁ = ap countAnswer (sym (u .u .given .1)) ∙ u .before .before .count .ensures in
-    let e₂ = ap countAnswer (sym (c .before .before .x2 .given .1)) ∙ c .before .before .before .before .count2 .ensures in
-    rw (c .refused-part2 .ensures) (record { parsed = ap (followed _ _) e₂ ∙ ap (followed _ _) e₁; blank = zero-blank })
+    let e₂ = ap countAnswer (sym (k .x2 .given .1)) ∙ k .before .before .count2 .ensures in
+    record { parsed = ap (followed _ _) e₂ ∙ ap (followed _ _) e₁; limited = tt }
 
 no-outputs : tie.Need-returns-3
 unfolding countsPart
 no-outputs c =
-    let k = c .before .before .before .before .before .before in
+    let v = c .before in
+    let k = v .before .before .before .before in
     let u = k .before .before .before .before in
     let e₁ = ap countAnswer (sym (u .u .given .1)) ∙ u .before .before .count .ensures in
     let e₂ = ap countAnswer (sym (k .k .given .1)) ∙ k .before .before .count2 .ensures in
-    let e₃ = ap countAnswer (sym (c .before .before .x3 .given .1)) ∙ c .before .before .before .before .count3 .ensures in
-    rw (c .refused-part3 .ensures)
-    (record { parsed = ap (followed _ _) e₃ ∙ ap (followed _ _) e₂ ∙ ap (followed _ _) e₁; blank = zero-blank })
+    let e₃ = ap countAnswer (sym (v .x3 .given .1)) ∙ v .before .before .count3 .ensures in
+    record { parsed = ap (followed _ _) e₃ ∙ ap (followed _ _) e₂ ∙ ap (followed _ _) e₁; limited = tt }
 
 counts : tie.Need-returns-4
 unfolding countsPart
 counts c =
-    let v = c .before .before in
+    let v = c .before in
     let k = v .before .before .before .before in
     let u = k .before .before .before .before in
     let e₁ = ap countAnswer (sym (u .u .given .1)) ∙ u .before .before .count .ensures in
     let e₂ = ap countAnswer (sym (k .k .given .1)) ∙ k .before .before .count2 .ensures in
     let e₃ = ap countAnswer (sym (v .v .given .1)) ∙ v .before .before .count3 .ensures in
-    rw (c .blank-plan .ensures) (record {
+    record {
       parsed = ap (followed _ _) e₃ ∙ ap (followed _ _) e₂ ∙ ap (followed _ _) e₁;
-      blank = blank-of _ _ _ (count-within _ _ _ _ _ _ e₁) (count-within _ _ _ _ _ _ e₂) (count-within _ _ _ _ _ _ e₃);
-    })
+      limited = record {
+        inputs = count-within _ _ _ _ _ _ e₁;
+        gates = count-within _ _ _ _ _ _ e₂;
+        outputs = count-within _ _ _ _ _ _ e₃;
+      };
+    }
 
 pub read-counts-spec : {M : Type 1} → statement M
 read-counts-spec =
     tie.close
     (tie.spec
-    (λ c κs. search needs) (λ c. search needs) (λ c κs. search needs) (λ c. search needs)
-    (λ c κs. search needs) (λ c. search needs) (λ c κs. search needs) (λ c. search needs)
-    (λ c κs. search needs) (λ c. search needs) (λ c κs. search needs) (λ c. search needs)
-    (λ c κs. search needs) no-inputs no-gates no-outputs counts)
+    (λ c κs. search needs) (λ c. search needs) (λ c. search needs) (λ c κs. search needs) (λ c. search needs) (λ c. search needs)
+    (λ c κs. search needs) (λ c. search needs) (λ c. search needs) no-inputs no-gates no-outputs counts)
