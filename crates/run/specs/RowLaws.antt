@@ -1,4 +1,4 @@
--- What a row makes of the bits that it sees, and that it sees on the work buffer what it sees in the run.
+-- What a row's bit chooses, what a row makes of the bits that it sees, and that it sees on the work buffer what it sees in the run.
 use mathlib.Core.Path.{_≡_, refl, ap, _∙_}
 use mathlib.Core.List.{List, [], _∷_}
 use Prim.Native.Nat.{ℕ, zero, suc, _+_, _-_, _*_, _≤_, _<_}
@@ -14,9 +14,8 @@ use Rattle.networks.specs.Bits.{bitAt, unpack}
 use Rattle.networks.specs.BitsLaws.{unpack-at}
 use Rattle.run.specs.RunRows.{seen, rowDone, leftOf, rightOf, RowRoom}
 
--- ---- what a row makes of what it sees
+-- ---- the wire that a bit chooses
 
--- bit 0 is the left one's, bit 1 the right one's
 pub choose-entry : (table : List ℕ) (at b : ℕ) → b ≤ 1 → getD table (at + 1 + b) 0 ≡ choose b (leftOf table at) (rightOf table at)
 unfolding choose
 choose-entry table at zero h = ap (λ n. getD table n 0) (add-zero (at + 1))
@@ -42,6 +41,8 @@ unfolding choose
 choose-other zero l r h = refl
 choose-other (suc zero) l r h = refl
 choose-other (suc (suc b)) l r h = absurd (omega arith)
+
+-- ---- what a row makes of what it sees
 
 line-of : (a b : ℕ) → lineOf 0 (a ∷ b ∷ []) ≡ 2 * a + b
 unfolding lineOf

@@ -6,10 +6,10 @@ use lib.ListN.{length, getD}
 use lib.Seq.{sets}
 use Rattle.lists.specs.Lists.{listOf}
 use Rattle.fault.specs.Buffers.{over}
-use Rattle.networks.specs.Rows.{Row, gateBits, makes, State, outputs, run, gateOnBits}
+use Rattle.networks.specs.Rows.{Row, gateBits, State, outputs, run, gateOnBits}
 use Rattle.networks.specs.Bits.{bitAt, AreBits}
-use Rattle.universal.specs.Tables.{inputsIn, outputsIn, rowsIn, leftAt, rightAt, rowAt, outputWireAt, rowsTo, wiresIn, maxFabricWires, runStart}
-use Rattle.universal.specs.TablesLaws.{HeaderWithin, WellFormed}
+use Rattle.universal.specs.Tables.{inputsIn, outputsIn, rowsIn, outputWireAt, rowsTo, wiresIn, runStart}
+use Rattle.universal.specs.TablesLaws.{WellFormed}
 use Rattle.run_checks.specs.Counting.{maxBits, Counted}
 
 -- what a row sees: the wires' bits, and the program from its first bit on

@@ -1,5 +1,5 @@
-// The checks of the run of a contact fabric: for any table, program and row the call says, with proof, which of them is malformed, or that
-// there is too little room. With it what a table's entries mean, for those who read one.
+// The checks of the run of a contact fabric. For any table, program and row the call says, with proof, which of them is malformed, or that a
+// buffer is too short. Where a table's entries stand and what its rows count is handed on to the run.
 mod checking;
 mod table;
 

@@ -1,5 +1,4 @@
 -- `run_checks::table::counts_of` meets its contract, kind by kind. Assumes nothing.
-use mathlib.Core.Path.{refl}
 use native.Mathlib.Omega.{arith}
 use Rattle.networks.specs.Rows.{makes, takes}
 use Rattle.run_checks.specs.CountingLaws.{kind-x, kind-y, kind-g}
