@@ -12,6 +12,7 @@ ghost use Rattle.run.specs.RunCalls.{runWork, runResult};
 ghost use Rattle.run_checks.specs.Counting.{kindWires};
 ghost use Rattle.run.specs.RunRows.{Runnable, RowRoom, OutputRoom, outputsOn, leftOf, rightOf, rowDone};
 use elements::read_bit;
+use elements::wide;
 use fault::Answer;
 use run_checks::INPUTS;
 use run_checks::KIND_X;
@@ -21,7 +22,6 @@ use run_checks::ROWS;
 use run_checks::check_run;
 use run_checks::counts_of;
 use run_checks::row_place;
-use run_checks::wide;
 
 // The run of a table with a program on a row of inputs: every wire's bit into the work buffer, the outputs' bits into the result.
 pub fn run(table: &[u16], program: &[u8], row: &[u8], work: &mut [u8], result: &mut [u8]) -> Answer

@@ -16,7 +16,6 @@ use crate::table::ROWS;
 use crate::table::counts_of;
 use crate::table::row_place;
 use crate::table::table_length;
-use crate::table::wide;
 use elements::HEADER;
 use elements::MAX_WIRES;
 use elements::read_bit;

@@ -12,4 +12,3 @@ pub use table::ROWS;
 pub use table::RowCounts;
 pub use table::counts_of;
 pub use table::row_place;
-pub use table::wide;

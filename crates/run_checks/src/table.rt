@@ -6,6 +6,7 @@ ghost use Rattle.networks.specs.Rows.{stride};
 ghost use Rattle.universal.specs.Tables.{header, outputsIn, rowsIn, maxFabricWires};
 ghost use Rattle.run_checks.specs.Counting.{CountsOf};
 use elements::HEADER;
+use elements::wide;
 
 // Which of the entries before the rows are the numbers of inputs, outputs and rows.
 pub const INPUTS: usize = 0;
@@ -51,13 +52,6 @@ pub fn row_place(i: u16) -> usize
     ensures { λ r. ⌜ (r ≡ header + stride * i) × (r ≤ stride * maxFabricWires) ⌝ }
 {
     HEADER + elements::row_place(i as u32)
-}
-
-// An entry as a count or a position.
-pub fn wide(entry: u16) -> usize
-    ensures { λ r. ⌜ (r ≡ entry) × (r < maxFabricWires) ⌝ }
-{
-    entry as usize
 }
 
 // The length that a table with these counts has.
