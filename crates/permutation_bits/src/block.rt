@@ -27,19 +27,13 @@ pub(crate) fn program_block(
     ensures { λ _. ⌜ now (program .exit) ≡ storeBits (now (program .entry)) start (listBits level (now (perm .entry))) ⌝ }
 {
     if 0 < level {
+        let below = level - 1;
         let half = perm.len() / 2;
-        let part = row_count(half, level - 1);
+        let part = row_count(half, below);
+        let upper = start + half;
         program_level(perm, scratch, mark, program, start, part);
-        program_half(scratch, perm, mark, program, start + half, level - 1, 0);
-        program_half(
-            scratch,
-            perm,
-            mark,
-            program,
-            start + half + part,
-            level - 1,
-            half,
-        );
+        program_half(scratch, perm, mark, program, upper, below, 0);
+        program_half(scratch, perm, mark, program, upper + part, below, half);
     }
 }
 

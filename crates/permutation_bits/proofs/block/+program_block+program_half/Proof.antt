@@ -83,16 +83,7 @@ for-upper t c κs =
       ),
     )
 
-upper-fits : (t : ℕ) → program-block-lts.Need-add-program-half-2 (block-calls t) (block-at t) program-block.Post
-upper-fits t c =
-    let upper = c .before .before .before .before .before .before .before .before .before .before .before .before in
-    let levelled = upper .before .before .before .before .before .before .before .before .before .before .before in
-    let if1 = levelled .before .before .before .before .before .before in
-    let s = if1 .before .before .before .before .before in
-    let H = halving (s .args .level) (s .pre .1 .1 .0) (if1 .if1 .taken) in
-    omega (arith, s .pre .1 .1 .1, levelled .before .before .before .before .before .row-count .ensures .count-is)
-
-lower-fits : (t : ℕ) → program-block-lts.Need-add-program-half-3 (block-calls t) (block-at t) program-block.Post
+lower-fits : (t : ℕ) → program-block-lts.Need-add-program-half (block-calls t) (block-at t) program-block.Post
 lower-fits t c =
     let upper = c .before .before .before .before .before .before .before .before .before .before .before .before in
     let levelled = upper .before .before .before .before .before .before .before .before .before .before .before in
@@ -170,8 +161,8 @@ pub +program-block+program-half-spec : {M : Type 1} → statement M
 +program-block+program-half-spec =
     close μ-program-block μ-program-half
     (λ t. program-block-lts.spec (block-calls t) (block-at t) program-block.Post
-    (λ c. search needs) (for-count t) (for-level t) (λ c. search needs) (λ c. search needs) (for-upper t) (upper-fits t) (lower-fits t)
-    (λ c. search needs) (for-lower t) (λ c. search needs) (λ c. search needs) (λ c. search needs) (λ c. search needs) (stored t) (nothing t))
+    (λ c. search needs) (for-count t) (λ c. search needs) (for-level t) (for-upper t) (lower-fits t) (for-lower t)
+    (λ c. search needs) (λ c. search needs) (λ c. search needs) (λ c. search needs) (stored t) (nothing t))
     λ t. program-half-lts.spec (half-calls t) (half-at t) program-half.Post
     (λ c. search needs) (λ c. search needs) (λ c. search needs) (λ c. search needs) (λ c. search needs) (λ c. search needs) (λ c. search needs)
     (λ c. search needs) (λ c. search needs) (λ c. search needs) (λ c. search needs) (λ c. search needs) (for-block t) (λ c. search needs)
