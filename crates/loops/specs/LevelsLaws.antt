@@ -1,18 +1,21 @@
 -- The recursion of the programming: sizes go down by halves, and what the halves store completes the bits of the level.
 use mathlib.Core.Path.{_≡_, refl, sym, ap, _∙_}
-use mathlib.Core.List.{List, _++_}
-use Prim.Native.Nat.{ℕ, zero, suc, _+_, _-_, _*_, _/_, _^_, _≤_, _<_}
+use mathlib.Core.List.{List, [], _∷_, _++_}
+use Prim.Native.Nat.{ℕ, zero, suc, _+_, _-_, _*_, _/_, _%_, _^_, _≤_, _<_}
 use native.Mathlib.Nat.{not-suc-le-zero, le-of-suc-le-suc, pow-succ'}
 use native.Mathlib.Omega.{arith}
-use lib.ListN.{length, take, drop}
+use lib.ListN.{length, getD, take, drop}
 use lib.Pow.{pow-mono, pow-pos}
 use lib.Seq.{take-at, drop-at, take-all}
 use borrow.Rule.Slice.PartMut.{midOf, mid-len}
 use Rattle.lists.specs.ListsLaws.{length-listOf}
-use Rattle.networks.specs.Bits.{AreBits, AreBytes, storeBits}
+use Rattle.networks.specs.Bits.{AreBits, AreBytes, setBit, storeBits}
 use Rattle.networks.specs.BitsLaws.{bits-listOf}
-use Rattle.networks.specs.Permutation.{permutationCount, permutationBits}
-use Rattle.loops.specs.Mappings.{IsPerm, inverseOf, listBits, inputSides, outputSides, halfList, inverseList, sidesOf, Levelled}
+use Rattle.networks.specs.Permutation.{permutationCount, partner, iterate, walk, key, least, lowest, side, permutationBits}
+use Rattle.networks.specs.Wanted.{takerOf}
+use Rattle.networks.specs.Loops.{perm-inj, perm-lt}
+use Rattle.lists.specs.Lists.{listOf}
+use Rattle.loops.specs.Mappings.{mapOf, IsPerm, inverseOf, listBits, inputSides, outputSides, halfList, inverseList, sidesOf, Levelled}
 use Rattle.loops.specs.MappingsLaws.{half-size, half-listed, level-bits, length-listBits, listBits-bits, sides-bits}
 use Rattle.loops.specs.Levels.{LevelRoom, BlockRoom, HalfRoom}
 use Rattle.elements.specs.StoreLaws.{store-level}
@@ -118,3 +121,42 @@ pub no-bits : (level start : ℕ) (p before : List ℕ) → level ≤ 0 → befo
 unfolding listBits permutationBits storeBits
 no-bits zero start p before l = refl
 no-bits (suc n) start p before l = absurd (not-suc-le-zero l)
+
+-- P(2) has one row, crossed where its first output takes the second input
+pair-of : (x y : ℕ) → x < 2 → y < 2 → (x ≡ y → ⊥) → listBits 1 (x ∷ y ∷ []) ≡ x ∷ []
+unfolding listBits permutationBits mapOf inverseOf takerOf listOf side lowest least key walk partner iterate
+pair-of zero zero l m d = absurd (d refl)
+pair-of zero (suc zero) l m d = refl
+pair-of (suc zero) zero l m d = refl
+pair-of (suc zero) (suc zero) l m d = absurd (d refl)
+pair-of (suc (suc x)) y l m d = absurd (omega arith)
+pair-of zero (suc (suc y)) l m d = absurd (omega arith)
+pair-of (suc zero) (suc (suc y)) l m d = absurd (omega arith)
+
+pair-bits : (p : List ℕ) → IsPerm p → length p ≡ 2 → listBits 1 p ≡ getD p 0 0 ∷ []
+unfolding mapOf
+pair-bits [] ok e = absurd (omega arith)
+pair-bits (x ∷ []) ok e = absurd (omega arith)
+pair-bits (x ∷ y ∷ []) ok e =
+    pair-of x y (perm-lt (ok .perm) 0 (omega arith)) (perm-lt (ok .perm) 1 (omega arith)) (λ q. let z : 0 ≡ 1 = perm-inj (ok .perm) 0 1 q in omega (arith, z))
+pair-bits (x ∷ y ∷ z ∷ p) ok e = absurd (omega arith)
+
+module _ {level : ℕ} (p : List ℕ) (ok : IsPerm p) (size : length p ≡ 2 ^ level) (low : level ≤ 1) (some : 0 < level) where
+  one : level ≡ 1
+  one = omega arith
+
+  pair-size : length p ≡ 2
+  pair-size = size ∙ ap (λ n. 2 ^ n) one
+
+  pub pair-some : 0 < length p
+  pair-some = omega (arith, pair-size)
+
+  pub pair-first : getD p 0 0 < 2
+  unfolding mapOf
+  pair-first = rw pair-size at (perm-lt (ok .perm) 0 pair-some)
+
+  pub pair-stored : (before : List ℕ) (start : ℕ) → setBit before start (getD p 0 0 % 2) ≡ storeBits before start (listBits level p)
+  unfolding storeBits
+  pair-stored before start =
+      let bit : getD p 0 0 % 2 ≡ getD p 0 0 = omega (arith, pair-first) in
+      ap (setBit before start) bit ∙ sym (ap (storeBits before start) (ap (λ n. listBits n p) one ∙ pair-bits p ok pair-size))

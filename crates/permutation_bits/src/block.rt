@@ -9,6 +9,7 @@ ghost use Rattle.sizes.specs.SizesLaws.{CountIs};
 ghost use Rattle.loops.specs.Mappings.{IsPerm, listBits};
 ghost use Rattle.loops.specs.Levels.{BlockRoom, HalfRoom};
 use crate::level::program_level;
+use elements::store_bit;
 use sizes::permutation_count;
 
 // The program bits of P(2 ^ level) for the mapping `perm`, from bit `start` on. `scratch` and `mark` are room to work in, and `perm` is
@@ -26,7 +27,7 @@ pub(crate) fn program_block(
     requires { ⌜ start + permutationCount level < 2 ^ 32 ⌝ }
     ensures { λ _. ⌜ now (program .exit) ≡ storeBits (now (program .entry)) start (listBits level (now (perm .entry))) ⌝ }
 {
-    if 0 < level {
+    if 1 < level {
         let below = level - 1;
         let half = perm.len() / 2;
         let part = row_count(half, below);
@@ -34,6 +35,20 @@ pub(crate) fn program_block(
         program_level(perm, scratch, mark, program, start, part);
         program_half(scratch, perm, mark, program, upper, below, 0);
         program_half(scratch, perm, mark, program, upper + part, below, half);
+    } else {
+        program_pair(perm, program, start, level);
+    }
+}
+
+// The same for P(2), whose one row is crossed where its first output takes the second input, and for P(1), which has no row. Half of all blocks
+// are these.
+fn program_pair(perm: &[u16], program: &mut [u8], start: usize, level: usize)
+    requires { ⌜ IsPerm (now perm) × (length (now perm) ≡ 2 ^ level) × (level ≤ 1) ⌝ }
+    requires { ⌜ start + permutationCount level < 2 ^ 32 ⌝ }
+    ensures { λ _. ⌜ now (program .exit) ≡ storeBits (now (program .entry)) start (listBits level (now (perm .entry))) ⌝ }
+{
+    if 0 < level {
+        store_bit(program, start, perm[0] as u8);
     }
 }
 

@@ -11,7 +11,7 @@ use borrow.Rule.Slice.PartMut.{mid-len, drop-put}
 use lib.ListN.{length, take, drop}
 use Rattle.networks.specs.Bits.{AreBytes, storeBits}
 use Rattle.loops.specs.Mappings.{listBits}
-use Rattle.loops.specs.LevelsLaws.{halving, level-room, half-room, part-room, upper-perm, lower-perm, block-stored, no-bits}
+use Rattle.loops.specs.LevelsLaws.{halving, level-room, half-room, part-room, upper-perm, lower-perm, block-stored}
 use Rattle.permutation_bits.proofs.block.program_block.Reads as program-block
 use Rattle.permutation_bits.proofs.block.program_block.Kinds as program-block-kinds
 use Rattle.permutation_bits.proofs.block.+program_block+program_half.Lts-program_block as program-block-lts
@@ -20,6 +20,7 @@ use Rattle.permutation_bits.proofs.block.program_half.Kinds as program-
 use Rattle.permutation_bits.proofs.block.+program_block+program_half.Lts-program_half as program-half-lts
 use Rattle.permutation_bits.proofs.level.program_level.Reads as program-level-reads
 use Rattle.permutation_bits.proofs.block.row_count.Reads as row-count-reads
+use Rattle.permutation_bits.proofs.block.program_pair.Reads as program-pair-reads
 use Rattle.permutation_bits.proofs.block.+program_block+program_half.{statement}
 use Rattle.permutation_bits.proofs.block.+program_block+program_half.Tie.{close}
 
@@ -44,6 +45,8 @@ block-calls t = (
   program-level-reads.Learnt,
   and 4 program-half-kinds.ps (falls 4 program-half-kinds.ps _<_ μ-program-half t) program-half.Pre,
   program-half.Post,
+  program-pair-reads.Asked,
+  program-pair-reads.Learnt,
 )
 
 abbrev half-calls : ℕ → program-half-lts.Claims
@@ -52,26 +55,29 @@ half-calls t = (
   program-block.Post,
 )
 
+some-below : {level : ℕ} → 1 < level → 0 < level
+some-below l = omega arith
+
 for-count : (t : ℕ) → program-block-lts.Need-row-count-requires (block-calls t) (block-at t) program-block.Post
 for-count t c κs =
     let s = c .before .before .before .before .before in
-    let H = halving (s .args .level) (s .pre .1 .1 .0) (c .if1 .taken) in
+    let H = halving (s .args .level) (s .pre .1 .1 .0) (some-below (c .if1 .taken)) in
     (H .half, omega arith)
 
 for-level : (t : ℕ) → program-block-lts.Need-program-level-requires (block-calls t) (block-at t) program-block.Post
 for-level t c κs =
     let if1 = c .before .before .before .before .before in
     let s = if1 .before .before .before .before .before in
-    let H = halving (s .args .level) (s .pre .1 .1 .0) (if1 .if1 .taken) in
+    let H = halving (s .args .level) (s .pre .1 .1 .0) (some-below (if1 .if1 .taken)) in
     let rows = c .before .before .before .before .row-count .ensures .count-is in
-    (s .pre .1 .0, (level-room (s .args .level) (s .pre .1 .1 .0) (if1 .if1 .taken), omega (arith, rows, s .pre .1 .1 .1)))
+    (s .pre .1 .0, (level-room (s .args .level) (s .pre .1 .1 .0) (some-below (if1 .if1 .taken)), omega (arith, rows, s .pre .1 .1 .1)))
 
 for-upper : (t : ℕ) → program-block-lts.Need-program-half-requires (block-calls t) (block-at t) program-block.Post
 for-upper t c κs =
     let levelled = c .before .before .before .before .before .before .before .before .before .before in
     let if1 = levelled .before .before .before .before .before .before in
     let s = if1 .before .before .before .before .before in
-    let l = if1 .if1 .taken in
+    let l = some-below (if1 .if1 .taken) in
     let room = s .pre .1 .1 .0 in
     let H = halving (s .args .level) room l in
     let level = levelled .program-level in
@@ -89,7 +95,7 @@ lower-fits t c =
     let levelled = upper .before .before .before .before .before .before .before .before .before .before .before in
     let if1 = levelled .before .before .before .before .before .before in
     let s = if1 .before .before .before .before .before in
-    let H = halving (s .args .level) (s .pre .1 .1 .0) (if1 .if1 .taken) in
+    let H = halving (s .args .level) (s .pre .1 .1 .0) (some-below (if1 .if1 .taken)) in
     omega (arith, s .pre .1 .1 .1, levelled .before .before .before .before .before .row-count .ensures .count-is)
 
 for-lower : (t : ℕ) → program-block-lts.Need-program-half-requires-2 (block-calls t) (block-at t) program-block.Post
@@ -98,7 +104,7 @@ for-lower t c κs =
     let levelled = upper .before .before .before .before .before .before .before .before .before .before .before in
     let if1 = levelled .before .before .before .before .before .before in
     let s = if1 .before .before .before .before .before in
-    let l = if1 .if1 .taken in
+    let l = some-below (if1 .if1 .taken) in
     let room = s .pre .1 .1 .0 in
     let H = halving (s .args .level) room l in
     let level = levelled .program-level in
@@ -126,13 +132,16 @@ stored t c =
     let level = levelled .program-level in
     let half = upper .program-half in
     let bytes : AreBytes (s .args .program .now) = record { each = λ i. if1 .before .slice-known4 .given i .fits } in
-    block-stored {level = s .args .level} (s .pre .1 .0) room (if1 .if1 .taken) (level .ensures) (level .kept .1 .0 ∙ room .scratchSize)
+    block-stored {level = s .args .level} (s .pre .1 .0) room (some-below (if1 .if1 .taken)) (level .ensures) (level .kept .1 .0 ∙ room .scratchSize)
     (half .last .0) (half .kept .0) (half .ensures .1) bytes (levelled .before .before .before .before .before .row-count .ensures .count-is) (half .ensures .0) (lower .program-half2 .ensures .0)
 
-nothing : (t : ℕ) → program-block-lts.Need-returns-2 (block-calls t) (block-at t) program-block.Post
-nothing t c =
-    let a = c .before .before .before .before .before .args in
-    no-bits (a .level) (a .start) (a .perm .now) (a .program .now) (c .if1 .left)
+for-pair : (t : ℕ) → program-block-lts.Need-program-pair-requires (block-calls t) (block-at t) program-block.Post
+for-pair t c κs =
+    let s = c .before .before .before .before .before .before .before in
+    ((s .pre .1 .0, s .pre .1 .1 .0 .size, c .before .before .if1 .left), s .pre .1 .1 .1)
+
+paired : (t : ℕ) → program-block-lts.Need-returns-2 (block-calls t) (block-at t) program-block.Post
+paired t c = c .before .before .program-pair .ensures
 
 for-block : (t : ℕ) → program-half-lts.Need-program-block-requires (half-calls t) (half-at t) program-half.Post
 for-block t c κs =
@@ -161,8 +170,8 @@ pub +program-block+program-half-spec : {M : Type 1} → statement M
 +program-block+program-half-spec =
     close μ-program-block μ-program-half
     (λ t. program-block-lts.spec (block-calls t) (block-at t) program-block.Post
-    (λ c. search needs) (for-count t) (λ c. search needs) (for-level t) (for-upper t) (lower-fits t) (for-lower t)
-    (λ c. search needs) (λ c. search needs) (λ c. search needs) (λ c. search needs) (stored t) (nothing t))
+    (λ c. search needs) (for-count t) (λ c. search needs) (for-level t) (for-upper t) (lower-fits t) (for-lower t) (for-pair t)
+    (λ c. search needs) (λ c. search needs) (λ c. search needs) (λ c. search needs) (stored t) (λ c. search needs) (λ c. search needs) (paired t))
     λ t. program-half-lts.spec (half-calls t) (half-at t) program-half.Post
     (λ c. search needs) (λ c. search needs) (λ c. search needs) (λ c. search needs) (λ c. search needs) (λ c. search needs) (λ c. search needs)
     (λ c. search needs) (λ c. search needs) (λ c. search needs) (λ c. search needs) (λ c. search needs) (for-block t) (λ c. search needs)
