@@ -1,13 +1,13 @@
 -- Rows on wires of the fabric, where there is room, are stored as `flat` has them.
 use mathlib.Core.Path.{_≡_, refl, sym, ap, ap₂, _∙_}
-use mathlib.Core.List.{List, [], _∷_, _++_, append-nil}
-use Prim.Native.Nat.{ℕ, suc, _+_, _*_, _<_, _≤_}
+use mathlib.Core.List.{List, [], _∷_, append-nil}
+use Prim.Native.Nat.{ℕ, _+_, _*_, _<_, _≤_}
 use native.Mathlib.Nat.{mod-eq-of-lt}
 use native.Mathlib.Numerals.{add-one}
 use native.Mathlib.Omega.{arith}
 use borrow.Author.Tests.{le-leb}
 use lib.ListN.{length, getD}
-use Rattle.lists.specs.Lists.{listOf, Every}
+use Rattle.lists.specs.Lists.{listOf}
 use Rattle.lists.specs.ListsLaws.{length-listOf, every-listOf}
 use Rattle.fault.specs.Buffers.{over}
 use Rattle.fault.specs.PartsLaws.{partOf, withPart, over-part}

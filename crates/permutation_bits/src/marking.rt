@@ -1,8 +1,7 @@
 // The sides of P's outputs: which half each output comes through. The loops of pairs are walked one after another and marked in place.
 ghost use mathlib.Core.Path.{_≡_};
-ghost use mathlib.Core.List.{_++_};
 ghost use Prim.Native.Nat.{_<_, _≤_};
-ghost use lib.ListN.{length, getD, drop, replicate};
+ghost use lib.ListN.{length, getD};
 ghost use Rattle.networks.specs.Permutation.{partner};
 ghost use Rattle.sizes.specs.Sizes.{maxSize};
 ghost use Rattle.loops.specs.Mappings.{Paired, walkIn, sideList};

@@ -8,7 +8,7 @@ ghost use Rattle.fault.specs.Number.{answerNumber};
 ghost use Rattle.fault.specs.Buffers.{over};
 ghost use Rattle.networks.specs.Bits.{storeBits};
 ghost use Rattle.networks.specs.Wanted.{Wanted, mapping, wantedBits};
-ghost use Rattle.sizes.specs.Sizes.{maxSize, levelOf};
+ghost use Rattle.sizes.specs.Sizes.{levelOf};
 ghost use Rattle.sizes.specs.SizesLaws.{SizeIs};
 ghost use Rattle.wanted_checks.specs.Checks.{bitCount, programFault, programAtFault};
 ghost use Rattle.permutation_bits.specs.ProgramCalls.{programResult, programAtResult};

@@ -1,13 +1,13 @@
 -- `elements::rows::put_pairs` meets its contract: all rows where they have room, otherwise none. Assumes nothing.
 use native.Mathlib.Omega.{arith}
-use mathlib.Core.Path.{_≡_, sym, ap, _∙_}
+use mathlib.Core.Path.{_≡_, sym, _∙_}
 use mathlib.Core.List.{List}
-use Prim.Native.Nat.{ℕ, _*_, _<_, _≤_}
+use Prim.Native.Nat.{ℕ, _*_, _<_}
 use borrow.Author.Needs.{needs}
 use borrow.Author.Tests.{lt-leb}
 use lib.ListN.{length}
 use Rattle.networks.specs.Rows.{Row, stride}
-use Rattle.elements.specs.Rows.{pairRows, rowsPut}
+use Rattle.elements.specs.Rows.{rowsPut}
 use Rattle.elements.specs.RowsLaws.{length-pairRows, rows-put}
 use Rattle.elements.proofs.rows.put_pairs.Statement.{statement}
 use Rattle.elements.proofs.rows.put_pairs.Tie as tie

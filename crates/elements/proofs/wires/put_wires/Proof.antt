@@ -1,7 +1,7 @@
 -- `elements::wires::put_wires` meets its contract. The loop's invariant: the first i wires stand, and `wire` is the next. Assumes nothing.
 use native.Mathlib.Omega.{arith}
 use mathlib.Core.Path.{_≡_, refl, ap, _∙_}
-use Prim.Native.Nat.{_+_, _*_, _%_, _-_, _<_, _≤_}
+use Prim.Native.Nat.{_+_, _*_, _%_, _-_, _≤_}
 use native.Mathlib.Nat.{mul-add}
 use lib.ListN.{length, set, length-set}
 use borrow.Author.Needs.{needs}

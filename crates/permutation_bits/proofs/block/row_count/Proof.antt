@@ -1,6 +1,6 @@
 -- `permutation_bits::block::row_count` meets its contract. Assumes nothing.
 use native.Mathlib.Omega.{arith}
-use Prim.Native.Nat.{_^_, _≤_}
+use Prim.Native.Nat.{_≤_}
 use borrow.Author.Needs.{needs}
 use Rattle.sizes.specs.Sizes.{maxSize}
 use Rattle.sizes.specs.SizesLaws.{power-small, counted}
