@@ -60,6 +60,10 @@ outputSide m i = getD m (2 * i) 0
 abbrev pub outputSides : List ℕ → List ℕ
 outputSides m = listOf (length m / 2 - 1) (outputSide m)
 
+-- the program when a level's own rows are stored: the input rows' bits from bit `start` on, the output rows' behind two halves of `part` rows
+abbrev pub rowsStored : List ℕ → ℕ → ℕ → List ℕ → List ℕ → List ℕ
+rowsStored before start part q m = storeBits (storeBits before start (inputSides q m)) (start + length m / 2 + part + part) (outputSides m)
+
 -- from the mapping p and the halves m: the mapping that is left to the half c
 abbrev pub halfEntry : ℕ → List ℕ → List ℕ → ℕ → ℕ
 halfEntry c p m i = getD p (2 * i + (getD m (2 * i) 0 + c) % 2) 0 / 2

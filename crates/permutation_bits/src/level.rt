@@ -6,7 +6,7 @@ ghost use lib.ListN.{length};
 ghost use lib.Seq.{sets};
 ghost use Rattle.networks.specs.Bits.{AreBits, storeBits};
 ghost use Rattle.sizes.specs.Sizes.{maxSize};
-ghost use Rattle.loops.specs.Mappings.{IsPerm, inverseList, sidesOf, inputSides, outputSides, halfList, Levelled};
+ghost use Rattle.loops.specs.Mappings.{IsPerm, inverseList, sidesOf, inputSides, outputSides, rowsStored, halfList, Levelled};
 ghost use Rattle.loops.specs.Levels.{LevelRoom, SidesKnown};
 use crate::marking::mark_sides;
 use elements::store_bit;
@@ -61,7 +61,7 @@ fn invert(perm: &[u16], inverse: &mut [u16])
 fn store_rows(inverse: &[u16], mark: &[u8], program: &mut [u8], start: usize, part: usize)
     requires { ⌜ SidesKnown (now inverse) (now mark) ⌝ }
     requires { ⌜ start + length (now mark) / 2 + part + part + length (now mark) / 2 < 2 ^ 64 ⌝ }
-    ensures { λ _. ⌜ now (program .exit) ≡ storeBits (storeBits (now (program .entry)) start (inputSides (now (inverse .entry)) (now (mark .entry)))) (start + length (now (mark .entry)) / 2 + part + part) (outputSides (now (mark .entry))) ⌝ }
+    ensures { λ _. ⌜ now (program .exit) ≡ rowsStored (now (program .entry)) start part (now (inverse .entry)) (now (mark .entry)) ⌝ }
 {
     store_input_bits(inverse, mark, program, start);
     store_output_bits(mark, program, start + mark.len() / 2 + part + part);
