@@ -11,6 +11,7 @@ ghost use Rattle.run_checks.specs.RunFault.{runFault};
 ghost use Rattle.run.specs.RunCalls.{runWork, runResult};
 ghost use Rattle.run_checks.specs.Counting.{kindWires};
 ghost use Rattle.run.specs.RunRows.{Runnable, RowRoom, OutputRoom, outputsOn, leftOf, rightOf, rowDone};
+use elements::FabricWire;
 use elements::read_bit;
 use elements::wide;
 use fault::Answer;
@@ -22,6 +23,7 @@ use run_checks::ROWS;
 use run_checks::check_run;
 use run_checks::counts_of;
 use run_checks::row_place;
+use run_checks::wire_of;
 
 // The run of a table with a program on a row of inputs: every wire's bit into the work buffer, the outputs' bits into the result.
 pub fn run(table: &[u16], program: &[u8], row: &[u8], work: &mut [u8], result: &mut [u8]) -> Answer
@@ -103,8 +105,8 @@ fn run_x(table: &[u16], at: usize, program: &[u8], bit: usize, made: usize, work
     ensures { λ _. ⌜ now (work .exit) ≡ rowDone (X (leftOf (now (table .entry)) at) (rightOf (now (table .entry)) at)) (now (program .entry)) bit made (now (work .entry)) ⌝ }
 {
     let b = read_bit(program, bit);
-    let first = work[chosen(table, at, b)];
-    let second = work[chosen(table, at, 1 - b)];
+    let first = work[chosen(table, at, b).0 as usize];
+    let second = work[chosen(table, at, 1 - b).0 as usize];
     work[made] = first;
     work[made + 1] = second;
 }
@@ -115,7 +117,7 @@ fn run_y(table: &[u16], at: usize, program: &[u8], bit: usize, made: usize, work
     ensures { λ _. ⌜ now (work .exit) ≡ rowDone (Y (leftOf (now (table .entry)) at) (rightOf (now (table .entry)) at)) (now (program .entry)) bit made (now (work .entry)) ⌝ }
 {
     let b = read_bit(program, bit);
-    work[made] = work[chosen(table, at, b)];
+    work[made] = work[chosen(table, at, b).0 as usize];
 }
 
 // G: its table is the next four program bits, and gives bit 2a + b.
@@ -123,18 +125,18 @@ fn run_g(table: &[u16], at: usize, program: &[u8], bit: usize, made: usize, work
     requires { ⌜ RowRoom 1 (now table) at bit made (now work) ⌝ }
     ensures { λ _. ⌜ now (work .exit) ≡ rowDone (Gate (leftOf (now (table .entry)) at ∷ rightOf (now (table .entry)) at ∷ [])) (now (program .entry)) bit made (now (work .entry)) ⌝ }
 {
-    let a = work[wide(table[at + 1])];
-    let b = work[wide(table[at + 2])];
+    let a = work[wire_of(table[at + 1]).0 as usize];
+    let b = work[wire_of(table[at + 2]).0 as usize];
     work[made] = read_bit(program, bit + (2 * a + b) as usize);
 }
 
 // The wire that a bit chooses of the row at a place: the left one for 0, the right one for 1. An index and no branch: which bits
 // a program has cannot be foretold.
-fn chosen(table: &[u16], at: usize, b: u8) -> usize
+fn chosen(table: &[u16], at: usize, b: u8) -> FabricWire
     requires { ⌜ (at + 2 < length (now table)) × (b ≤ 1) ⌝ }
-    ensures { λ r. ⌜ r ≡ choose b (leftOf (now (table .entry)) at) (rightOf (now (table .entry)) at) ⌝ }
+    ensures { λ r. ⌜ r .0 ≡ choose b (leftOf (now (table .entry)) at) (rightOf (now (table .entry)) at) ⌝ }
 {
-    wide(table[at + 1 + b as usize])
+    wire_of(table[at + 1 + b as usize])
 }
 
 // The bits on the output wires, into the first entries of the result.
@@ -146,7 +148,7 @@ fn write_outputs(table: &[u16], work: &[u8], result: &mut [u8])
     let count = wide(table[OUTPUTS]);
     let mut j: usize = 0;
     while j < count {
-        result[j] = work[wide(table[first + j])];
+        result[j] = work[wire_of(table[first + j]).0 as usize];
         j += 1;
     }
 }

@@ -16,9 +16,11 @@ use crate::table::ROWS;
 use crate::table::counts_of;
 use crate::table::row_place;
 use crate::table::table_length;
+use crate::table::wire_of;
 use elements::HEADER;
 use elements::MAX_WIRES;
 use elements::read_bit;
+use elements::wide;
 use evaluation::contact_fault;
 use fault::Answer;
 use fault::Fault;
@@ -138,10 +140,12 @@ fn check_row(table: &[u16], i: u16, wires: usize) -> Answer
     if !kind_allowed(table[at]) {
         return Answer::Refused(Fault::Fabric);
     }
-    if wires <= wide(table[at + 1]) {
+    let left = wire_of(table[at + 1]);
+    if wires <= left.0 as usize {
         return Answer::Refused(Fault::Fabric);
     }
-    if wires <= wide(table[at + 2]) {
+    let right = wire_of(table[at + 2]);
+    if wires <= right.0 as usize {
         return Answer::Refused(Fault::Fabric);
     }
     Answer::Done
@@ -182,7 +186,8 @@ fn check_outputs(table: &[u16], wires: usize) -> Answer
     let count = wide(table[OUTPUTS]);
     let mut j: usize = 0;
     while j < count {
-        if wires <= wide(table[first + j]) {
+        let output = wire_of(table[first + j]);
+        if wires <= output.0 as usize {
             return Answer::Refused(Fault::Fabric);
         }
         j += 1;

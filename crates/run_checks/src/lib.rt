@@ -12,3 +12,4 @@ pub use table::ROWS;
 pub use table::RowCounts;
 pub use table::counts_of;
 pub use table::row_place;
+pub use table::wire_of;

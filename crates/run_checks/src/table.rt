@@ -5,6 +5,7 @@ ghost use lib.ListN.{length};
 ghost use Rattle.networks.specs.Rows.{stride};
 ghost use Rattle.universal.specs.Tables.{header, outputsIn, rowsIn, maxFabricWires};
 ghost use Rattle.run_checks.specs.Counting.{CountsOf};
+use elements::FabricWire;
 use elements::HEADER;
 use elements::wide;
 
@@ -52,6 +53,13 @@ pub fn row_place(i: u16) -> usize
     ensures { λ r. ⌜ (r ≡ header + stride * i) × (r ≤ stride * maxFabricWires) ⌝ }
 {
     HEADER + elements::row_place(i as u32)
+}
+
+// An entry of the table, as a wire.
+pub fn wire_of(entry: u16) -> FabricWire
+    ensures { λ r. ⌜ r .0 ≡ entry ⌝ }
+{
+    FabricWire(entry as u32)
 }
 
 // The length that a table with these counts has.

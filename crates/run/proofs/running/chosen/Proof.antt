@@ -8,7 +8,7 @@ use Rattle.run.proofs.running.chosen.Tie as tie
 wire : tie.Need-returns
 wire c =
     let s = c .before .before .before in
-    c .wide .ensures .0 ∙ choose-entry (s .args .table .now) (s .args .at) (s .args .b) (s .pre .1)
+    c .wire-of .ensures ∙ choose-entry (s .args .table .now) (s .args .at) (s .args .b) (s .pre .1)
 
 pub chosen-spec : {M : Type 1} → statement M
 chosen-spec =

@@ -13,15 +13,16 @@ for-wire c κs =
     (s .pre .entries, omega (arith, c .read-bit .ensures, bitAt-lt (s .args .program .now) (s .args .bit)))
 
 wire-made : tie.Need-slice-read-work
-wire-made c = chosen-fits _ _ (c .before .before .before .before .before .before .pre) (c .before .chosen .ensures)
+wire-made c = let wire = c .before .before in chosen-fits _ _ (wire .before .before .before .before .before .pre) (wire .chosen .ensures)
 
 given : tie.Need-returns
 given c =
-    let read = c .before .before in
+    let wire = c .before .before in
+    let read = wire .before in
     let a = read .before .before .before .before .args in
     let table = a .table .now in
     y-done (a .program .now) (a .work .now) (a .bit) (a .made) (leftOf table (a .at)) (rightOf table (a .at)) _ _
-    (read .read-bit .ensures) (c .before .chosen .ensures)
+    (read .read-bit .ensures) (wire .chosen .ensures)
 
 pub run-y-spec : {M : Type 1} → statement M
-run-y-spec = tie.close (tie.spec (λ c κs. search needs) for-wire wire-made (λ c. search needs) (λ c. search needs) given)
+run-y-spec = tie.close (tie.spec (λ c κs. search needs) for-wire (λ c. search needs) wire-made (λ c. search needs) (λ c. search needs) given)

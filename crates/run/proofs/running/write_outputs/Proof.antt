@@ -24,35 +24,36 @@ unfolding listOf
 holds c = (omega arith, refl, refl)
 
 -- output wire j
-wire-read : (c : tie.After-wide2 Inv-loop μ-loop) → let at = c .before .before .before in
-    c .wide2 .result ≡ outputWireAt (at .before .before .before .before .before .before .before .before .args .table .now) (at .loop .j)
+wire-read : (c : tie.After-wire-of Inv-loop μ-loop) → let at = c .before .before .before in
+    c .wire-of .result .0 ≡ outputWireAt (at .before .before .before .before .before .before .before .before .args .table .now) (at .loop .j)
 wire-read c =
     let at = c .before .before .before in
     let placed = at .before .before .before in
     let table = placed .before .before .before .before .before .args .table .now in
-    c .wide2 .ensures .0 ∙ ap (λ n. getD table (n + at .loop .j) 0) (placed .row-place .ensures .0)
+    c .wire-of .ensures ∙ ap (λ n. getD table (n + at .loop .j) 0) (placed .row-place .ensures .0)
 
 wire-fits : tie.Need-shared-slice-read-result Inv-loop μ-loop
 wire-fits c =
-    let at = c .before .before .before .before in
+    let at = c .before .before .before .before .before in
     let s = at .before .before .before .before .before .before .before .before in
-    omega (arith, wire-read (c .before), s .pre .wellFormed .output (at .loop .j) (omega arith), s .pre .wires)
+    omega (arith, wire-read (c .before .before), s .pre .wellFormed .output (at .loop .j) (omega arith), s .pre .wires)
 
 place-fits : tie.Need-slice-write-result Inv-loop μ-loop
 place-fits c =
-    let s = c .before .before .before .before .before .before .before .before .before .before .before .before in
+    let at = c .before .before .before .before .before in
+    let s = at .before .before .before .before .before .before .before .before in
     omega (arith, s .pre .room)
 
 again : tie.Need-loop-again Inv-loop μ-loop
 again c =
-    let at = c .before .before .before .before in
+    let at = c .before .before .before .before .before in
     let s = at .before .before .before .before .before .before .before .before in
     let a = s .args in
     let loop = at .loop in
     let bit : ℕ → ℕ = λ k. getD (a .work .now) (outputWireAt (a .table .now) k) 0 in (
       omega arith,
       simp length-set (loop .inv .1),
-      ap (λ w. set (loop .result) (loop .j) (getD (a .work .now) w 0)) (wire-read (c .before))
+      ap (λ w. set (loop .result) (loop .j) (getD (a .work .now) w 0)) (wire-read (c .before .before))
           ∙ ap (λ l. set l (loop .j) (bit (loop .j))) (loop .inv .2)
           ∙ listOf-over (loop .j) bit (a .result .now) (omega (arith, s .pre .room)),
     )
@@ -68,4 +69,4 @@ write-outputs-spec =
     tie.close
     (tie.spec Inv-loop μ-loop
     (λ c. search needs) (λ c κs. search needs) (λ c. search needs) (λ c κs. search needs) holds (λ c. search needs) (λ c. search needs)
-    (λ c. search needs) (λ c κs. search needs) wire-fits place-fits (λ c. search needs) (λ c. search needs) again (λ c. search needs) all)
+    (λ c. search needs) (λ c κs. search needs) (λ c. search needs) wire-fits place-fits (λ c. search needs) (λ c. search needs) again (λ c. search needs) all)

@@ -24,31 +24,31 @@ unfolding firstOf
 holds c = (omega arith, refl)
 
 -- output wire j
-wire-read : (c : tie.After-wide2 Inv-loop μ-loop) → let at = c .before .before .before in
-    c .wide2 .result ≡ outputWireAt (at .before .before .before .before .before .before .args .table .now) (at .loop .j)
+wire-read : (c : tie.After-wire-of Inv-loop μ-loop) → let at = c .before .before .before in
+    c .wire-of .result .0 ≡ outputWireAt (at .before .before .before .before .before .before .args .table .now) (at .loop .j)
 wire-read c =
     let at = c .before .before .before in
     let placed = at .before .before .before in
     let table = placed .before .before .before .args .table .now in
-    c .wide2 .ensures .0 ∙ ap (λ n. getD table (n + at .loop .j) 0) (placed .row-place .ensures .0)
+    c .wire-of .ensures ∙ ap (λ n. getD table (n + at .loop .j) 0) (placed .row-place .ensures .0)
 
 unmade : tie.Need-returns Inv-loop μ-loop
 unfolding outputWireFault
 unmade c =
-    let at = c .before .before .before .before in
+    let at = c .before .before .before .before .before in
     let s = at .before .before .before .before .before .before in
     let table = s .args .table .now in
-    let l : wiresIn table ≤ outputWireAt table (at .loop .j) = omega (arith, wire-read (c .before), s .pre .1) in
+    let l : wiresIn table ≤ outputWireAt table (at .loop .j) = omega (arith, wire-read (c .before .before), s .pre .1) in
     let e = ap (λ t. unless t Fault.Fabric) (sym (le-ltb _ (wiresIn table) l)) in
     first-fails _ _ (at .loop .j) _ (omega arith) (at .loop .inv .1) e (omega arith)
 
 again : tie.Need-loop-again Inv-loop μ-loop
 unfolding outputWireFault
 again c =
-    let at = c .before .before .before .before in
+    let at = c .before .before .before .before .before in
     let s = at .before .before .before .before .before .before in
     let table = s .args .table .now in
-    let l : outputWireAt table (at .loop .j) < wiresIn table = omega (arith, wire-read (c .before), s .pre .1) in
+    let l : outputWireAt table (at .loop .j) < wiresIn table = omega (arith, wire-read (c .before .before), s .pre .1) in
     let e = ap (λ t. unless t Fault.Fabric) (lt-ltb _ (wiresIn table) l) in
     (omega arith, rw (add-one (at .loop .j)) (first-passes _ (at .loop .j) (at .loop .inv .1) e))
 
@@ -63,4 +63,5 @@ check-outputs-spec =
     tie.close
     (tie.spec Inv-loop μ-loop
     (λ c. search needs) (λ c κs. search needs) (λ c. search needs) (λ c κs. search needs) holds
-    (λ c. search needs) (λ c. search needs) (λ c. search needs) (λ c κs. search needs) unmade (λ c. search needs) (λ c. search needs) again all)
+    (λ c. search needs) (λ c. search needs) (λ c. search needs) (λ c κs. search needs) (λ c. search needs) unmade
+    (λ c. search needs) (λ c. search needs) again all)
