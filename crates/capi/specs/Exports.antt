@@ -1,5 +1,5 @@
 -- The exports' structs in document 01's numbers and values.
-use Rattle.fabric_rows.specs.FabricCalls.{CountOutcome}
+use Rattle.fabric_sizes.specs.Counting.{CountOutcome}
 use Rattle.capi.specs.declared.Counted.{Counted}
 use Rattle.reading.specs.PlanFile.{ReadOutcome}
 use Rattle.capi.specs.declared.Read.{Read}

@@ -11,7 +11,8 @@ ghost use Rattle.selection_rows.specs.WriteCalls.{selectionWrittenRows, selecti
 ghost use Rattle.wanted_checks.specs.Checks.{programFault, selectionProgramFault};
 ghost use Rattle.permutation_bits.specs.ProgramCalls.{programResult};
 ghost use Rattle.selection_bits.specs.ProgramCalls.{selectionProgramResult};
-ghost use Rattle.fabric_rows.specs.FabricCalls.{counting, fabricFault, fabricResult};
+ghost use Rattle.fabric_sizes.specs.Counting.{counting};
+ghost use Rattle.fabric_rows.specs.FabricCalls.{fabricFault, fabricResult};
 ghost use Rattle.fabric_bits.specs.ProgramCalls.{planProgramFault, planProgramResult};
 ghost use Rattle.run_checks.specs.RunFault.{runFault};
 ghost use Rattle.run.specs.RunCalls.{runWork, runResult};

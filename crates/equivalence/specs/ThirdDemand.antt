@@ -2,23 +2,22 @@
 -- from any entry buffers. "For every accepted plan, every input row and whatever the lent buffers held, the run of the fabric for the plan's three
 -- counts with the plan's program bits writes the outputs that plan evaluation writes, one by one. The fabric depends on the three counts alone.
 -- None of these calls refuses then."
-use mathlib.Core.Path.{_≡_, sym, ap, _∙_}
+use mathlib.Core.Path.{_≡_, sym, _∙_}
 use mathlib.Core.List.{List}
 use Prim.Native.Nat.{ℕ, _<_, _≤_}
-use native.Mathlib.Omega.{arith}
 use borrow.Author.Tests.{le-leb, eq-eqb}
 use lib.ListN.{length, getD, take, drop, List·getD-append}
 use Rattle.lists.specs.ListsLaws.{length-listOf}
-use Rattle.fault.specs.declared.Fault.{Fault}
 use Rattle.fault.specs.Checks.{roomFault}
 use Rattle.fault.specs.ChecksLaws.{unless-zero, and-then-zero, first-of-zero}
 use Rattle.plan.specs.declared.record.Plan.{Plan}
 use Rattle.plan.specs.Faults.{countsFault, planFault, Accepted}
 use Rattle.evaluation.specs.Evaluation.{contactFault, gateBit, planOutputs, evaluateFault, evaluateResult}
-use Rattle.universal.specs.Fabric.{fabricTable, fabricWires, planProgram}
-use Rattle.universal.specs.Tables.{inputsIn, outputsIn, wiresIn, bitsIn, runOutputs}
+use Rattle.universal.specs.Fabric.{planProgram}
+use Rattle.universal.specs.Tables.{runOutputs}
 use Rattle.universal.specs.FabricTableLaws.{fabric-inputs, fabric-outputs, fabric-wiresIn, fabric-well-formed, program-exact, fabric-runs}
-use Rattle.fabric_rows.specs.FabricCalls.{tableLength, fabricFault, fabricResult}
+use Rattle.fabric_sizes.specs.Counting.{tableLength}
+use Rattle.fabric_rows.specs.FabricCalls.{fabricFault, fabricResult}
 use Rattle.fabric_rows.specs.FabricWriteLaws.{fabric-succeeds, fabric-written-read}
 use Rattle.fabric_bits.specs.ProgramCalls.{programLength, planProgramFault, planProgramResult}
 use Rattle.fabric_bits.specs.PlanProgramLaws.{program-succeeds, programmed-read}

@@ -2,7 +2,6 @@
 -- outputs stand in `evaluated`, the fabric's in `ran`.
 use Prim.Native.Nat.{ℕ}
 use mathlib.Core.List.{List}
-use lib.ListN.{length}
 use Rattle.fault.specs.Checks.{andThen, roomFault}
 use Rattle.fault.specs.Buffers.{filled}
 use Rattle.plan.specs.declared.record.Plan.{Plan}
@@ -10,7 +9,7 @@ use Rattle.plan.specs.Faults.{planFault}
 use Rattle.evaluation.specs.Evaluation.{contactFault, gateBit, planOutputs}
 use Rattle.universal.specs.Fabric.{fabricTable, fabricWires, planProgram}
 use Rattle.universal.specs.Tables.{runWires, runOutputs}
-use Rattle.fabric_rows.specs.FabricCalls.{tableLength}
+use Rattle.fabric_sizes.specs.Counting.{tableLength}
 use Rattle.fabric_bits.specs.ProgramCalls.{programLength}
 
 module _ (p : Plan) where

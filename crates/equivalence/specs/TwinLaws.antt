@@ -1,7 +1,7 @@
 -- What holds where the checks pass, and that the two results are then equal.
-use mathlib.Core.Path.{_≡_, refl, sym, ap, ap₂, _∙_}
+use mathlib.Core.Path.{_≡_, refl, sym, ap₂, _∙_}
 use mathlib.Core.List.{List}
-use Prim.Native.Nat.{ℕ, _+_, _*_, _<_, _≤_}
+use Prim.Native.Nat.{ℕ, _<_}
 use native.Mathlib.Omega.{arith}
 use borrow.Author.Tests.{leb-true}
 use lib.ListN.{length, getD, take, drop, List·getD-append}
@@ -16,14 +16,10 @@ use Rattle.plan.specs.declared.record.Plan.{Plan}
 use Rattle.plan.specs.Faults.{Accepted}
 use Rattle.evaluation.specs.Evaluation.{contactFault, gateBit, planOutputs, evaluateResult}
 use Rattle.evaluation.specs.EvaluationLaws.{row-length, row-bit}
-use Rattle.networks.specs.Rows.{stride}
-use Rattle.networks.specs.Bits.{bytesFor}
 use Rattle.universal.specs.Fabric.{planProgram}
 use Rattle.universal.specs.Tables.{runWires, runOutputs}
 use Rattle.universal.specs.FabricTableLaws.{fabric-runs}
-use Rattle.fabric_rows.specs.FabricCalls.{countAnswer, countsOr, counting, fabricResult}
-use Rattle.fabric_rows.specs.declared.counting.CountAnswer.{CountAnswer}
-use Rattle.fabric_rows.specs.declared.counting.Counts.{Counts}
+use Rattle.fabric_rows.specs.FabricCalls.{fabricResult}
 use Rattle.fabric_rows.specs.FabricWriteLaws.{fabric-written-read}
 use Rattle.fabric_bits.specs.ProgramCalls.{programLength, planProgramResult}
 use Rattle.fabric_bits.specs.PlanProgramLaws.{programmed-read}
@@ -31,33 +27,13 @@ use Rattle.run_checks.specs.RunFault.{runFault}
 use Rattle.run.specs.RunCalls.{runWork, runResult}
 use Rattle.equivalence.specs.declared.twin.Lengths.{Lengths}
 use Rattle.equivalence.specs.TwinCalls.{tableOf, entriesOf, wiresOf, twinRoomFault, twinFault, twinEvaluated, twinRan}
-use Rattle.equivalence.specs.ThirdDemand.{counts-pass, ContactRow, Rooms, ThirdDemand, fabric-unrefused, third-demand}
+use Rattle.equivalence.specs.ThirdDemand.{ContactRow, Rooms, ThirdDemand, fabric-unrefused, third-demand}
 
 -- the stated lengths
 pub record LengthsAre (p : Plan) (l : Lengths) : Type 0 where
   pub table : l .table ≡ entriesOf p
   pub program : l .program ≡ programLength p
   pub work : l .work ≡ wiresOf p
-
--- counting does not refuse an accepted plan's counts
-counted-here : (p : Plan) → Accepted p → counting (p .inputs) (p .«gate_count») (p .«output_count»)
-    ≡ countsOr 0 (p .inputs) (p .«gate_count») (p .«output_count»)
-counted-here p a = ap (λ n. countsOr n (p .inputs) (p .«gate_count») (p .«output_count»)) (counts-pass p a)
-
-pub not-refused : (p : Plan) → Accepted p → (f : Fault) → countAnswer (CountAnswer.Refused f) ≡ counting (p .inputs) (p .«gate_count») (p .«output_count») → ⊥
-not-refused p a f e = absurd (omega (arith, ap (λ o. o .number) (e ∙ counted-here p a), number-positive f))
-
--- and gives the stated lengths
-pub lengths-are : (p : Plan) → Accepted p → (c : Counts) → countAnswer (CountAnswer.Counted c) ≡ counting (p .inputs) (p .«gate_count») (p .«output_count»)
-    → (place : ℕ) → place ≡ stride * c .rows
-    → LengthsAre p (record { table = 3 + place + p .«output_count»; program = bytesFor (c .bits); work = c .wires })
-lengths-are p a c e place at =
-    let same = e ∙ counted-here p a in
-    record {
-      table = ap (λ n. 3 + n + p .«output_count») (at ∙ ap (λ o. stride * o .rows) same);
-      program = ap (λ o. bytesFor (o .bits)) same;
-      work = ap (λ o. o .wires) same;
-    }
 
 -- what holds where no check fails
 pub record TwinPasses (p : Plan) (row : List ℕ) (table program work evaluated ran : ℕ) : Type 0 where

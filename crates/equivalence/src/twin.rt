@@ -5,21 +5,19 @@ ghost use Prim.Native.Nat.{_<_, _≤_};
 ghost use lib.ListN.{length, getD, take};
 ghost use Rattle.fault.specs.Number.{answerNumber};
 ghost use Rattle.fault.specs.Buffers.{over};
-ghost use Rattle.plan.specs.Faults.{Accepted};
 ghost use Rattle.evaluation.specs.Evaluation.{gateBit, planOutputs};
 ghost use Rattle.universal.specs.Fabric.{planProgram};
 ghost use Rattle.universal.specs.Tables.{runWires, runOutputs};
 ghost use Rattle.run.specs.RunCalls.{runWork, runResult};
 ghost use Rattle.equivalence.specs.TwinCalls.{tableOf, twinRoomFault, twinFault, twinTable, twinProgram, twinWork, twinEvaluated, twinRan};
 ghost use Rattle.equivalence.specs.TwinLaws.{LengthsAre, TwinPasses};
-use elements::HEADER;
-use elements::row_place;
 use evaluation::contact_fault;
 use evaluation::evaluate;
 use fabric_bits::program_plan;
-use fabric_rows::CountAnswer;
-use fabric_rows::count_fabric;
 use fabric_rows::write_fabric;
+use fabric_sizes::fabric_counts;
+use fabric_sizes::program_length;
+use fabric_sizes::table_length;
 use fault::Answer;
 use fault::Fault;
 use plan::Plan;
@@ -98,7 +96,6 @@ fn check_rooms(
     evaluated: usize,
     ran: usize,
 ) -> Answer
-    requires { ⌜ Accepted plan ⌝ }
     ensures { λ r. ⌜ answerNumber r ≡ twinRoomFault plan table program work evaluated ran ⌝ }
 {
     let lengths = lengths_of(plan);
@@ -121,26 +118,15 @@ fn check_rooms(
     Answer::Done
 }
 
-// The stated lengths, from the fabric's counts.
+// The stated lengths, by the plan's counts.
 fn lengths_of(plan: Plan) -> Lengths
-    requires { ⌜ Accepted plan ⌝ }
     ensures { λ r. ⌜ LengthsAre plan r ⌝ }
 {
-    match count_fabric(
-        plan.inputs as u32,
-        plan.gate_count as u32,
-        plan.output_count as u32,
-    ) {
-        CountAnswer::Refused(_) => Lengths {
-            table: 0,
-            program: 0,
-            work: 0,
-        },
-        CountAnswer::Counted(c) => Lengths {
-            table: HEADER + row_place(c.rows) + plan.output_count as usize,
-            program: (c.bits as usize + 7) / 8,
-            work: c.wires as usize,
-        },
+    let counts = fabric_counts(plan.inputs, plan.gate_count, plan.output_count);
+    Lengths {
+        table: table_length(plan.inputs, plan.gate_count, plan.output_count),
+        program: program_length(plan.inputs, plan.gate_count, plan.output_count),
+        work: counts.wires as usize,
     }
 }
 

@@ -1,8 +1,8 @@
 // The contact fabric: counting, its table for three counts, a plan's program bits, and the run of any table with any program. Every call takes all inputs, refuses by
 // document 01's numbers in its order, and on a refusal changes no buffer.
 pub use fabric_bits::program_plan;
-pub use fabric_rows::CountAnswer;
-pub use fabric_rows::Counts;
-pub use fabric_rows::count_fabric;
 pub use fabric_rows::write_fabric;
+pub use fabric_sizes::CountAnswer;
+pub use fabric_sizes::Counts;
+pub use fabric_sizes::count_fabric;
 pub use run::run;

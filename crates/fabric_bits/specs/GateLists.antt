@@ -20,9 +20,9 @@ use Rattle.universal.specs.Fabric.{gateLevel, planGates, wantedInput}
 abbrev pub maxPins : ℕ
 maxPins = operands * maxGates
 
--- the logarithm of the most gates
-abbrev pub maxGateLevel : ℕ
-maxGateLevel = 8
+-- no plan's program has so many bits
+abbrev pub bitLimit : ℕ
+bitLimit = 65536
 
 -- the gates of which the lists have the operands, pin by pin, and the tables; their wires follow `before` others
 abbrev pub gatesIn : ℕ → List ℕ → List ℕ → Gates
@@ -60,17 +60,6 @@ gatesProgram u k pins tables =
 
 -- ---- what fits
 
--- the gates of U at a level
-pub record PlacesIs (level places : ℕ) : Type 0 where
-  pub isPlaces : places ≡ 2 ^ level
-  pub some : 1 ≤ places
-  pub most : places ≤ maxGates
-
--- its bits
-pub record TakesIs (level takes : ℕ) : Type 0 where
-  pub isTakes : takes ≡ universalTakes selection level
-  pub few : takes ≤ 19711
-
 -- two halves of h gates each from `base` on, in lists of so many entries
 pub record BetweenRoom (before base h pins wanted : ℕ) : Type 0 where
   pub inputs : before ≤ maxInputs
@@ -81,24 +70,24 @@ pub record BetweenRoom (before base h pins wanted : ℕ) : Type 0 where
 
 -- their bits, in a program of so many bytes
 pub record BetweenFits (h start room : ℕ) : Type 0 where
-  pub few : start + selectionCount h (operands * h) + operands * h ≤ 65536
+  pub few : start + selectionCount h (operands * h) + operands * h ≤ bitLimit
   pub fits : start + selectionCount h (operands * h) + operands * h ≤ 8 * room
 
--- U at a level for the gates from `base` on, in lists of so many entries
-pub record UniversalRoom (level base before pins tables wanted start room : ℕ) : Type 0 where
-  pub small : level ≤ maxGateLevel
+-- U for so many gates, a power of two, from `base` on, in lists of so many entries
+pub record UniversalRoom (gates base before pins tables wanted start room : ℕ) : Type 0 where
+  pub power : gates ≡ 2 ^ gateLevel gates
   pub inputs : before ≤ maxInputs
-  pub gates : base + 2 ^ level ≤ maxGates
+  pub all : base + gates ≤ maxGates
   pub pinRoom : pins ≡ maxPins
   pub tableRoom : tables ≡ maxGates
   pub wantedRoom : wanted ≡ maxPins
-  pub few : start + universalTakes selection level ≤ 65536
-  pub fits : start + universalTakes selection level ≤ 8 * room
+  pub few : start + universalTakes selection (gateLevel gates) ≤ bitLimit
+  pub fits : start + universalTakes selection (gateLevel gates) ≤ 8 * room
 
 -- S(u, 2K) and U(K) for the gates that lists give
 pub record GatesRoom (u k : ℕ) (pins tables : List ℕ) (wanted room : ℕ) : Type 0 where
   pub inputs : SelectionPasses u (pinCount (gateLevel k)) (inputsWanted u pins (pinCount (gateLevel k))) 0 room
-  pub gates : UniversalRoom (gateLevel k) 0 u (length pins) (length tables) wanted (selectionCount u (pinCount (gateLevel k))) room
+  pub gates : UniversalRoom (2 ^ gateLevel k) 0 u (length pins) (length tables) wanted (selectionCount u (pinCount (gateLevel k))) room
 
 -- the lists of a plan's gates, spare ones included
 pub record Loaded (p : Plan) (pins tables : List ℕ) : Type 0 where

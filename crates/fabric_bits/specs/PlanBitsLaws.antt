@@ -5,12 +5,12 @@ use mathlib.Core.List.{List, _++_, append-assoc}
 use Prim.Native.Nat.{ℕ, _+_, _*_, _^_, _≤_, _<_}
 use native.Mathlib.Omega.{arith}
 use lib.ListN.{length, getD, take, length-append}
-use lib.Pow.{pow-mono, pow-pos}
+use lib.Pow.{pow-pos}
 use Rattle.lists.specs.ListsLaws.{length-listOf, getD-listOf, listOf-ext}
 use Rattle.plan.specs.declared.record.Plan.{Plan}
 use Rattle.plan.specs.Record.{maxGates}
 use Rattle.plan.specs.Faults.{Accepted}
-use Rattle.plan.specs.FaultsLaws.{CountsWithin, accepted-counts}
+use Rattle.plan.specs.FaultsLaws.{accepted-counts}
 use Rattle.networks.specs.Bits.{storeBits}
 use Rattle.networks.specs.BitsLaws.{storeBits-append}
 use Rattle.networks.specs.Selection.{selectionCount, selectionBits}
@@ -21,27 +21,13 @@ use Rattle.universal.specs.SelectorLaws.{selection-shape}
 use Rattle.universal.specs.Universal.{universalTakes, universalBits}
 use Rattle.universal.specs.UniversalLaws.{length-universalBits}
 use Rattle.universal.specs.Fabric.{gateLevel, fabricTakes, planGates, wantedInput, wantedInputs, wantedOutputs, planBits}
-use Rattle.universal.specs.FabricLaws.{levels-within, fabric-within}
+use Rattle.universal.specs.FabricLaws.{fabric-within}
 use Rattle.universal.specs.FabricRun.{inputs-selected, outputs-selected}
-use Rattle.fabric_bits.specs.GateLists.{maxPins, gatesIn, inputsWanted, gatesProgram, PlacesIs, TakesIs, UniversalRoom, GatesRoom, Loaded}
+use Rattle.fabric_sizes.specs.PartsLaws.{few-places, same-level}
+use Rattle.fabric_bits.specs.GateLists.{maxPins, gatesIn, inputsWanted, gatesProgram, UniversalRoom, GatesRoom, Loaded}
 use Rattle.fabric_bits.specs.UniversalBitsLaws.{SameGates, universal-same}
 
 -- ---- how many bits
-
--- the bits of S(u, 2K), U(K) and S(K, v), as they are counted
-pub record Counted (u k v inputs gates outputs : ℕ) : Type 0 where
-  pub whole : inputs + gates + outputs ≡ fabricTakes u k v
-  pub few : inputs + gates + outputs ≤ 32257
-
-pub counted : {u k v level places inputs gates outputs : ℕ} → CountsWithin u k v → level ≡ gateLevel k → PlacesIs level places
-    → inputs ≡ selectionCount u (2 * places) → TakesIs level gates → outputs ≡ selectionCount places v → Counted u k v inputs gates outputs
-unfolding fabricTakes
-counted {u} {k} {v} {level} c el P ei T eo =
-    let isPlaces = P .isPlaces ∙ ap (λ n. 2 ^ n) el in
-    let i = ei ∙ ap (λ n. selectionCount u (2 * n)) isPlaces in
-    let g = T .isTakes ∙ ap (universalTakes selection) el in
-    let o = eo ∙ ap (λ n. selectionCount n v) isPlaces in
-    record { whole = omega arith; few = omega (arith, fabric-within u k v c .bits) }
 
 pub length-gates : (u k : ℕ) (pins tables : List ℕ)
     → length (gatesProgram u k pins tables) ≡ selectionCount u (pinCount (gateLevel k)) + universalTakes selection (gateLevel k)
@@ -55,17 +41,19 @@ length-gates u k pins tables =
 -- ---- S(u, 2K), then U(K)
 
 -- what U(K) is lent after S(u, 2K)'s bits are stored
-pub room-behind : {level base before pins tables wanted start room level′ wanted′ start′ room′ : ℕ}
-    → UniversalRoom level base before pins tables wanted start room → level′ ≡ level → wanted′ ≡ wanted → start′ ≡ start → room′ ≡ room
-    → UniversalRoom level′ base before pins tables wanted′ start′ room′
+pub room-behind : {gates base before pins tables wanted start room gates′ wanted′ start′ room′ : ℕ}
+    → UniversalRoom gates base before pins tables wanted start room → gates′ ≡ gates → wanted′ ≡ wanted → start′ ≡ start → room′ ≡ room
+    → UniversalRoom gates′ base before pins tables wanted′ start′ room′
 room-behind R el ew es er = rw (el, ew, es, er) R
 
-pub gates-stored : (u k : ℕ) (pins tables s₀ : List ℕ) {level count next : ℕ} {s₁ s₂ : List ℕ} → level ≡ gateLevel k → count ≡ pinCount (gateLevel k)
+pub gates-stored : (u k : ℕ) (pins tables s₀ : List ℕ) {places count next : ℕ} {s₁ s₂ : List ℕ} → places ≡ 2 ^ gateLevel k → count ≡ 2 * places
     → s₁ ≡ storeBits s₀ 0 (selectionBits u count (inputsWanted u pins count)) → next ≡ selectionCount u count
-    → s₂ ≡ storeBits s₁ next (universalBits selection (gatesIn u pins tables) level 0) → s₂ ≡ storeBits s₀ 0 (gatesProgram u k pins tables)
+    → s₂ ≡ storeBits s₁ next (universalBits selection (gatesIn u pins tables) (gateLevel places) 0) → s₂ ≡ storeBits s₀ 0 (gatesProgram u k pins tables)
 unfolding gatesProgram
-gates-stored u k pins tables s₀ {level} {count} {next} {s₁} {s₂} el ec e₁ en e₂ =
+gates-stored u k pins tables s₀ {places} {count} {next} {s₁} {s₂} ep two e₁ en e₂ =
     let n : ℕ = gateLevel k in
+    let el : gateLevel places ≡ n = ap gateLevel ep ∙ same-level k in
+    let ec : count ≡ pinCount n = two ∙ ap (λ m. 2 * m) ep in
     let I = selectionBits u (pinCount n) (inputsWanted u pins (pinCount n)) in
     let G = universalBits selection (gatesIn u pins tables) n 0 in
     let first : s₁ ≡ storeBits s₀ 0 I = e₁ ∙ ap (λ c. storeBits s₀ 0 (selectionBits u c (inputsWanted u pins c))) ec in
@@ -88,7 +76,7 @@ module _ (p : Plan) {pins tables : List ℕ} (L : Loaded p pins tables) where
 
   module _ (accepted : Accepted p) where
     few-gates : 2 ^ gateLevel (p .«gate_count») ≤ maxGates
-    few-gates = pow-mono (levels-within _ _ _ (accepted-counts p accepted) .gates)
+    few-gates = few-places (p .«gate_count») (accepted-counts p accepted .gates)
 
     loaded-wanted : inputsWanted (p .inputs) pins (pinCount (gateLevel (p .«gate_count»))) ≡ wantedInputs p
     unfolding inputsWanted wantedInputs
@@ -114,6 +102,8 @@ module _ (p : Plan) {pins tables : List ℕ} (L : Loaded p pins tables) where
         let c = accepted-counts p accepted in
         let few = fabric-within _ _ _ c .bits in
         let some = pow-pos n in
+        let same = same-level (p .«gate_count») in
+        let takes = ap (universalTakes selection) same in
         record {
           inputs = record {
             sides = record { someInputs = c .someInputs; inputs = omega (arith, c .inputs); someOutputs = omega arith; outputs = omega (arith, few-gates) };
@@ -121,14 +111,14 @@ module _ (p : Plan) {pins tables : List ℕ} (L : Loaded p pins tables) where
             fits = omega arith;
           };
           gates = record {
-            small = levels-within _ _ _ c .gates;
+            power = ap (λ m. 2 ^ m) (sym same);
             inputs = c .inputs;
-            gates = omega (arith, few-gates);
+            all = omega (arith, few-gates);
             pinRoom = ap length (L .operandsAre) ∙ length-listOf maxPins _;
             tableRoom = ap length (L .tablesAre) ∙ length-listOf maxGates _;
             wantedRoom = ew;
-            few = omega arith;
-            fits = omega arith;
+            few = omega (arith, takes);
+            fits = omega (arith, takes);
           };
         }
 
@@ -162,7 +152,7 @@ pub outputs-pass : (p : Plan) → Accepted p → (wanted : List ℕ) {m start ro
 outputs-pass p accepted wanted em ew fits =
     let n : ℕ = gateLevel (p .«gate_count») in
     let c = accepted-counts p accepted in
-    let few : 2 ^ n ≤ maxGates = pow-mono (levels-within _ _ _ c .gates) in
+    let few = few-places (p .«gate_count») (c .gates) in
     rw (em, ew) (record {
       sides = record { someInputs = pow-pos n; inputs = omega arith; someOutputs = c .someOutputs; outputs = omega (arith, c .outputs) };
       selected = outputs-selected p accepted;

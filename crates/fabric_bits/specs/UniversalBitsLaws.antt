@@ -1,13 +1,10 @@
--- U's bits by its levels: how many they are, that what the halves and the part between them store is U's, and that they depend on the operands and
+-- U's bits by its halves: how many they are, that what the halves and the part between them store is U's, and that they depend on the operands and
 -- tables of U's own gates alone.
 use mathlib.Core.Path.{_≡_, refl, sym, ap, ap₂, _∙_}
 use mathlib.Core.List.{List, _++_, append-assoc}
 use Prim.Native.Nat.{ℕ, zero, suc, _+_, _-_, _*_, _^_, _≤_, _<_}
-use native.Mathlib.Nat.{not-suc-le-zero, mul-le-mul}
-use native.Mathlib.Numerals.{sub-one}
 use native.Mathlib.Omega.{arith}
 use lib.ListN.{length, take, length-append}
-use lib.Pow.{pow-mono, pow-pos}
 use Rattle.lists.specs.ListsLaws.{listOf-ext}
 use Rattle.plan.specs.Record.{maxGates}
 use Rattle.networks.specs.Rows.{operands}
@@ -22,63 +19,36 @@ use Rattle.elements.specs.ChecksLaws.{stored-done}
 use Rattle.universal.specs.Selector.{pinCount, selection}
 use Rattle.universal.specs.SelectorLaws.{double, selection-shape}
 use Rattle.universal.specs.Universal.{Gates, universalTakes, tableProgram, isOf, wantedGate, wantedGates, mixBits, universalBits}
-use Rattle.universal.specs.UniversalLaws.{universal-takes, universal-count, length-universalBits}
+use Rattle.universal.specs.UniversalLaws.{length-universalBits}
 use Rattle.universal.specs.UniversalProgram.{wanted-selected, length-mixBits}
-use Rattle.fabric_bits.specs.GateLists.{maxGateLevel, gatesIn, pinsIn, isAmong, wantedAmong, betweenBits, PlacesIs, TakesIs, BetweenRoom, BetweenFits, UniversalRoom}
+use Rattle.universal.specs.Fabric.{gateLevel}
+use Rattle.fabric_sizes.specs.PartsLaws.{one-gate, Halved}
+use Rattle.fabric_bits.specs.GateLists.{gatesIn, pinsIn, isAmong, wantedAmong, betweenBits, BetweenRoom, BetweenFits, UniversalRoom}
 use Rattle.fabric_bits.specs.GateListsLaws.{among-gates, wanted-among}
 
--- ---- counts
+-- ---- U by its halves
 
-pub places-are : (level : ℕ) {places : ℕ} → level ≤ maxGateLevel → places ≡ 2 ^ level → PlacesIs level places
-places-are level few e = record { isPlaces = e; some = rw e (pow-pos level); most = rw e (pow-mono few) }
+-- what its parts are lent
+module _ {gates base before pins tables wanted start room half : ℕ} (R : UniversalRoom gates base before pins tables wanted start room)
+    (H : Halved gates half) where
+  abbrev n : ℕ
+  n = gateLevel half
 
--- what the count of U's bits is made of
-pub record TakesParts (level places : ℕ) : Type 0 where
-  pub square : level * level ≤ 64
-  pub product : places * (level * level + level) ≤ 18432
-  pub all : TakesIs level (places * (level * level + level) + 2 * places - 1 + 3 * places)
-
-pub takes-parts : (level : ℕ) {places : ℕ} → level ≤ maxGateLevel → PlacesIs level places → TakesParts level places
-takes-parts level {places} few P =
-    let square : level * level ≤ 8 * 8 = mul-le-mul few few in
-    let both : level * level + level ≤ 72 = omega arith in
-    let product : places * (level * level + level) ≤ 256 * 72 = mul-le-mul (P .most) both in
-    let rows : places * (level * level + level) ≡ 2 ^ level * (level * level + level) = ap (λ k. k * (level * level + level)) (P .isPlaces) in
-    record {
-      square = square;
-      product = product;
-      all = record { isTakes = omega (arith, universal-takes selection level, universal-count level, P .isPlaces, P .some); few = omega (arith, P .most) };
-    }
-
--- a level above 0 by its halves
-pub record Halving (level : ℕ) : Type 0 where
-  pub double : 2 ^ level ≡ 2 * 2 ^ (level - 1)
-  pub takes : universalTakes selection level
-      ≡ universalTakes selection (level - 1) + (selectionCount (2 ^ (level - 1)) (pinCount (level - 1)) + (pinCount (level - 1) + universalTakes selection (level - 1)))
-
-pub halving : (level : ℕ) → 0 < level → Halving level
-unfolding universalTakes
-halving zero l = absurd (not-suc-le-zero l)
-halving (suc n) l = record { double = rw (sub-one (suc n)) (double n); takes = rw (sub-one (suc n)) refl }
-
--- what the parts of such a level are lent
-module _ {level base before pins tables wanted start room half : ℕ} (R : UniversalRoom level base before pins tables wanted start room) (l : 0 < level)
-    (P : PlacesIs (level - 1) half) where
-  takes-half : universalTakes selection level
-      ≡ universalTakes selection (level - 1) + (selectionCount half (operands * half) + (operands * half + universalTakes selection (level - 1)))
+  takes-half : universalTakes selection (gateLevel gates)
+      ≡ universalTakes selection n + (selectionCount half (operands * half) + (operands * half + universalTakes selection n))
+  unfolding universalTakes
   takes-half =
-      halving level l .takes
-      ∙ ap (λ h. universalTakes selection (level - 1) + (selectionCount h (operands * h) + (operands * h + universalTakes selection (level - 1))))
-      (sym (P .isPlaces))
+      rw (H .level)
+      (ap (λ h. universalTakes selection n + (selectionCount h (operands * h) + (operands * h + universalTakes selection n))) (sym (H .power)))
 
   all-gates : base + (half + half) ≤ maxGates
-  all-gates = omega (arith, halving level l .double, P .isPlaces, R .gates)
+  all-gates = omega (arith, H .twice, R .all)
 
-  pub upper-room : UniversalRoom (level - 1) base before pins tables wanted start room
+  pub upper-room : UniversalRoom half base before pins tables wanted start room
   upper-room = record {
-    small = omega (arith, R .small);
+    power = H .power;
     inputs = R .inputs;
-    gates = omega (arith, all-gates, P .isPlaces);
+    all = omega (arith, all-gates);
     pinRoom = R .pinRoom;
     tableRoom = R .tableRoom;
     wantedRoom = R .wantedRoom;
@@ -89,21 +59,21 @@ module _ {level base before pins tables wanted start room half : ℕ} (R : Unive
   pub between-room : {w : ℕ} → w ≡ wanted → BetweenRoom before base half pins w
   between-room e = record {
     inputs = R .inputs;
-    some = P .some;
+    some = H .some;
     gates = omega (arith, all-gates);
     pinRoom = R .pinRoom;
     wantedRoom = omega (arith, all-gates, R .wantedRoom);
   }
 
-  pub between-fits : {between r : ℕ} → between ≡ start + universalTakes selection (level - 1) → r ≡ room → BetweenFits half between r
+  pub between-fits : {between r : ℕ} → between ≡ start + universalTakes selection n → r ≡ room → BetweenFits half between r
   between-fits eb er = record { few = omega (arith, takes-half, R .few); fits = omega (arith, takes-half, R .fits) }
 
-  pub lower-room : {lower w r : ℕ} → lower ≡ start + universalTakes selection (level - 1) + (selectionCount half (operands * half) + operands * half)
-      → w ≡ wanted → r ≡ room → UniversalRoom (level - 1) (base + half) before pins tables w lower r
+  pub lower-room : {lower w r : ℕ} → lower ≡ start + universalTakes selection n + (selectionCount half (operands * half) + operands * half)
+      → w ≡ wanted → r ≡ room → UniversalRoom half (base + half) before pins tables w lower r
   lower-room el ew er = record {
-    small = omega (arith, R .small);
+    power = H .power;
     inputs = R .inputs;
-    gates = omega (arith, all-gates, P .isPlaces);
+    all = omega (arith, all-gates);
     pinRoom = R .pinRoom;
     tableRoom = R .tableRoom;
     wantedRoom = ew ∙ R .wantedRoom;
@@ -155,11 +125,10 @@ between-pins before pins tables base h = refl
 -- ---- the whole
 
 -- U(1)
-pub gate-stored : (G : Gates) (level base start : ℕ) (s₀ : List ℕ) → level ≤ 0
-    → storeBits s₀ start (tableProgram (G .table base)) ≡ storeBits s₀ start (universalBits selection G level base)
+pub gate-stored : (G : Gates) (gates base start : ℕ) (s₀ : List ℕ) → gates ≤ 1
+    → storeBits s₀ start (tableProgram (G .table base)) ≡ storeBits s₀ start (universalBits selection G (gateLevel gates) base)
 unfolding universalBits
-gate-stored G zero base start s₀ l = refl
-gate-stored G (suc n) base start s₀ l = absurd (not-suc-le-zero l)
+gate-stored G gates base start s₀ l = rw (one-gate l)
 
 -- the upper half, the part between, the lower half
 halves-at : (G : Gates) (n base start : ℕ) (s₀ : List ℕ) {h between lower : ℕ} {s₁ s₂ s₃ : List ℕ} → h ≡ 2 ^ n
@@ -182,14 +151,14 @@ halves-at G n base start s₀ {h} {between} {lower} {s₁} {s₂} {s₃} eh e₁
     ∙ sym (storeBits-append s₀ start U (B ++ L))
     ∙ ap (λ t. storeBits s₀ start (U ++ t)) (append-assoc (selectionBits (2 ^ n) (pinCount n) (wantedGates G base (2 ^ n))) (mixBits G base (2 ^ n)) L)
 
-pub halves-stored : (G : Gates) (level base start : ℕ) (s₀ : List ℕ) {h between lower : ℕ} {s₁ s₂ s₃ : List ℕ} → 0 < level → h ≡ 2 ^ (level - 1)
-    → s₁ ≡ storeBits s₀ start (universalBits selection G (level - 1) base)
-    → between ≡ start + universalTakes selection (level - 1) → s₂ ≡ storeBits s₁ between (betweenBits G base h)
-    → lower ≡ between + length (betweenBits G base h) → s₃ ≡ storeBits s₂ lower (universalBits selection G (level - 1) (base + h))
-    → s₃ ≡ storeBits s₀ start (universalBits selection G level base)
-halves-stored G level base start s₀ l eh e₁ eb e₂ el e₃ =
-    let whole : suc (level - 1) ≡ level = omega arith in
-    halves-at G (level - 1) base start s₀ eh e₁ eb e₂ el e₃ ∙ ap (λ n. storeBits s₀ start (universalBits selection G n base)) whole
+pub halves-stored : (G : Gates) (gates base start : ℕ) (s₀ : List ℕ) {h between lower : ℕ} {s₁ s₂ s₃ : List ℕ} → Halved gates h
+    → s₁ ≡ storeBits s₀ start (universalBits selection G (gateLevel h) base)
+    → between ≡ start + universalTakes selection (gateLevel h) → s₂ ≡ storeBits s₁ between (betweenBits G base h)
+    → lower ≡ between + length (betweenBits G base h) → s₃ ≡ storeBits s₂ lower (universalBits selection G (gateLevel h) (base + h))
+    → s₃ ≡ storeBits s₀ start (universalBits selection G (gateLevel gates) base)
+halves-stored G gates base start s₀ {h} H e₁ eb e₂ el e₃ =
+    halves-at G (gateLevel h) base start s₀ (H .power) e₁ eb e₂ el e₃
+    ∙ ap (λ n. storeBits s₀ start (universalBits selection G n base)) (sym (H .level))
 
 -- ---- gates past U's own never matter
 

@@ -1,24 +1,26 @@
 // U's programming: by halves, with the selection block's bits and the Y rows' between them. Nothing is held inside the recursion.
 ghost use mathlib.Core.Path.{_≡_};
-ghost use Prim.Native.Nat.{_+_, _*_, _^_, _<_, _≤_};
+ghost use Prim.Native.Nat.{_+_, _*_, _^_, _<_};
 ghost use lib.ListN.{length, take};
 ghost use Rattle.networks.specs.Bits.{storeBits};
 ghost use Rattle.networks.specs.Selection.{selectionBits};
 ghost use Rattle.selection_bits.specs.SelectionProgramLaws.{SelectionPasses};
 ghost use Rattle.universal.specs.Selector.{selection};
 ghost use Rattle.universal.specs.Universal.{tableProgram, mixBits, universalBits};
-ghost use Rattle.fabric_bits.specs.GateLists.{maxGateLevel, gatesIn, pinsIn, betweenBits, BetweenRoom, BetweenFits, UniversalRoom, TakesIs, PlacesIs};
+ghost use Rattle.universal.specs.Fabric.{gateLevel};
+ghost use Rattle.fabric_bits.specs.GateLists.{gatesIn, pinsIn, betweenBits, BetweenRoom, BetweenFits, UniversalRoom};
 use crate::gates::choice_bit;
 use crate::gates::list_gates;
 use elements::store_bit;
+use fabric_sizes::universal_counts;
 use plan::PlanWire;
 use selection_bits::program_selection_at;
 use sizes::selection_count;
 
-// The bits of U at a level for the gates from `base` on, stored from bit `start` on. The lists give the operands and tables of all gates,
+// The bits of U for so many gates, a power of two, from `base` on, stored from bit `start` on. The lists give the operands and tables of all gates,
 // whose wires follow `before` others; `wanted` is room to work in.
 pub(crate) fn program_universal(
-    level: u32,
+    gates: u16,
     base: usize,
     before: usize,
     pins: &[u16],
@@ -27,26 +29,19 @@ pub(crate) fn program_universal(
     program: &mut [u8],
     start: usize,
 )
-    requires { ⌜ UniversalRoom level base before (length (now pins)) (length (now tables)) (length (now wanted)) start (length (now program)) ⌝ }
-    ensures { λ _. ⌜ now (program .exit) ≡ storeBits (now (program .entry)) start (universalBits selection (gatesIn before (now (pins .entry)) (now (tables .entry))) level base) ⌝ }
+    requires { ⌜ UniversalRoom gates base before (length (now pins)) (length (now tables)) (length (now wanted)) start (length (now program)) ⌝ }
+    ensures { λ _. ⌜ now (program .exit) ≡ storeBits (now (program .entry)) start (universalBits selection (gatesIn before (now (pins .entry)) (now (tables .entry))) (gateLevel gates) base) ⌝ }
 {
-    if 0 < level {
-        let half = places_at(level - 1);
-        let between = start + universal_takes(level - 1);
+    if 1 < gates {
+        let half = gates / 2;
+        let below = half as usize;
+        let upper = universal_counts(half);
+        let between = start + upper.bits as usize;
+        program_universal(half, base, before, pins, tables, wanted, program, start);
+        let lower = program_between(before, base, below, pins, wanted, program, between);
         program_universal(
-            level - 1,
-            base,
-            before,
-            pins,
-            tables,
-            wanted,
-            program,
-            start,
-        );
-        let lower = program_between(before, base, half, pins, wanted, program, between);
-        program_universal(
-            level - 1,
-            base + half,
+            half,
+            base + below,
             before,
             pins,
             tables,
@@ -122,22 +117,4 @@ fn store_table(table: u8, program: &mut [u8], start: usize)
         store_bit(program, start + i, (table >> i) & 1);
         i += 1;
     }
-}
-
-// The gates of U at a level.
-pub(crate) fn places_at(level: u32) -> usize
-    requires { ⌜ level ≤ maxGateLevel ⌝ }
-    ensures { λ r. ⌜ PlacesIs level r ⌝ }
-{
-    1usize << level
-}
-
-// The bits of U at a level: K(n² + n) + 2K - 1 for its rows, one each, and three more for each of its K gates.
-pub(crate) fn universal_takes(level: u32) -> usize
-    requires { ⌜ level ≤ maxGateLevel ⌝ }
-    ensures { λ r. ⌜ TakesIs level r ⌝ }
-{
-    let places = places_at(level);
-    let n = level as usize;
-    places * (n * n + n) + 2 * places - 1 + 3 * places
 }

@@ -11,19 +11,18 @@ ghost use Rattle.selection_bits.specs.SelectionProgramLaws.{SelectionPasses};
 ghost use Rattle.universal.specs.Fabric.{gateLevel, fabricTakes, wantedOutputs, planBits};
 ghost use Rattle.fabric_bits.specs.ProgramCalls.{planProgramFault, planProgramResult};
 ghost use Rattle.fabric_bits.specs.GateLists.{maxPins, inputsWanted, gatesProgram, GatesRoom};
-use crate::block::places_at;
 use crate::block::program_universal;
 use crate::block::store_selection;
-use crate::block::universal_takes;
 use crate::checks::check_program;
-use crate::checks::program_length;
 use crate::gates::list_inputs;
 use crate::gates::list_outputs;
 use crate::gates::load_gates;
 use elements::fill_bytes;
+use fabric_sizes::gate_places;
+use fabric_sizes::program_length;
+use fabric_sizes::universal_counts;
 use fault::Answer;
 use plan::Plan;
-use powers::ceil_log;
 use sizes::selection_count;
 
 // The pins of the largest fabric, two for each gate.
@@ -37,11 +36,7 @@ pub fn program_plan(plan: Plan, program: &mut [u8]) -> Answer
     match check_program(plan, program.len()) {
         Answer::Refused(f) => Answer::Refused(f),
         Answer::Done => {
-            let length = program_length(
-                plan.inputs as u32,
-                plan.gate_count as u32,
-                plan.output_count as u32,
-            );
+            let length = program_length(plan.inputs, plan.gate_count, plan.output_count);
             fill_bytes(program, length, 0);
             store_plan(plan, program);
             Answer::Done
@@ -83,10 +78,11 @@ fn store_gates(
     ensures behind { λ r. ⌜ r ≡ length (gatesProgram inputs gates (now (pins .entry)) (now (tables .entry))) ⌝ }
     ensures stored { λ _. ⌜ now (program .exit) ≡ storeBits (now (program .entry)) 0 (gatesProgram inputs gates (now (pins .entry)) (now (tables .entry))) ⌝ }
 {
-    let level = ceil_log(gates as u32);
-    let next = store_inputs(inputs, 2 * places_at(level), pins, wanted, program);
+    let places = gate_places(gates);
+    let universal = universal_counts(gates);
+    let next = store_inputs(inputs, 2 * places as usize, pins, wanted, program);
     program_universal(
-        level,
+        places as u16,
         0,
         inputs as usize,
         pins,
@@ -95,7 +91,7 @@ fn store_gates(
         program,
         next,
     );
-    next + universal_takes(level)
+    next + universal.bits as usize
 }
 
 // The bits of S(u, 2K) for the inputs that the pins want, stored from bit 0 on. Gives the bit behind them.
@@ -124,6 +120,6 @@ fn store_outputs(plan: Plan, wanted: &mut [u16], program: &mut [u8], start: usiz
     ensures { λ _. ⌜ now (program .exit) ≡ storeBits (now (program .entry)) start (selectionBits (2 ^ gateLevel (plan .«gate_count»)) (plan .«output_count») (wantedOutputs plan)) ⌝ }
 {
     list_outputs(plan, wanted);
-    let places = places_at(ceil_log(plan.gate_count as u32));
+    let places = gate_places(plan.gate_count) as usize;
     store_selection(places, plan.output_count as usize, wanted, program, start);
 }

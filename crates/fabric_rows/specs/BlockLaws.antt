@@ -1,16 +1,15 @@
--- The rows and wires that the parts of one level of U write, as their definitions have them.
+-- The rows and wires that the parts of U write, as their definitions have them.
 use mathlib.Core.Path.{_≡_, refl, sym, ap, ap₂, _∙_}
 use mathlib.Core.List.{List, [], _∷_}
-use Prim.Native.Nat.{ℕ, zero, suc, _+_, _-_, _*_, _%_, _^_, _<_, _≤_}
+use Prim.Native.Nat.{ℕ, _+_, _-_, _*_, _%_, _^_, _<_, _≤_}
 use native.Mathlib.Nat.{not-suc-le-zero}
-use native.Mathlib.Numerals.{sub-one}
 use native.Mathlib.Omega.{arith}
-use lib.ListN.{length, getD, set, take, List·getD-append}
-use lib.Seq.{getD-take}
-use Rattle.lists.specs.ListsLaws.{listOf-ext}
+use borrow.Rule.Slice.PartMut.{mid-len}
+use lib.ListN.{length, getD, set, take, drop, length-drop, List·getD-append}
+use lib.Seq.{take-all, getD-take, getD-drop, getD-append-add}
+use Rattle.lists.specs.ListsLaws.{length-listOf, listOf-ext}
 use Rattle.fault.specs.Buffers.{over}
-use Rattle.fault.specs.PartsLaws.{partOf, withPart, over-part}
-use Rattle.plan.specs.Record.{maxGates}
+use Rattle.fault.specs.PartsLaws.{partOf, withPart, length-over, over-part}
 use Rattle.networks.specs.Rows.{Y, stride, entries, flat, rowOf}
 use Rattle.networks.specs.RowsLaws.{flat-append, length-flat}
 use Rattle.networks.specs.Selection.{selectionRows, selectionOuts, selectionCount, selectionWires}
@@ -24,84 +23,81 @@ use Rattle.write_checks.specs.WriteChecks.{selectionWriteFault}
 use Rattle.selection_rows.specs.WriteCalls.{selectionWrittenRows, selectionWrittenOutputs}
 use Rattle.write_checks.specs.WriteChecksLaws.{SelectionWritePasses, selection-write-succeeds}
 use Rattle.universal.specs.Selector.{pinCount, selection}
-use Rattle.universal.specs.SelectorLaws.{double}
-use Rattle.universal.specs.Universal.{wiresFrom, universalCount, universalWires, universalOuts, universalRows}
-use Rattle.fabric_rows.specs.declared.counting.BlockCounts.{BlockCounts}
+use Rattle.universal.specs.Universal.{mixRows, wiresFrom, universalCount, universalWires, universalOuts, universalRows}
+use Rattle.universal.specs.Fabric.{gateLevel}
+use Rattle.fabric_sizes.specs.declared.parts.BlockCounts.{BlockCounts}
+use Rattle.fabric_sizes.specs.Parts.{SelectionIs, UniversalIs}
+use Rattle.fabric_sizes.specs.PartsLaws.{Halved}
 use Rattle.fabric_rows.specs.declared.block.Parts.{Parts}
-use Rattle.fabric_rows.specs.Counting.{PlacesIs, UniversalCounts, SelectionCounts}
-use Rattle.fabric_rows.specs.CountingLaws.{places-is}
-use Rattle.fabric_rows.specs.Block.{besideRows, middleRows, MixRoom, MiddleRoom, UniversalWires, PartsAt}
+use Rattle.fabric_rows.specs.Block.{middleRows, middlePins, MixRoom, MiddleRoom, UniversalWires, PartsAt}
 
--- ---- a level above 0 by the level below
+-- ---- the parts of U
 
-pub step-power : (level : ℕ) → 1 ≤ level → 2 ^ level ≡ 2 * 2 ^ (level - 1)
-step-power zero h = absurd (not-suc-le-zero h)
-step-power (suc n) h = rw (sub-one (suc n)) (double n)
+module _ {gates half next : ℕ} {upper select : BlockCounts} (w : UniversalWires gates next) (h : Halved gates half)
+    (u : UniversalIs (gateLevel half) upper) (s : SelectionIs half (pinCount (gateLevel half)) select) where
+  abbrev n : ℕ
+  n = gateLevel half
 
-pub step-count : (level : ℕ) → 1 ≤ level → let n : ℕ = level - 1 in
-    universalCount selection level ≡ universalCount selection n + (selection .count n + (pinCount n + universalCount selection n))
-unfolding universalCount
-step-count zero h = absurd (not-suc-le-zero h)
-step-count (suc n) h = rw (sub-one (suc n))
+  pins-are : pinCount n ≡ gates
+  pins-are = omega (arith, h .power, h .twice)
 
-pub step-wires : (level : ℕ) → 1 ≤ level → let n : ℕ = level - 1 in
-    universalWires selection level ≡ universalWires selection n + (selection .wires n + (pinCount n + universalWires selection n))
-unfolding universalWires
-step-wires zero h = absurd (not-suc-le-zero h)
-step-wires (suc n) h = rw (sub-one (suc n))
+  count-is : select .rows ≡ selection .count n
+  count-is = s .isRows ∙ ap (λ m. selectionCount m (pinCount n)) (h .power)
 
--- ---- the parts of a level
+  made-is : select .wires ≡ selection .wires n
+  made-is = s .isWires ∙ ap (λ m. selectionWires m (pinCount n)) (h .power)
 
--- what the code computes from the counts of the upper half and of the selection block
-pub record Placed (next half : ℕ) (upper select : BlockCounts) (p : Parts) : Type 0 where
-  pub halfIs : p .half ≡ half
-  pub pinsAre : p .pins ≡ 2 * half
-  pub selectAt : p .select ≡ stride * upper .rows
-  pub mixAt : p .mix ≡ stride * select .rows
-  pub lowerAt : p .lower ≡ stride * (upper .rows + select .rows + 2 * half)
-  pub selectFrom : p .«select_next» .0 ≡ next + upper .wires
-  pub mixFrom : p .«mix_next» .0 ≡ next + (upper .wires + select .wires)
-  pub lowerFrom : p .«lower_next» .0 ≡ next + (upper .wires + select .wires + 2 * half)
+  step-count : universalCount selection (gateLevel gates)
+      ≡ universalCount selection n + (selection .count n + (pinCount n + universalCount selection n))
+  unfolding universalCount
+  step-count = rw (h .level)
 
-module _ {level next half : ℕ} {upper select : BlockCounts} (w : UniversalWires level next) (h : PlacesIs (level - 1) half)
-    (u : UniversalCounts (level - 1) upper) (s : SelectionCounts half (2 * half) select) where
-  count-is : select .rows ≡ selection .count (level - 1)
-  count-is = s .isRows ∙ ap (λ h. selectionCount h (2 * h)) (h .isPlaces)
-
-  made-is : select .wires ≡ selection .wires (level - 1)
-  made-is = s .isWires ∙ ap (λ h. selectionWires h (2 * h)) (h .isPlaces)
+  step-wires : universalWires selection (gateLevel gates)
+      ≡ universalWires selection n + (selection .wires n + (pinCount n + universalWires selection n))
+  unfolding universalWires
+  step-wires = rw (h .level)
 
   -- the wires of the upper half, of the selection block and of the Y rows, and then the lower half's
-  wires-fit : next + (upper .wires + select .wires + 2 * half) + universalWires selection (level - 1) ≤ maxWires
-  wires-fit = omega (arith, w .wires, step-wires level (w .some), made-is, u .wiresAre .isWires, h .isPlaces)
+  wires-fit : next + (upper .wires + select .wires + gates) + universalWires selection n ≤ maxWires
+  wires-fit = omega (arith, w .wires, step-wires, made-is, u .isWires, pins-are)
 
   -- a wire that the code counts from `next` on, in 32 bits
-  pub part-wire : (k x : ℕ) → k ≤ upper .wires + select .wires + 2 * half → x ≡ (next + k) % 2 ^ 32 → x ≡ next + k
+  pub part-wire : (k x : ℕ) → k ≤ upper .wires + select .wires + gates → x ≡ (next + k) % 2 ^ 32 → x ≡ next + k
   part-wire k x l e = e ∙ wire-after next k (omega (arith, wires-fit))
 
-  pub parts-at : {p : Parts} → Placed next half upper select p → PartsAt level next p
-  parts-at {p} at =
-      let power = step-power level (w .some) in
-      let few : 2 ^ level ≤ maxGates = places-is (w .small) refl .fewPlaces in
-      let isHalf = h .isPlaces in
-      let rows = u .rowsAre .isRows in
-      let wires = u .wiresAre .isWires in
-      record {
-        halfIs = at .halfIs ∙ isHalf;
-        pinsAre = omega (arith, at .pinsAre, at .halfIs);
-        double = omega (arith, power, at .halfIs);
-        some = omega (arith, at .halfIs, h .somePlaces);
-        few = omega (arith, power, at .pinsAre);
-        selectAt = omega (arith, at .selectAt);
-        mixAt = omega (arith, at .mixAt, count-is);
-        lowerAt = omega (arith, at .lowerAt, at .selectAt, at .mixAt, at .pinsAre);
-        whole = omega (arith, at .lowerAt, count-is, step-count level (w .some));
-        near = omega (arith, at .lowerAt, u .rowsAre .fewRows, s .fewRows, power);
-        selectFrom = omega (arith, at .selectFrom);
-        mixFrom = omega (arith, at .mixFrom, made-is);
-        lowerFrom = omega (arith, at .lowerFrom, made-is);
-        made = omega (arith, at .lowerFrom, wires-fit);
-      }
+-- what the code computes from the counts of the upper half and of the selection block
+pub record Placed (gates next : ℕ) (upper select : BlockCounts) (p : Parts) : Type 0 where
+  pub pinsAre : p .pins ≡ gates
+  pub selectAt : p .select ≡ stride * upper .rows
+  pub mixAt : p .mix ≡ stride * select .rows
+  pub lowerAt : p .lower ≡ stride * (upper .rows + select .rows + gates)
+  pub selectFrom : p .«select_next» .0 ≡ next + upper .wires
+  pub mixFrom : p .«mix_next» .0 ≡ next + (upper .wires + select .wires)
+  pub lowerFrom : p .«lower_next» .0 ≡ next + (upper .wires + select .wires + gates)
+
+pub parts-at : {gates next : ℕ} {upper select : BlockCounts} {p : Parts} → UniversalWires gates next → Halved gates (p .half)
+    → UniversalIs (gateLevel (p .half)) upper → SelectionIs (p .half) (pinCount (gateLevel (p .half))) select
+    → Placed gates next upper select p → PartsAt gates next p
+parts-at w h u s at =
+    let pins = pins-are w h u s in
+    let count = count-is w h u s in
+    let made = made-is w h u s in
+    record {
+      halfIs = h .power;
+      pinsAre = omega (arith, at .pinsAre, h .twice);
+      double = omega (arith, at .pinsAre);
+      level = h .level;
+      some = h .some;
+      few = omega (arith, at .pinsAre, w .few);
+      selectAt = omega (arith, at .selectAt, u .isRows);
+      mixAt = omega (arith, at .mixAt);
+      lowerAt = omega (arith, at .lowerAt, at .selectAt, at .mixAt, at .pinsAre);
+      whole = omega (arith, at .lowerAt, u .isRows, step-count w h u s);
+      selectFrom = omega (arith, at .selectFrom, u .isWires);
+      mixFrom = omega (arith, at .mixFrom, u .isWires);
+      lowerFrom = omega (arith, at .lowerFrom, u .isWires);
+      made = omega (arith, at .lowerFrom, wires-fit w h u s);
+    }
 
 -- ---- U(1)
 
@@ -131,54 +127,82 @@ selection-put m n ins next R₀ T₀ R T w e =
 pub length-selection : (m n : ℕ) (ins : List ℕ) (next : ℕ) → length (flat (selectionRows m n ins next)) ≡ stride * selectionCount m n
 length-selection m n ins next = length-flat (selection-totals m n ins next .family) ∙ ap (λ k. stride * k) (length-selectionRows m n ins next)
 
--- ---- the Y rows
+-- the part of a list from p on
+pub part-is : (p : ℕ) (L : List ℕ) → partOf p L ≡ drop p L
+part-is p L = take-all (length L - p) (drop p L) (simp length-drop (omega arith))
 
-beside-pairs : (count : ℕ) (lefts rights : List ℕ) → pairRows Kind.Y count lefts rights 1 ≡ besideRows count lefts rights
-unfolding pairRows besideRows kindNumber rowOf
-beside-pairs count lefts rights =
-    listOf-ext count _ _ (λ i l. let e : 1 * i ≡ i = omega arith in ap (λ j. Y (getD lefts j 0) (getD rights j 0)) e)
+-- ---- the Y rows: P are the pins, with what was selected in front
 
-pub length-beside : (count : ℕ) (lefts rights : List ℕ) → length (flat (besideRows count lefts rights)) ≡ stride * count
-length-beside count lefts rights =
-    ap (λ r. length (flat r)) (sym (beside-pairs count lefts rights)) ∙ length-flat-pairs Kind.Y count lefts rights 1
+mix-pairs : (count : ℕ) (pins selected : List ℕ) → pairRows Kind.Y count (drop count pins) selected 1 ≡ mixRows count pins selected
+unfolding pairRows mixRows kindNumber rowOf
+mix-pairs count pins selected =
+    listOf-ext count _ _ (λ j l.
+    let e : 1 * j ≡ j = omega arith in
+    ap (λ i. Y (getD (drop count pins) i 0) (getD selected i 0)) e ∙ ap (λ w. Y w (getD selected j 0)) (getD-drop count pins j 0))
 
-pub mix-rows : (count next : ℕ) (P S R F : List ℕ) → MixRoom count next (length R) (length P) → F ≡ rowsPut (pairRows Kind.Y count P S 1) R
-    → F ≡ over (flat (besideRows count P S)) R
-mix-rows count next P S R F room e =
-    e ∙ rows-put (pairRows Kind.Y count P S 1) R (rw (length-pairRows Kind.Y count P S 1) (room .rowRoom))
-    ∙ ap (λ r. over (flat r) R) (beside-pairs count P S)
+pub length-mix : (count : ℕ) (pins selected : List ℕ) → length (flat (mixRows count pins selected)) ≡ stride * count
+length-mix count pins selected =
+    ap (λ r. length (flat r)) (sym (mix-pairs count pins selected)) ∙ length-flat-pairs Kind.Y count (drop count pins) selected 1
 
-pub mix-wires : (count next rows : ℕ) (P Q : List ℕ) → MixRoom count next rows (length P) → Q ≡ wiresPut count next 1 P
-    → Q ≡ over (wiresFrom count next) P
-unfolding wiresFrom
-mix-wires count next rows P Q room e =
-    let fits : next + count ≤ maxWires = room .wires in
-    e ∙ wires-put count next 1 P (record { room = room .pinRoom; each = λ i l. omega arith })
-    ∙ ap (λ l. over l P) (listOf-ext count _ _ (λ i l. omega arith))
+pub mix-rows : (count : ℕ) (P R F : List ℕ) → MixRoom count (length R) (length P) → F ≡ rowsPut (pairRows Kind.Y count (partOf count P) P 1) R
+    → F ≡ over (flat (mixRows count P P)) R
+mix-rows count P R F room e =
+    e ∙ ap (λ l. rowsPut (pairRows Kind.Y count l P 1) R) (part-is count P)
+    ∙ rows-put (pairRows Kind.Y count (drop count P) P 1) R (rw (length-pairRows Kind.Y count (drop count P) P 1) (room .rowRoom))
+    ∙ ap (λ r. over (flat r) R) (mix-pairs count P P)
 
--- what stands behind the right wires does not matter
-beside-over : (count : ℕ) (lefts rights old : List ℕ) → length rights ≡ count → besideRows count lefts (over rights old) ≡ besideRows count lefts rights
-unfolding besideRows
-beside-over count lefts rights old e =
-    listOf-ext count _ _ (λ j l. ap (λ r. Y (getD lefts j 0) r) (List·getD-append rights _ 0 j (rw e l)))
+-- ---- between the halves: R and P are the table's part and the pins after the block, F the stretch of the Y rows
 
--- ---- between the halves: R and S are the table's part and what was selected after the block, F the stretch of the Y rows
+module _ (p : Parts) (O R₀ P₀ : List ℕ) {R P : List ℕ} (room : MiddleRoom p O (length R₀) (length P₀))
+    (done : (R ≡ over (flat (selectionRows (p .half) (p .pins) (take (p .half) O) (p .«select_next» .0))) R₀)
+    × (P ≡ over (selectionOuts (p .half) (p .pins) (take (p .half) O) (p .«select_next» .0)) P₀)) where
+  abbrev ins : List ℕ
+  ins = take (p .half) O
 
-pub middle-written : (p : Parts) (O P R₀ S₀ R S F : List ℕ) → MiddleRoom p O (length R₀) (length P) (length S₀)
-    → (R ≡ over (flat (selectionRows (p .half) (p .pins) (take (p .half) O) (p .«select_next» .0))) R₀)
-    × (S ≡ over (selectionOuts (p .half) (p .pins) (take (p .half) O) (p .«select_next» .0)) S₀)
-    → F ≡ over (flat (besideRows (p .pins) P S)) (partOf (p .mix) R)
-    → withPart (p .mix) R F ≡ over (flat (middleRows p O P)) R₀
-unfolding middleRows
-middle-written p O P R₀ S₀ R S F room done put =
-    let ins = take (p .half) O in
-    let next = p .«select_next» .0 in
-    let outs = selectionOuts (p .half) (p .pins) ins next in
-    let A = selectionRows (p .half) (p .pins) ins next in
-    let B = besideRows (p .pins) P outs in
-    let same : besideRows (p .pins) P S ≡ B =
-    ap (besideRows (p .pins) P) (done .1) ∙ beside-over (p .pins) P outs S₀ (length-selectionOuts (p .half) (p .pins) ins next) in
-    over-part (flat A) R₀ R (p .mix) (length-selection (p .half) (p .pins) ins next ∙ sym (room .mixAt)) (room .fits) (done .0) (flat B) F
-    (omega (arith, length-beside (p .pins) P outs, room .mix .rowRoom, room .fits))
-    (put ∙ ap (λ r. over (flat r) (partOf (p .mix) R)) same)
-    ∙ ap (λ l. over l R₀) (sym (flat-append A B))
+  abbrev next : ℕ
+  next = p .«select_next» .0
+
+  abbrev selected : List ℕ
+  selected = selectionOuts (p .half) (p .pins) ins next
+
+  length-selected : length selected ≡ p .pins
+  length-selected = length-selectionOuts (p .half) (p .pins) ins next
+
+  -- the Y rows take what was selected from the front of the pins, and the lower half's pins as they were
+  mixed : mixRows (p .pins) P P ≡ mixRows (p .pins) P₀ selected
+  unfolding mixRows
+  mixed =
+      listOf-ext (p .pins) _ _ (λ j l.
+      ap₂ Y
+      (ap₂ (λ s c. getD s (c + j) 0) (done .1) (sym length-selected)
+      ∙ getD-append-add selected (drop (length selected) P₀) j 0
+      ∙ getD-drop (length selected) P₀ j 0
+      ∙ ap (λ c. getD P₀ (c + j) 0) length-selected)
+      (ap (λ s. getD s j 0) (done .1) ∙ List·getD-append selected (drop (length selected) P₀) 0 j (rw length-selected l)))
+
+  pub middle-written : {F : List ℕ} → F ≡ over (flat (mixRows (p .pins) P P)) (partOf (p .mix) R)
+      → withPart (p .mix) R F ≡ over (flat (middleRows p O P₀)) R₀
+  unfolding middleRows
+  middle-written {F} put =
+      let A = selectionRows (p .half) (p .pins) ins next in
+      let B = mixRows (p .pins) P₀ selected in
+      over-part (flat A) R₀ R (p .mix) (length-selection (p .half) (p .pins) ins next ∙ sym (room .mixAt)) (room .fits) (done .0) (flat B) F
+      (omega (arith, length-mix (p .pins) P₀ selected, room .mix .rowRoom, room .fits))
+      (put ∙ ap (λ r. over (flat r) (partOf (p .mix) R)) mixed)
+      ∙ ap (λ l. over l R₀) (sym (flat-append A B))
+
+  -- the Y rows' output wires stand behind what was selected
+  pub middle-fed : {G : List ℕ} → G ≡ wiresPut (p .pins) (p .«mix_next» .0) 1 (partOf (p .pins) P)
+      → withPart (p .pins) P G ≡ over (middlePins p O) P₀
+  unfolding middlePins wiresFrom
+  middle-fed {G} e =
+      let W = wiresFrom (p .pins) (p .«mix_next» .0) in
+      let wires = room .wires in
+      let enough = room .mix .pinRoom in
+      let long : length P ≡ length P₀ = ap length (done .1) ∙ length-over selected P₀ (omega (arith, length-selected)) in
+      let rest : length (partOf (p .pins) P) ≡ length P - p .pins = mid-len (p .pins) (length P) P (omega arith) in
+      let put : G ≡ over W (partOf (p .pins) P) =
+      e ∙ wires-put (p .pins) (p .«mix_next» .0) 1 (partOf (p .pins) P) (record { room = omega arith; each = λ i l. omega arith })
+      ∙ ap (λ l. over l (partOf (p .pins) P)) (listOf-ext (p .pins) _ _ (λ i l. omega arith)) in
+      over-part selected P₀ P (p .pins) length-selected (omega arith) (done .1) W G
+      (omega (arith, length-listOf (p .pins) (λ j. p .«mix_next» .0 + j))) put

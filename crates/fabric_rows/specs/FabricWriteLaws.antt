@@ -16,7 +16,8 @@ use Rattle.plan.specs.Faults.{countsFault}
 use Rattle.plan.specs.FaultsLaws.{counts-within}
 use Rattle.universal.specs.Fabric.{fabricTable}
 use Rattle.universal.specs.FabricLaws.{length-fabricTable}
-use Rattle.fabric_rows.specs.FabricCalls.{tableLength, fabricFault, fabricResult}
+use Rattle.fabric_sizes.specs.Counting.{tableLength}
+use Rattle.fabric_rows.specs.FabricCalls.{fabricFault, fabricResult}
 use Rattle.fabric_rows.specs.Writing.{FabricPasses}
 
 -- ---- the checks

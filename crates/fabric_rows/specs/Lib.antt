@@ -1,13 +1,10 @@
--- Document 01, "Counting and fabric": the definitions of the calls.
--- what counting answers, and the lent table after the call
+-- Document 01, "Counting and fabric": the definitions of the call that writes the fabric's table.
+-- its checks, and the lent table after it
 pub mod FabricCalls
--- what the functions under the calls say and need
-pub mod Counting
+-- what the functions under the call need
 pub mod Block
 pub mod Writing
 -- Laws of the definitions.
--- counting
-pub mod CountingLaws
 -- writing U
 pub mod BlockLaws
 pub mod UniversalWriteLaws

@@ -13,9 +13,8 @@ use Rattle.universal.specs.Selector.{pinCount, selection}
 use Rattle.universal.specs.Universal.{universalCount}
 use Rattle.universal.specs.Fabric.{gateLevel, inputWires, universalNext, outputNext, fabricCount}
 use Rattle.universal.specs.Tables.{header}
+use Rattle.fabric_sizes.specs.Counting.{tableLength}
 use Rattle.fabric_rows.specs.declared.writing.Layout.{Layout}
-use Rattle.fabric_rows.specs.FabricCalls.{tableLength}
-use Rattle.fabric_rows.specs.Counting.{maxGateLevel}
 
 -- the pins of the largest U
 abbrev pub maxPins : ℕ
@@ -26,43 +25,37 @@ pub record FabricPasses (u k v room : ℕ) : Type 0 where
   pub counts : CountsWithin u k v
   pub enough : tableLength u k v ≤ room
 
--- where the parts begin
+-- K, and where the parts begin
 pub record LayoutIs (u k v : ℕ) (l : Layout) : Type 0 where
   pub isRows : l .rows ≡ fabricCount u k v
   pub fewRows : l .rows < maxWires
-  pub isLevel : l .level ≡ gateLevel k
-  pub lowLevel : l .level ≤ maxGateLevel
-  pub isPlaces : l .places ≡ 2 ^ gateLevel k
-  pub somePlaces : 1 ≤ l .places
-  pub fewPlaces : l .places ≤ maxGates
-  pub arePins : l .pins ≡ pinCount (gateLevel k)
+  pub areGates : l .gates ≡ 2 ^ gateLevel k
+  pub someGates : 1 ≤ l .gates
+  pub fewGates : l .gates ≤ maxGates
   pub universalAt : l .universal ≡ header + stride * selectionCount u (pinCount (gateLevel k))
   pub outputsAt : l .outputs ≡ l .universal + stride * universalCount selection (gateLevel k)
   pub endAt : l .end ≡ stride * selectionCount (2 ^ gateLevel k) v
-  pub isLength : l .length ≡ tableLength u k v
-  pub whole : l .length ≡ l .outputs + (l .end + v)
+  pub whole : tableLength u k v ≡ l .outputs + (l .end + v)
   pub universalFrom : l .«universal_next» .0 ≡ universalNext u k
   pub outputFrom : l .«output_next» .0 ≡ outputNext u k
   pub wires : outputNext u k + selectionWires (2 ^ gateLevel k) v ≤ maxWires
 
--- u, v and the number of rows are of 16 bits
-pub record HeaderRoom (u v rows room : ℕ) : Type 0 where
-  pub inputs : u < maxWires
-  pub outputs : v < maxWires
+-- the number of rows is of 16 bits
+pub record HeaderRoom (rows room : ℕ) : Type 0 where
   pub fewRows : rows < maxWires
   pub enough : header ≤ room
 
 -- S(u, 2K) on the inputs
-pub record PinRoom (u count rows pins : ℕ) : Type 0 where
+pub record PinRoom (u gates rows pins : ℕ) : Type 0 where
   pub inputs : u ≤ maxInputs
-  pub passes : SelectionWritePasses u count (inputWires u) (suc u) rows pins
+  pub fewGates : gates ≤ maxGates
+  pub passes : SelectionWritePasses u (2 * gates) (inputWires u) (suc u) rows pins
 
 -- the entries of S(K, v) on the first K of the gates' wires: its rows, and behind them its output wires
 unfoldable pub outputEntries : ℕ → ℕ → List ℕ → ℕ → List ℕ
-outputEntries places v gates next =
-    flat (selectionRows places v (take places gates) next) ++ selectionOuts places v (take places gates) next
+outputEntries gates v outs next = flat (selectionRows gates v (take gates outs) next) ++ selectionOuts gates v (take gates outs) next
 
-pub record OutputRoom (places v end next : ℕ) (gates : List ℕ) (rows : ℕ) : Type 0 where
-  pub passes : SelectionWritePasses places v (take places gates) next rows maxOutputs
-  pub endAt : end ≡ stride * selectionCount places v
+pub record OutputRoom (gates v end next : ℕ) (outs : List ℕ) (rows : ℕ) : Type 0 where
+  pub passes : SelectionWritePasses gates v (take gates outs) next rows maxOutputs
+  pub endAt : end ≡ stride * selectionCount gates v
   pub enough : end + v ≤ rows

@@ -28,9 +28,11 @@ use Rattle.universal.specs.Fabric.{gateLevel, inputWires, fabricPins, universal
 use Rattle.universal.specs.Fabric.{fabricCount, fabricWires, fabricTable}
 use Rattle.universal.specs.FabricLaws.{length-inputWires, inputs-below, gates-below, fabric-within}
 use Rattle.universal.specs.Tables.{header}
-use Rattle.fabric_rows.specs.declared.counting.FabricParts.{FabricParts}
+use Rattle.fabric_sizes.specs.declared.parts.BlockCounts.{BlockCounts}
+use Rattle.fabric_sizes.specs.Counting.{tableLength}
+use Rattle.fabric_sizes.specs.Parts.{PlacesAre, SelectionIs, UniversalIs}
+use Rattle.fabric_sizes.specs.PartsLaws.{few-places, same-level}
 use Rattle.fabric_rows.specs.declared.writing.Layout.{Layout}
-use Rattle.fabric_rows.specs.Counting.{FabricPartsAre}
 use Rattle.fabric_rows.specs.Writing.{maxPins, FabricPasses, LayoutIs, PinRoom, outputEntries, OutputRoom}
 use Rattle.fabric_rows.specs.Block.{UniversalRoom}
 use Rattle.fabric_rows.specs.BlockLaws.{length-selection}
@@ -39,43 +41,36 @@ use Rattle.fabric_rows.specs.UniversalWriteLaws.{length-universal}
 -- ---- where the parts begin
 
 -- what the code computes from the parts' counts
-pub record LaidOut (u v : ℕ) (p : FabricParts) (l : Layout) : Type 0 where
-  pub isRows : l .rows ≡ p .pins .rows + p .universal .rows + p .outputs .rows
-  pub isLevel : l .level ≡ p .gates .level
-  pub isPlaces : l .places ≡ p .gates .places
-  pub arePins : l .pins ≡ 2 * p .gates .places
-  pub universalAt : l .universal ≡ header + stride * p .pins .rows
-  pub outputsAt : l .outputs ≡ header + stride * (p .pins .rows + p .universal .rows)
-  pub endAt : l .end ≡ stride * p .outputs .rows
-  pub isLength : l .length ≡ header + stride * l .rows + v
-  pub universalFrom : l .«universal_next» .0 ≡ 1 + u + p .pins .wires
-  pub outputFrom : l .«output_next» .0 ≡ 1 + u + p .pins .wires + p .universal .wires
+pub record LaidOut (u : ℕ) (pins universal outputs : BlockCounts) (l : Layout) : Type 0 where
+  pub isRows : l .rows ≡ pins .rows + universal .rows + outputs .rows
+  pub universalAt : l .universal ≡ header + stride * pins .rows
+  pub outputsAt : l .outputs ≡ header + stride * (pins .rows + universal .rows)
+  pub endAt : l .end ≡ stride * outputs .rows
+  pub universalFrom : l .«universal_next» .0 ≡ 1 + u + pins .wires
+  pub outputFrom : l .«output_next» .0 ≡ 1 + u + pins .wires + universal .wires
 
-pub layout-is : {u k v : ℕ} {p : FabricParts} {l : Layout} → CountsWithin u k v → FabricPartsAre u k v p → LaidOut u v p l → LayoutIs u k v l
+pub layout-is : {u k v : ℕ} {pins universal outputs : BlockCounts} {l : Layout} → CountsWithin u k v
+    → SelectionIs u (pinCount (gateLevel k)) pins → UniversalIs (gateLevel k) universal → SelectionIs (2 ^ gateLevel k) v outputs
+    → PlacesAre k (l .gates) → LaidOut u pins universal outputs l → LayoutIs u k v l
 unfolding fabricCount fabricWires
-layout-is {u} {k} {v} {p} {l} within parts at =
+layout-is {u} {k} {v} {l} within p g o places at =
     let few = fabric-within u k v within in
-    let g = parts .gatesAre in
-    let pinRows = parts .pinsAre .isRows in
-    let pinWires = parts .pinsAre .isWires in
-    let gateRows = parts .universalIs .rowsAre .isRows in
-    let gateWires = parts .universalIs .wiresAre .isWires in
-    let outRows = parts .outputsAre .isRows in
+    let pinRows = p .isRows in
+    let pinWires = p .isWires in
+    let gateRows = g .isRows in
+    let gateWires = g .isWires in
+    let outRows = o .isRows in
     let isRows : l .rows ≡ fabricCount u k v = omega (arith, at .isRows) in
     record {
       isRows = isRows;
       fewRows = omega (arith, few .rows);
-      isLevel = at .isLevel ∙ g .isLevel;
-      lowLevel = omega (arith, at .isLevel, g .lowLevel);
-      isPlaces = at .isPlaces ∙ g .isPlaces;
-      somePlaces = omega (arith, at .isPlaces, g .somePlaces);
-      fewPlaces = omega (arith, at .isPlaces, g .fewPlaces);
-      arePins = at .arePins ∙ ap (λ n. 2 * n) (g .isPlaces);
+      areGates = places .isPlaces;
+      someGates = places .some;
+      fewGates = rw (places .isPlaces) (few-places k (within .gates));
       universalAt = omega (arith, at .universalAt);
       outputsAt = omega (arith, at .universalAt, at .outputsAt);
       endAt = omega (arith, at .endAt);
-      isLength = at .isLength ∙ ap (λ n. header + stride * n + v) isRows;
-      whole = omega (arith, at .isLength, at .isRows, at .outputsAt, at .endAt);
+      whole = omega (arith, at .outputsAt, at .endAt);
       universalFrom = omega (arith, at .universalFrom);
       outputFrom = omega (arith, at .outputFrom);
       wires = omega (arith, few .wires);
@@ -91,7 +86,7 @@ header-put u v rows (a ∷ b ∷ c ∷ T) h = refl
 
 -- ---- the pins: the wires 1 to u stand in the front of the list A
 
-module _ {u count rows pins : ℕ} {A : List ℕ} (I : List ℕ) (room : PinRoom u count rows pins) (long : length I ≡ maxInputs) (put : A ≡ wiresPut u 1 1 I) where
+module _ {u gates rows pins : ℕ} {A : List ℕ} (I : List ℕ) (room : PinRoom u gates rows pins) (long : length I ≡ maxInputs) (put : A ≡ wiresPut u 1 1 I) where
   inputs-put : take u A ≡ inputWires u
   unfolding inputWires
   inputs-put =
@@ -100,27 +95,27 @@ module _ {u count rows pins : ℕ} {A : List ℕ} (I : List ℕ) (room : PinRoom
       let e = put ∙ wires-put u 1 1 I (record { room = omega arith; each = λ i l. omega arith }) ∙ ap (λ l. over l I) same in
       rw e (take-at (inputWires u) (drop (length (inputWires u)) I) u (length-inputWires u))
 
-  pub pins-pass : SelectionWritePasses u count (take u A) (u + 1) rows pins
+  pub pins-pass : SelectionWritePasses u (2 * gates) (take u A) (u + 1) rows pins
   pins-pass = rw (inputs-put, add-one u) (room .passes)
 
   pub pins-put : (R₀ R P₀ P : List ℕ)
-      → (R ≡ over (flat (selectionRows u count (take u A) (u + 1))) R₀) × (P ≡ over (selectionOuts u count (take u A) (u + 1)) P₀)
-      → (R ≡ over (flat (selectionRows u count (inputWires u) (suc u))) R₀) × (P ≡ over (selectionOuts u count (inputWires u) (suc u)) P₀)
+      → (R ≡ over (flat (selectionRows u (2 * gates) (take u A) (u + 1))) R₀) × (P ≡ over (selectionOuts u (2 * gates) (take u A) (u + 1)) P₀)
+      → (R ≡ over (flat (selectionRows u (2 * gates) (inputWires u) (suc u))) R₀) × (P ≡ over (selectionOuts u (2 * gates) (inputWires u) (suc u)) P₀)
   pins-put R₀ R P₀ P w = rw (inputs-put, add-one u) at w
 
 -- ---- the outputs: R is the table's part after the rows of S(K, v), L its list of output wires, F the stretch behind the rows
 
-pub outputs-put : {places v end next : ℕ} {gates : List ℕ} (R₀ R L₀ L F : List ℕ) → OutputRoom places v end next gates (length R₀)
-    → (R ≡ over (flat (selectionRows places v (take places gates) next)) R₀) × (L ≡ over (selectionOuts places v (take places gates) next) L₀)
+pub outputs-put : {gates v end next : ℕ} {outs : List ℕ} (R₀ R L₀ L F : List ℕ) → OutputRoom gates v end next outs (length R₀)
+    → (R ≡ over (flat (selectionRows gates v (take gates outs) next)) R₀) × (L ≡ over (selectionOuts gates v (take gates outs) next) L₀)
     → F ≡ over (take (length (partOf end R)) (take v L)) (partOf end R)
-    → withPart end R F ≡ over (outputEntries places v gates next) R₀
+    → withPart end R F ≡ over (outputEntries gates v outs next) R₀
 unfolding outputEntries
-outputs-put {places} {v} {end} {next} {gates} R₀ R L₀ L F room done copied =
-    let ins = take places gates in
-    let A = flat (selectionRows places v ins next) in
-    let O = selectionOuts places v ins next in
-    let a : length A ≡ end = length-selection places v ins next ∙ sym (room .endAt) in
-    let o : length O ≡ v = length-selectionOuts places v ins next in
+outputs-put {gates} {v} {end} {next} {outs} R₀ R L₀ L F room done copied =
+    let ins = take gates outs in
+    let A = flat (selectionRows gates v ins next) in
+    let O = selectionOuts gates v ins next in
+    let a : length A ≡ end = length-selection gates v ins next ∙ sym (room .endAt) in
+    let o : length O ≡ v = length-selectionOuts gates v ins next in
     let enough = room .enough in
     let long : length R ≡ length R₀ = ap length (done .0) ∙ length-over A R₀ (omega arith) in
     let rest : length (partOf end R) ≡ length R₀ - end = mid-len end (length R) R (omega arith) ∙ ap (λ n. n - end) long in
@@ -136,13 +131,13 @@ pub record Begun (u k v : ℕ) (l : Layout) (T₀ T₁ : List ℕ) : Type 0 wher
   pub headed : T₁ ≡ over (u ∷ v ∷ l .rows ∷ []) T₀
 
 pub record PinsDone (u : ℕ) (l : Layout) (T₁ P₀ F₂ P₂ : List ℕ) : Type 0 where
-  pub rows : F₂ ≡ over (flat (selectionRows u (l .pins) (inputWires u) (suc u))) (partOf header T₁)
-  pub pins : P₂ ≡ over (selectionOuts u (l .pins) (inputWires u) (suc u)) P₀
+  pub rows : F₂ ≡ over (flat (selectionRows u (2 * l .gates) (inputWires u) (suc u))) (partOf header T₁)
+  pub pins : P₂ ≡ over (selectionOuts u (2 * l .gates) (inputWires u) (suc u)) P₀
 
 pub record GatesDone (l : Layout) (T₂ P₂ O₀ F₃ O₃ : List ℕ) : Type 0 where
   pub rows :
-      F₃ ≡ over (flat (universalRows selection (l .level) (take (pinCount (l .level)) P₂) (l .«universal_next» .0))) (partOf (l .universal) T₂)
-  pub outs : O₃ ≡ over (universalOuts selection (l .level) (l .«universal_next» .0)) O₀
+      F₃ ≡ over (flat (universalRows selection (gateLevel (l .gates)) (take (pinCount (gateLevel (l .gates))) P₂) (l .«universal_next» .0))) (partOf (l .universal) T₂)
+  pub outs : O₃ ≡ over (universalOuts selection (gateLevel (l .gates)) (l .«universal_next» .0)) O₀
 
 module _ {u k v : ℕ} {l : Layout} {T₀ T₁ : List ℕ} (begun : Begun u k v l T₀ T₁) where
   abbrev n : ℕ
@@ -154,42 +149,43 @@ module _ {u k v : ℕ} {l : Layout} {T₀ T₁ : List ℕ} (begun : Begun u k v 
   abbrev H : List ℕ
   H = u ∷ v ∷ l .rows ∷ []
 
-  enough : l .length ≤ length T₀
-  enough = omega (arith, at .isLength, begun .passes .enough)
+  enough : tableLength u k v ≤ length T₀
+  enough = begun .passes .enough
+
+  level-is : gateLevel (l .gates) ≡ n
+  level-is = ap gateLevel (at .areGates) ∙ same-level k
+
+  pin-count : 2 * l .gates ≡ pinCount n
+  pin-count = ap (λ m. 2 * m) (at .areGates)
 
   length-T₁ : length T₁ ≡ length T₀
-  length-T₁ = ap length (begun .headed) ∙ length-over H T₀ (omega (arith, enough, at .isLength))
+  length-T₁ = ap length (begun .headed) ∙ length-over H T₀ (omega (arith, enough))
 
-  count-is : selectionCount u (l .pins) ≡ selectionCount u (pinCount n)
-  count-is = ap (selectionCount u) (at .arePins)
+  count-is : selectionCount u (2 * l .gates) ≡ selectionCount u (pinCount n)
+  count-is = ap (selectionCount u) pin-count
 
-  wires-are : selectionWires u (l .pins) ≡ selectionWires u (pinCount n)
-  wires-are = ap (selectionWires u) (at .arePins)
+  wires-are : selectionWires u (2 * l .gates) ≡ selectionWires u (pinCount n)
+  wires-are = ap (selectionWires u) pin-count
 
-  few-pins : (1 ≤ l .pins) × (l .pins ≤ maxPins)
-  few-pins =
-      let pins : l .pins ≡ 2 * l .places = at .arePins ∙ ap (λ m. 2 * m) (sym (at .isPlaces)) in
-      (omega (arith, at .somePlaces), omega (arith, at .fewPlaces))
-
-  pub pin-room : PinRoom u (l .pins) (length (partOf header T₁)) maxPins
+  pub pin-room : PinRoom u (l .gates) (length (partOf header T₁)) maxPins
   pin-room =
       let counts = begun .passes .counts in
-      let pins = few-pins in
       record {
         inputs = counts .inputs;
+        fewGates = at .fewGates;
         passes = record {
           sides = record {
             someInputs = counts .someInputs;
             inputs = omega (arith, counts .inputs);
-            someOutputs = pins .0;
-            outputs = pins .1;
+            someOutputs = omega (arith, at .someGates);
+            outputs = omega (arith, at .fewGates);
           };
           inputs = length-inputWires u;
           made = inputs-below u;
           wires = λ _. omega (arith, wires-are, at .wires);
           rowRoom = rw (mid-len header (length T₁) T₁ (omega arith))
               (omega (arith, count-is, length-T₁, enough, at .whole, at .outputsAt, at .universalAt));
-          outputRoom = pins .1;
+          outputRoom = omega (arith, at .fewGates);
         };
       }
 
@@ -206,9 +202,9 @@ module _ {u k v : ℕ} {l : Layout} {T₀ T₁ : List ℕ} (begun : Begun u k v 
 
     pins-rows : T₂ ≡ over (H ++ A) T₀
     pins-rows =
-        over-part H T₀ T₁ header refl (omega (arith, enough, at .isLength)) (begun .headed) A F₂
+        over-part H T₀ T₁ header refl (omega (arith, enough)) (begun .headed) A F₂
         (omega (arith, length-A, enough, at .whole, at .outputsAt))
-        (pinned .rows ∙ ap (λ m. over (flat (selectionRows u m (inputWires u) (suc u))) (partOf header T₁)) (at .arePins))
+        (pinned .rows ∙ ap (λ m. over (flat (selectionRows u m (inputWires u) (suc u))) (partOf header T₁)) pin-count)
 
     length-first : length (H ++ A) ≡ l .universal
     length-first = length-append H A ∙ length-A
@@ -216,28 +212,27 @@ module _ {u k v : ℕ} {l : Layout} {T₀ T₁ : List ℕ} (begun : Begun u k v 
     length-T₂ : length T₂ ≡ length T₀
     length-T₂ = ap length pins-rows ∙ length-over (H ++ A) T₀ (omega (arith, length-first, enough, at .whole, at .outputsAt))
 
-    pins-are : take (pinCount (l .level)) P₂ ≡ fabricPins u k
+    pins-are : take (pinCount (gateLevel (l .gates))) P₂ ≡ fabricPins u k
     pins-are =
-        let outs = selectionOuts u (l .pins) (inputWires u) (suc u) in
-        let long : length outs ≡ pinCount (l .level) =
-        length-selectionOuts u (l .pins) (inputWires u) (suc u) ∙ at .arePins ∙ ap pinCount (sym (at .isLevel)) in
-        rw (pinned .pins) (take-at outs (drop (length outs) P₀) (pinCount (l .level)) long)
-        ∙ ap (λ m. selectionOuts u m (inputWires u) (suc u)) (at .arePins)
+        let outs = selectionOuts u (2 * l .gates) (inputWires u) (suc u) in
+        let long : length outs ≡ pinCount (gateLevel (l .gates)) =
+        length-selectionOuts u (2 * l .gates) (inputWires u) (suc u) ∙ pin-count ∙ ap pinCount (sym level-is) in
+        rw (pinned .pins) (take-at outs (drop (length outs) P₀) (pinCount (gateLevel (l .gates))) long)
+        ∙ ap (λ m. selectionOuts u m (inputWires u) (suc u)) pin-count
 
-    rows-at : universalCount selection (l .level) ≡ universalCount selection n
-    rows-at = ap (universalCount selection) (at .isLevel)
+    rows-at : universalCount selection (gateLevel (l .gates)) ≡ universalCount selection n
+    rows-at = ap (universalCount selection) level-is
 
-    pub gates-room : UniversalRoom (l .level) (l .«universal_next» .0) (length (partOf (l .universal) T₂)) maxPins maxGates maxGates
+    pub gates-room : UniversalRoom (l .gates) (l .«universal_next» .0) (length (partOf (l .universal) T₂)) maxPins maxGates
     gates-room =
-        let power : 2 ^ l .level ≡ l .places = ap (λ m. 2 ^ m) (at .isLevel) ∙ sym (at .isPlaces) in
-        let few = at .fewPlaces in
+        let few = at .fewGates in
         record {
-          small = at .lowLevel;
-          wires = omega (arith, at .universalFrom, ap (universalWires selection) (at .isLevel), at .wires);
+          power = at .areGates ∙ ap (λ m. 2 ^ m) (sym level-is);
+          few = few;
+          wires = omega (arith, at .universalFrom, ap (universalWires selection) level-is, at .wires);
           rowRoom = rw (mid-len (l .universal) (length T₂) T₂ (omega arith)) (omega (arith, length-T₂, rows-at, enough, at .whole, at .outputsAt));
           pinRoom = omega arith;
           outRoom = omega arith;
-          selectedRoom = omega arith;
         }
 
     pub gates-start : l .universal ≤ length T₂
@@ -257,8 +252,8 @@ module _ {u k v : ℕ} {l : Layout} {T₀ T₁ : List ℕ} (begun : Begun u k v 
       gate-rows : F₃ ≡ over B (partOf (l .universal) T₂)
       gate-rows =
           gated .rows
-          ∙ ap (λ ps. over (flat (universalRows selection (l .level) ps (l .«universal_next» .0))) (partOf (l .universal) T₂)) pins-are
-          ∙ ap₂ (λ m k′. over (flat (universalRows selection m (fabricPins u k) k′)) (partOf (l .universal) T₂)) (at .isLevel) (at .universalFrom)
+          ∙ ap (λ ps. over (flat (universalRows selection (gateLevel (l .gates)) ps (l .«universal_next» .0))) (partOf (l .universal) T₂)) pins-are
+          ∙ ap₂ (λ m k′. over (flat (universalRows selection m (fabricPins u k) k′)) (partOf (l .universal) T₂)) level-is (at .universalFrom)
 
       gates-rows : T₃ ≡ over ((H ++ A) ++ B) T₀
       gates-rows =
@@ -271,35 +266,35 @@ module _ {u k v : ℕ} {l : Layout} {T₀ T₁ : List ℕ} (begun : Begun u k v 
       length-T₃ : length T₃ ≡ length T₀
       length-T₃ = ap length gates-rows ∙ length-over ((H ++ A) ++ B) T₀ (omega (arith, length-second, enough, at .whole))
 
-      gates-are : take (l .places) O₃ ≡ gateOuts u k
+      gates-are : take (l .gates) O₃ ≡ gateOuts u k
       gates-are =
-          let outs = universalOuts selection (l .level) (l .«universal_next» .0) in
-          let long : length outs ≡ l .places =
-          length-universalOuts selection (l .level) (l .«universal_next» .0) ∙ ap (λ m. 2 ^ m) (at .isLevel) ∙ sym (at .isPlaces) in
-          rw (gated .outs) (take-at outs (drop (length outs) O₀) (l .places) long)
-          ∙ ap₂ (universalOuts selection) (at .isLevel) (at .universalFrom)
+          let outs = universalOuts selection (gateLevel (l .gates)) (l .«universal_next» .0) in
+          let long : length outs ≡ l .gates =
+          length-universalOuts selection (gateLevel (l .gates)) (l .«universal_next» .0) ∙ ap (λ m. 2 ^ m) level-is ∙ sym (at .areGates) in
+          rw (gated .outs) (take-at outs (drop (length outs) O₀) (l .gates) long)
+          ∙ ap₂ (universalOuts selection) level-is (at .universalFrom)
 
       pub outputs-start : l .outputs ≤ length T₃
       outputs-start = omega (arith, length-T₃, enough, at .whole)
 
-      pub output-room : OutputRoom (l .places) v (l .end) (l .«output_next» .0) O₃ (length (partOf (l .outputs) T₃))
+      pub output-room : OutputRoom (l .gates) v (l .end) (l .«output_next» .0) O₃ (length (partOf (l .outputs) T₃))
       output-room =
           let counts = begun .passes .counts in
-          let endIs : l .end ≡ stride * selectionCount (l .places) v =
-          at .endAt ∙ ap (λ m. stride * selectionCount m v) (sym (at .isPlaces)) in
+          let endIs : l .end ≡ stride * selectionCount (l .gates) v =
+          at .endAt ∙ ap (λ m. stride * selectionCount m v) (sym (at .areGates)) in
           let rest : length (partOf (l .outputs) T₃) ≡ length T₀ - l .outputs =
           mid-len (l .outputs) (length T₃) T₃ (omega arith) ∙ ap (λ m. m - l .outputs) length-T₃ in
           record {
             passes = record {
               sides = record {
-                someInputs = at .somePlaces;
-                inputs = omega (arith, at .fewPlaces);
+                someInputs = at .someGates;
+                inputs = omega (arith, at .fewGates);
                 someOutputs = counts .someOutputs;
                 outputs = omega (arith, counts .outputs);
               };
-              inputs = ap length gates-are ∙ length-universalOuts selection n (universalNext u k) ∙ sym (at .isPlaces);
+              inputs = ap length gates-are ∙ length-universalOuts selection n (universalNext u k) ∙ sym (at .areGates);
               made = rw (gates-are, at .outputFrom) (gates-below u k v);
-              wires = λ _. omega (arith, at .outputFrom, ap (λ m. selectionWires m v) (at .isPlaces), at .wires);
+              wires = λ _. omega (arith, at .outputFrom, ap (λ m. selectionWires m v) (at .areGates), at .wires);
               rowRoom = omega (arith, rest, enough, at .whole);
               outputRoom = counts .outputs;
             };
@@ -308,7 +303,7 @@ module _ {u k v : ℕ} {l : Layout} {T₀ T₁ : List ℕ} (begun : Begun u k v 
           }
 
       -- after S(K, v)
-      module _ {F₄ : List ℕ} (out : F₄ ≡ over (outputEntries (l .places) v O₃ (l .«output_next» .0)) (partOf (l .outputs) T₃)) where
+      module _ {F₄ : List ℕ} (out : F₄ ≡ over (outputEntries (l .gates) v O₃ (l .«output_next» .0)) (partOf (l .outputs) T₃)) where
         abbrev C : List ℕ
         C = flat (selectionRows (2 ^ n) v (gateOuts u k) (outputNext u k)) ++ fabricOuts u k v
 
@@ -316,10 +311,10 @@ module _ {u k v : ℕ} {l : Layout} {T₀ T₁ : List ℕ} (begun : Begun u k v 
         unfolding fabricOuts outputEntries
         output-rows =
             out
-            ∙ ap (λ (gs : List ℕ). over (flat (selectionRows (l .places) v gs (l .«output_next» .0))
-            ++ selectionOuts (l .places) v gs (l .«output_next» .0)) (partOf (l .outputs) T₃)) gates-are
+            ∙ ap (λ (gs : List ℕ). over (flat (selectionRows (l .gates) v gs (l .«output_next» .0))
+            ++ selectionOuts (l .gates) v gs (l .«output_next» .0)) (partOf (l .outputs) T₃)) gates-are
             ∙ ap₂ (λ m k′. over (flat (selectionRows m v (gateOuts u k) k′) ++ selectionOuts m v (gateOuts u k) k′) (partOf (l .outputs) T₃))
-            (at .isPlaces) (at .outputFrom)
+            (at .areGates) (at .outputFrom)
 
         length-C : length C ≡ l .end + v
         unfolding fabricOuts

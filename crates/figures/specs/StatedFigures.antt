@@ -33,7 +33,8 @@ use Rattle.universal.specs.Universal.{mixRows, wiresFrom, universalCount, unive
 use Rattle.universal.specs.Universal.{tableProgram, isOf, wantedGate, wantedGates, mixBits, universalBits}
 use Rattle.universal.specs.Fabric.{inputWires, fabricRows, fabricOuts, fabricCount, fabricWires, fabricTakes, fabricTable}
 use Rattle.universal.specs.Fabric.{paddedGate, wantedInput, wantedInputs, wantedOutputs, planBits, planProgram}
-use Rattle.fabric_rows.specs.FabricCalls.{counting, fabricFault, fabricResult}
+use Rattle.fabric_sizes.specs.Counting.{counting}
+use Rattle.fabric_rows.specs.FabricCalls.{fabricFault, fabricResult}
 use Rattle.fabric_bits.specs.ProgramCalls.{planProgramFault, planProgramResult}
 use Rattle.figures.specs.Figure.{Figure, Holds, passes, passes-holds}
 

@@ -3,9 +3,9 @@
 mod line;
 mod rows;
 
-use fabric_rows::CountAnswer;
-use fabric_rows::Counts;
-use fabric_rows::count_fabric;
+use fabric_sizes::CountAnswer;
+use fabric_sizes::Counts;
+use fabric_sizes::count_fabric;
 use fault::Fault;
 use line::Line;
 use line::blank;

@@ -1,7 +1,7 @@
 -- `capi::mkd_count` meets its contract: the two cases of the library's answer. Assumes nothing.
 use mathlib.Core.Path.{sym, ap, _∙_}
 use borrow.Author.Needs.{needs}
-use Rattle.fabric_rows.specs.FabricCalls.{countAnswer}
+use Rattle.fabric_sizes.specs.Counting.{countAnswer}
 use Rattle.capi.proofs.mkd_count.Statement.{statement}
 use Rattle.capi.proofs.mkd_count.Tie as tie
 

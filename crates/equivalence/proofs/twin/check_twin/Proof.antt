@@ -18,9 +18,6 @@ contacted : (c : tie.After-enum-told2) → let a = c .before .before .before .be
     0 ≡ contactFault (a .plan .inputs) (a .row .now)
 contacted c = ap answerNumber (sym (c .enum-told2 .given .1)) ∙ c .before .before .contact-fault .ensures
 
-accepted : tie.Need-check-rooms-requires
-accepted c κs = sym (planned (c .before .before .before .before))
-
 faulty : tie.Need-returns
 unfolding twinFault
 faulty c = first-refuses (c .before .f .given .0 .0) _ _ (ap answerNumber (sym (c .before .f .given .1)) ∙ c .before .before .before .plan-fault .ensures)
@@ -43,4 +40,4 @@ check-twin-spec =
     tie.close
     (tie.spec
     (λ c κs. search needs) (λ c. search needs) (λ c. search needs) (λ c. search needs) (λ c κs. search needs) (λ c. search needs)
-    (λ c. search needs) accepted faulty no-contact rooms)
+    (λ c. search needs) (λ c κs. search needs) faulty no-contact rooms)

@@ -1,6 +1,5 @@
 -- `equivalence::twin::make_twin` meets its contract: what the first two calls wrote is run, and none of the four refuses. Assumes nothing.
 use native.Mathlib.Omega.{arith}
-use mathlib.Core.Path.{_≡_, _∙_}
 use borrow.Author.Needs.{needs}
 use Rattle.equivalence.specs.TwinLaws.{made-table, made-program, made-work, made-evaluated, made-ran}
 use Rattle.equivalence.proofs.twin.make_twin.Statement.{statement}

@@ -1,8 +1,8 @@
--- `fabric_bits::block::program_universal` meets its contract. The measure is the level. The upper half, the part between and the lower half are
+-- `fabric_bits::block::program_universal` meets its contract. The measure is the number of gates. The upper half, the part between and the lower half are
 -- stored one behind the other. Assumes nothing.
 use mathlib.Core.Path.{ap, _∙_}
 use mathlib.Core.List.{List}
-use Prim.Native.Nat.{ℕ, _+_, _<_}
+use Prim.Native.Nat.{ℕ, _+_, _/_, _<_}
 use native.Mathlib.Omega.{arith}
 use borrow.Author.Needs.{needs}
 use borrow.Fn.Kinds.{In}
@@ -10,15 +10,16 @@ use borrow.Fn.PlainCycle.{Measures, is, falls, and}
 use lib.ListN.{length}
 use lib.Pow.{pow-pos}
 use Rattle.networks.specs.Bits.{storeBits}
+use Rattle.universal.specs.Fabric.{gateLevel}
+use Rattle.fabric_sizes.specs.PartsLaws.{halved}
 use Rattle.fabric_bits.specs.GateLists.{gatesIn, pinsIn}
 use Rattle.fabric_bits.specs.UniversalBitsLaws.{upper-room, between-room, between-fits, lower-room, length-between, between-pins, gate-stored, halves-stored}
 use Rattle.fabric_bits.proofs.block.program_universal.Reads as program-universal
 use Rattle.fabric_bits.proofs.block.program_universal.Kinds as program-universal-kinds
 use Rattle.fabric_bits.proofs.block.+program_universal.Lts-program_universal as program-universal-lts
-use Rattle.fabric_bits.proofs.block.places_at.Reads as places-at-reads
 use Rattle.fabric_bits.proofs.block.program_between.Reads as program-between-reads
 use Rattle.fabric_bits.proofs.block.store_table.Reads as store-table-reads
-use Rattle.fabric_bits.proofs.block.universal_takes.Reads as universal-takes-reads
+use Rattle.fabric_sizes.proofs.universal_counts.Reads as universal-counts-reads
 use Rattle.fabric_bits.proofs.block.+program_universal.{statement}
 use Rattle.fabric_bits.proofs.block.+program_universal.Tie.{close}
 
@@ -31,10 +32,8 @@ universal-at t = and 4 program-universal-kinds.ps (is 4 program-universal-kinds.
 -- what is known of the calls
 abbrev calls : ℕ → program-universal-lts.Claims
 calls t = (
-  places-at-reads.Asked,
-  places-at-reads.Learnt,
-  universal-takes-reads.Asked,
-  universal-takes-reads.Learnt,
+  universal-counts-reads.Asked,
+  universal-counts-reads.Learnt,
   and 4 program-universal-kinds.ps (falls 4 program-universal-kinds.ps _<_ μ-program-universal t) program-universal.Pre,
   program-universal.Post,
   program-between-reads.Asked,
@@ -47,33 +46,33 @@ for-upper : (t : ℕ) → program-universal-lts.Need-program-universal-requires 
 for-upper t c κs =
     let if1 = c .before .before .before .before in
     let s = if1 .before .before .before .before .before in
-    (omega (arith, s .pre .0, if1 .if1 .taken), upper-room (s .pre .1) (if1 .if1 .taken) (c .before .before .before .places-at .ensures))
+    let h = halved (s .pre .1 .power) (if1 .if1 .taken) in
+    (omega (arith, s .pre .0), upper-room (s .pre .1) h)
 
 for-between : (t : ℕ) → program-universal-lts.Need-program-between-requires (calls t) (universal-at t) program-universal.Post
 for-between t c κs =
-    let upper = c .before .before .before .before .before .before .program-universal in
-    let counted = c .before .before .before .before .before .before .before .before .before in
-    let if1 = counted .before .before in
+    let upper = c .before .before .before .before .before .before in
+    let counted = upper .before .before .before .before in
+    let if1 = counted .before in
     let s = if1 .before .before .before .before .before in
-    let l = if1 .if1 .taken in
-    let places = counted .before .places-at .ensures in (
-      between-room (s .pre .1) l places (upper .kept .1 .1 .1 .1 .1 .0),
-      between-fits (s .pre .1) l places (ap (λ n. s .args .start + n) (counted .universal-takes .ensures .isTakes)) (upper .kept .1 .1 .1 .1 .1 .1 .0),
+    let h = halved (s .pre .1 .power) (if1 .if1 .taken) in
+    let kept = upper .program-universal .kept in (
+      between-room (s .pre .1) h (kept .1 .1 .1 .1 .1 .0),
+      between-fits (s .pre .1) h (ap (λ n. s .args .start + n) (counted .universal-counts .ensures .isBits)) (kept .1 .1 .1 .1 .1 .1 .0),
     )
 
 for-lower : (t : ℕ) → program-universal-lts.Need-program-universal-requires-2 (calls t) (universal-at t) program-universal.Post
 for-lower t c κs =
     let between = c .before .before .before .before .before .before in
     let upper = between .before .before .before .before .before .before .before in
-    let counted = upper .before .before .before in
-    let if1 = counted .before .before in
+    let counted = upper .before .before .before .before in
+    let if1 = counted .before in
     let s = if1 .before .before .before .before .before in
     let a = s .args in
-    let l = if1 .if1 .taken in
-    let places = counted .before .places-at in
-    let size = length-between (pinsIn (a .before) (a .pins .now)) (a .base) (places .result) in (
-      omega (arith, s .pre .0, l),
-      lower-room (s .pre .1) l (places .ensures) (omega (arith, between .program-between .ensures .0, counted .universal-takes .ensures .isTakes, size))
+    let h = halved (s .pre .1 .power) (if1 .if1 .taken) in
+    let size = length-between (pinsIn (a .before) (a .pins .now)) (a .base) (a .gates / 2) in (
+      omega (arith, s .pre .0),
+      lower-room (s .pre .1) h (omega (arith, between .program-between .ensures .0, counted .universal-counts .ensures .isBits, size))
           (between .program-between .kept .1 .1 .1 .1 .0 ∙ upper .program-universal .kept .1 .1 .1 .1 .1 .0)
           (between .program-between .kept .1 .1 .1 .1 .1 .0 ∙ upper .program-universal .kept .1 .1 .1 .1 .1 .1 .0),
     )
@@ -83,35 +82,35 @@ stored t c =
     let lower = c .before .before .before .before in
     let between = lower .before .before .before .before .before .before .before in
     let upper = between .before .before .before .before .before .before .before in
-    let counted = upper .before .before .before in
-    let if1 = counted .before .before in
+    let counted = upper .before .before .before .before in
+    let if1 = counted .before in
     let s = if1 .before .before .before .before .before in
     let a = s .args in
     let pins = a .pins .now in
     let G = gatesIn (a .before) pins (a .tables .now) in
-    let half = counted .before .places-at .result in
-    let same = between-pins (a .before) pins (a .tables .now) (a .base) half in
-    halves-stored G (a .level) (a .base) (a .start) (a .program .now) (if1 .if1 .taken) (counted .before .places-at .ensures .isPlaces)
-    (upper .program-universal .ensures) (ap (λ n. a .start + n) (counted .universal-takes .ensures .isTakes))
+    let h = halved (s .pre .1 .power) (if1 .if1 .taken) in
+    let same = between-pins (a .before) pins (a .tables .now) (a .base) (a .gates / 2) in
+    halves-stored G (a .gates) (a .base) (a .start) (a .program .now) h
+    (upper .program-universal .ensures) (ap (λ n. a .start + n) (counted .universal-counts .ensures .isBits))
     (between .program-between .ensures .1 ∙ ap (storeBits (upper .program-universal .last .1 .1 .1 .1 .1 .1 .0) _) same)
-    (between .program-between .ensures .0 ∙ ap (λ (bits : List ℕ). a .start + counted .universal-takes .result + length bits) same)
+    (between .program-between .ensures .0 ∙ ap (λ (bits : List ℕ). a .start + counted .universal-counts .result .bits + length bits) same)
     (lower .program-universal2 .ensures)
 
 gate-there : (t : ℕ) → program-universal-lts.Need-shared-slice-read-store-table (calls t) (universal-at t) program-universal.Post
 gate-there t c =
     let s = c .before .before .before .before .before .before in
-    omega (arith, pow-pos (s .args .level), s .pre .1 .gates, s .pre .1 .tableRoom)
+    let r = s .pre .1 in
+    omega (arith, pow-pos (gateLevel (s .args .gates)), r .power, r .all, r .tableRoom)
 
 table : (t : ℕ) → program-universal-lts.Need-returns-2 (calls t) (universal-at t) program-universal.Post
 table t c =
     let if1 = c .before .before .before .before .before in
     let a = if1 .before .before .before .before .before .args in
     c .before .before .store-table .ensures
-    ∙ gate-stored (gatesIn (a .before) (a .pins .now) (a .tables .now)) (a .level) (a .base) (a .start) (a .program .now) (if1 .if1 .left)
+    ∙ gate-stored (gatesIn (a .before) (a .pins .now) (a .tables .now)) (a .gates) (a .base) (a .start) (a .program .now) (if1 .if1 .left)
 
 pub +program-universal-spec : {M : Type 1} → statement M
 +program-universal-spec =
     close μ-program-universal λ t. program-universal-lts.spec (calls t) (universal-at t) program-universal.Post
-    (λ c. search needs) (λ c κs. search needs) (λ c. search needs) (λ c κs. search needs) (λ c. search needs) (λ c. search needs) (for-upper t)
-    (for-between t) (λ c. search needs) (λ c. search needs) (for-lower t) (gate-there t) (λ c κs. search needs) (λ c. search needs)
-    (λ c. search needs) (stored t) (λ c. search needs) (table t)
+    (λ c. search needs) (λ c κs. search needs) (λ c. search needs) (λ c. search needs) (for-upper t) (for-between t) (λ c. search needs)
+    (for-lower t) (gate-there t) (λ c κs. search needs) (λ c. search needs) (λ c. search needs) (stored t) (λ c. search needs) (table t)

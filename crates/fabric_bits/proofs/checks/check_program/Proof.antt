@@ -8,7 +8,6 @@ use Rattle.fault.specs.Number.{answerNumber}
 use Rattle.fault.specs.Checks.{roomFault}
 use Rattle.fault.specs.ChecksLaws.{first-refuses, second-answers}
 use Rattle.plan.specs.Faults.{planFault}
-use Rattle.plan.specs.FaultsLaws.{accepted-counts}
 use Rattle.fabric_bits.specs.ProgramCalls.{programLength, planProgramFault}
 use Rattle.fabric_bits.proofs.checks.check_program.Statement.{statement}
 use Rattle.fabric_bits.proofs.checks.check_program.Tie as tie
@@ -17,15 +16,12 @@ use Rattle.fabric_bits.proofs.checks.check_program.Tie as tie
 none : (c : tie.After-enum-told) → 0 ≡ planFault (c .before .before .before .args .plan)
 none c = ap answerNumber (sym (c .enum-told .given .1)) ∙ c .before .before .plan-fault .ensures
 
-for-length : tie.Need-program-length-requires
-for-length c κs = accepted-counts _ (sym (none (c .before .before .before)))
-
 short : tie.Need-returns
 unfolding planProgramFault roomFault
 short c =
-    let a = c .before .before .before .before .before .before .before .before .args in
+    let a = c .before .before .before .before .before .args in
     let h : a .room < programLength (a .plan) = omega (arith, c .before .program-length .ensures) in
-    second-answers _ _ _ (none (c .before .before .before .before .before)) (rw (lt-leb (programLength (a .plan)) (a .room) h))
+    second-answers _ _ _ (none (c .before .before)) (rw (lt-leb (programLength (a .plan)) (a .room) h))
 
 faulty : tie.Need-returns-2
 unfolding planProgramFault
@@ -35,13 +31,11 @@ faulty c =
 passes : tie.Need-returns-3
 unfolding planProgramFault roomFault
 passes c =
-    let a = c .before .before .before .before .before .before .before .before .args in
+    let a = c .before .before .before .before .before .args in
     let h : programLength (a .plan) ≤ a .room = omega (arith, c .before .program-length .ensures) in
-    second-answers _ _ _ (none (c .before .before .before .before .before)) (rw (le-leb (programLength (a .plan)) (a .room) h))
+    second-answers _ _ _ (none (c .before .before)) (rw (le-leb (programLength (a .plan)) (a .room) h))
 
 pub check-program-spec : {M : Type 1} → statement M
 check-program-spec =
     tie.close
-    (tie.spec
-    (λ c κs. search needs) (λ c. search needs) (λ c. search needs) (λ c. search needs) (λ c. search needs) (λ c. search needs) for-length
-    short faulty passes)
+    (tie.spec (λ c κs. search needs) (λ c. search needs) (λ c. search needs) (λ c κs. search needs) short faulty passes)

@@ -7,7 +7,6 @@ use borrow.Author.Needs.{needs}
 use lib.ListN.{length}
 use Rattle.fault.specs.Number.{answerNumber}
 use Rattle.fault.specs.BuffersLaws.{filled-refused, filled-done}
-use Rattle.plan.specs.FaultsLaws.{accepted-counts}
 use Rattle.networks.specs.Bits.{bytesFor, storeBits}
 use Rattle.elements.specs.StoreLaws.{store-zeroed, bytes-filled}
 use Rattle.universal.specs.Fabric.{planBits, planProgram}
@@ -25,13 +24,10 @@ module _ (c : tie.After-enum-told) where
   passes : let a = c .before .before .before .before .args in ProgramPasses (a .plan) (length (a .program .now))
   passes = program-passes _ _ (sym none)
 
-for-length : tie.Need-program-length-requires
-for-length c κs = accepted-counts _ (passes (c .before .before .before) .accepted)
-
 for-bits : tie.Need-store-plan-requires
 for-bits c κs =
     let filled = c .before .before .before .fill-bytes in
-    let h = passes (c .before .before .before .before .before .before .before .before .before) in
+    let h = passes (c .before .before .before .before .before .before) in
     (h .accepted, omega (arith, h .fits, filled .kept .0))
 
 refused : tie.Need-returns
@@ -46,7 +42,7 @@ done c =
     let stored = c .before .before .store-plan in
     let filled = c .before .before .before .before .before .before in
     let measured = filled .before .before .program-length in
-    let told = filled .before .before .before .before .before .before in
+    let told = filled .before .before .before in
     let a = told .before .before .before .before .args in
     let bits = planBits (a .plan) in
     let room : measured .result ≤ length (a .program .now) = omega (arith, passes told .fits, measured .ensures) in
@@ -60,5 +56,5 @@ pub program-plan-spec : {M : Type 1} → statement M
 program-plan-spec =
     tie.close
     (tie.spec
-    (λ c κs. search needs) (λ c. search needs) (λ c. search needs) (λ c. search needs) (λ c. search needs) (λ c. search needs) for-length
-    (λ c κs. search needs) for-bits refused (λ c. search needs) done)
+    (λ c κs. search needs) (λ c. search needs) (λ c. search needs) (λ c κs. search needs) (λ c κs. search needs) for-bits refused
+    (λ c. search needs) done)

@@ -1,17 +1,17 @@
--- `fabric_rows::block::write_universal` meets its contract, by the level: the steps of a level write what its definition says. Assumes nothing.
-use mathlib.Core.Path.{_≡_, sym, _∙_}
-use mathlib.Core.List.{List, _++_}
+-- `fabric_rows::block::write_universal` meets its contract, by the number of gates: the steps write what the definition of U says. Assumes
+-- nothing.
+use mathlib.Core.Path.{_≡_, refl, _∙_}
+use mathlib.Core.List.{List}
 use Prim.Native.Nat.{ℕ, _<_, _≤_}
 use native.Mathlib.Omega.{arith}
 use borrow.Author.Needs.{needs}
 use borrow.Fn.Kinds.{In}
 use borrow.Fn.PlainCycle.{Measures, is, falls, and}
-use lib.ListN.{length, drop}
-use lib.Seq.{length-take-le, length-front}
+use lib.ListN.{length}
 use Rattle.fault.specs.PartsLaws.{withPart, length-with}
 use Rattle.fabric_rows.specs.declared.block.Parts.{Parts}
 use Rattle.fabric_rows.specs.UniversalWriteLaws.{UniversalWritten, Begun, UpperDone, MiddleDone, LowerDone}
-use Rattle.fabric_rows.specs.UniversalWriteLaws.{upper-room, middle-room, select-start, outs-start, lower-start, lower-room, universal-written, gate-room, gate-written}
+use Rattle.fabric_rows.specs.UniversalWriteLaws.{upper-room, middle-room, select-start, outs-start, lower-start, pins-start, lower-room, universal-written, gate-room, gate-written}
 use Rattle.fabric_rows.proofs.block.write_universal.Reads as write-universal
 use Rattle.fabric_rows.proofs.block.write_universal.Kinds as write-universal-kinds
 use Rattle.fabric_rows.proofs.block.+write_universal.Lts-write_universal as write-universal-lts
@@ -21,14 +21,14 @@ use Rattle.fabric_rows.proofs.block.write_middle.Reads as write-middle-
 use Rattle.fabric_rows.proofs.block.+write_universal.{statement}
 use Rattle.fabric_rows.proofs.block.+write_universal.Tie.{close}
 
-abbrev μ-write-universal : Measures 4 write-universal-kinds.ps ℕ
+abbrev μ-write-universal : Measures 3 write-universal-kinds.ps ℕ
 μ-write-universal κs a = a .0
 
-abbrev write-universal-at : ℕ → In 4 write-universal-kinds.ps
-write-universal-at t = and 4 write-universal-kinds.ps (is 4 write-universal-kinds.ps μ-write-universal t) write-universal.Pre
+abbrev write-universal-at : ℕ → In 3 write-universal-kinds.ps
+write-universal-at t = and 3 write-universal-kinds.ps (is 3 write-universal-kinds.ps μ-write-universal t) write-universal.Pre
 
-abbrev write-universal-below : ℕ → In 4 write-universal-kinds.ps
-write-universal-below t = and 4 write-universal-kinds.ps (falls 4 write-universal-kinds.ps _<_ μ-write-universal t) write-universal.Pre
+abbrev write-universal-below : ℕ → In 3 write-universal-kinds.ps
+write-universal-below t = and 3 write-universal-kinds.ps (falls 3 write-universal-kinds.ps _<_ μ-write-universal t) write-universal.Pre
 
 -- what is known of the functions that it calls, itself among them
 abbrev claims : ℕ → write-universal-lts.Claims
@@ -55,85 +55,83 @@ module _ (t : ℕ) where
   Upper = write-universal-lts.After-write-universal (claims t) (write-universal-at t) write-universal.Post
 
   abbrev Fed : Type 0
-  Fed = write-universal-lts.After-fed (claims t) (write-universal-at t) write-universal.Post
+  Fed = write-universal-lts.After-slice-known6 (claims t) (write-universal-at t) write-universal.Post
 
   abbrev Middle : Type 0
   Middle = write-universal-lts.After-write-middle (claims t) (write-universal-at t) write-universal.Post
 
   abbrev Mixed : Type 0
-  Mixed = write-universal-lts.After-slice-known11 (claims t) (write-universal-at t) write-universal.Post
+  Mixed = write-universal-lts.After-slice-known8 (claims t) (write-universal-at t) write-universal.Post
 
   abbrev Lower : Type 0
   Lower = write-universal-lts.After-write-universal2 (claims t) (write-universal-at t) write-universal.Post
 
   abbrev Ended : Type 0
-  Ended = write-universal-lts.After-slice-known15 (claims t) (write-universal-at t) write-universal.Post
+  Ended = write-universal-lts.After-slice-known11 (claims t) (write-universal-at t) write-universal.Post
+
+  abbrev started : Parted → Start
+  started c = c .before .before .before .before .before
 
   abbrev parted : Upper → Parted
-  parted c = c .before .before .before .before .before .before .before
+  parted c = c .before .before .before .before
 
   abbrev fed : Fed → Upper
-  fed c = c .before .before .before .before .before .before .before .before .before
+  fed c = c .before .before .before .before .before .before
 
   abbrev upper : Middle → Upper
-  upper c = fed (c .before .before .before .before .before)
+  upper c = fed (c .before .before .before .before)
 
   abbrev mixed : Mixed → Middle
-  mixed c = c .before .before .before .before .before .before
+  mixed c = c .before .before .before .before
 
   abbrev middle : Lower → Middle
   middle c = mixed (c .before .before .before .before)
 
   abbrev lower : Ended → Lower
-  lower c = c .before .before .before .before .before .before .before .before
-
-  abbrev started : Parted → Start
-  started c = c .before .before .before .before .before .before
+  lower c = c .before .before .before .before .before .before
 
   abbrev parts : Upper → Parts
   parts c = parted c .parts-of .result
 
-  -- the table's part and the pins once the upper half, the rows between the halves, and the lower half are written
-  abbrev upperPins : Upper → List ℕ
-  upperPins c = c .write-universal .last .1 .1 .1 .0 ++ drop (parts c .pins) (started (parted c) .args .pins .now)
-
+  -- the table's part once the rows between the halves are written
   abbrev middleRows : Middle → List ℕ
   middleRows c = withPart (parts (upper c) .select) (upper c .write-universal .last .1 .1 .0) (c .write-middle .last .1 .0)
-
-  abbrev lowerRows : Lower → List ℕ
-  lowerRows c = withPart (parts (upper (middle c)) .lower) (middleRows (middle c)) (c .write-universal2 .last .1 .1 .0)
 
   -- the steps
   begun : (c : Parted) → (
       let a = started c .args in
-      Begun (a .level) (a .next .0) (c .parts-of .result) (a .rows .now) (a .pins .now) (a .outs .now) (length (a .selected .now)))
-  begun c = record { some = c .before .if1 .taken; room = started c .pre .1; at = c .parts-of .ensures }
+      Begun (a .gates) (a .next .0) (c .parts-of .result) (a .rows .now) (a .pins .now) (a .outs .now))
+  begun c = record { room = started c .pre .1; at = c .parts-of .ensures }
 
   upper-done : (c : Upper) → (
       let a = started (parted c) .args in
       let l = c .write-universal .last .1 .1 in
-      UpperDone (a .level) (a .next .0) (parts c) (a .rows .now) (a .pins .now) (a .outs .now) (l .0) (l .1 .0) (l .1 .1 .0))
+      UpperDone (a .next .0) (parts c) (a .rows .now) (a .pins .now) (a .outs .now) (l .0) (l .1 .0) (l .1 .1 .0))
   upper-done c =
-      record { kept = c .write-universal .kept .1 .1 .1 .0; rows = c .write-universal .ensures .0; outs = c .write-universal .ensures .1 }
+      let e = c .write-universal .ensures in
+      record { kept = c .write-universal .kept .1 .1 .1 .0; rows = e .0; pins = e .1 .0; outs = e .1 .1 }
 
   middle-done : (c : Middle) → (
-      let a = started (parted (upper c)) .args in
       let l = upper c .write-universal .last .1 .1 in
-      MiddleDone (parts (upper c)) (a .pins .now) (l .0) (l .1 .0) (l .1 .1 .0) (c .write-middle .last .1 .0) (c .write-middle .last .1 .1 .0))
+      MiddleDone (parts (upper c)) (l .0) (l .1 .0) (l .1 .1 .0) (c .write-middle .last .1 .0) (c .write-middle .last .1 .1 .0))
   middle-done c = record { rows = c .write-middle .ensures .0; pins = c .write-middle .ensures .1 }
 
   lower-done : (c : Lower) → (
       let m = middle c in
-      let l = upper m .write-universal .last .1 .1 in
-      LowerDone (started (parted (upper m)) .args .level) (parts (upper m)) (l .0) (l .1 .1 .0) (m .write-middle .last .1 .0)
-      (m .write-middle .last .1 .1 .0) (c .write-universal2 .last .1 .1 .0) (c .write-universal2 .last .1 .1 .1 .1 .0))
-  lower-done c = record { rows = c .write-universal2 .ensures .0; outs = c .write-universal2 .ensures .1 }
+      let l = c .write-universal2 .last .1 .1 in
+      LowerDone (started (parted (upper m)) .args .gates) (parts (upper m)) (middleRows m) (m .write-middle .last .1 .1 .0)
+      (upper m .write-universal .last .1 .1 .1 .1 .0) (l .0) (l .1 .0) (l .1 .1 .0))
+  lower-done c =
+      let e = c .write-universal2 .ensures in
+      record { rows = e .0; pins = e .1 .0; outs = e .1 .1 }
 
   done : (c : Lower) → (
       let m = middle c in
       let a = started (parted (upper m)) .args in
-      UniversalWritten (a .level) (a .next .0) (a .pins .now) (a .rows .now) (a .outs .now) (lowerRows c)
-      (withPart (parts (upper m) .half) (upper m .write-universal .last .1 .1 .1 .1 .0) (c .write-universal2 .last .1 .1 .1 .1 .0)))
+      let l = c .write-universal2 .last .1 .1 in
+      UniversalWritten (a .gates) (a .next .0) (a .rows .now) (a .pins .now) (a .outs .now)
+      (withPart (parts (upper m) .lower) (middleRows m) (l .0)) (withPart (a .gates) (m .write-middle .last .1 .1 .0) (l .1 .0))
+      (withPart (parts (upper m) .half) (upper m .write-universal .last .1 .1 .1 .1 .0) (l .1 .1 .0)))
   done c =
       let m = middle c in
       universal-written (begun (parted (upper m))) (upper-done (upper m)) (middle-done m) (lower-done c)
@@ -142,27 +140,25 @@ module _ (t : ℕ) where
   select-fits : (c : Upper) → parts c .select ≤ length (c .write-universal .last .1 .1 .0)
   select-fits c = select-start (begun (parted c)) (upper-done c)
 
-  outs-fit : (c : Upper) → parts c .half ≤ length (c .write-universal .last .1 .1 .1 .1 .0)
-  outs-fit c = outs-start (begun (parted c)) (upper-done c)
-
   lower-fits : (c : Middle) → parts (upper c) .lower ≤ length (middleRows c)
   lower-fits c = lower-start (begun (parted (upper c))) (upper-done (upper c)) (middle-done c)
 
-  -- the pins and the selected wires stay as many
+  pins-fit : (c : Middle) → started (parted (upper c)) .args .gates ≤ length (c .write-middle .last .1 .1 .0)
+  pins-fit c = pins-start (begun (parted (upper c))) (upper-done (upper c)) (middle-done c)
+
+  outs-fit : (c : Upper) → parts c .half ≤ length (c .write-universal .last .1 .1 .1 .1 .0)
+  outs-fit c = outs-start (begun (parted c)) (upper-done c)
+
+  -- the pins stay as many
   pins-kept : (c : Lower) → (
-      let up = upper (middle c) in
-      length (withPart (parts up .pins) (upperPins up) (c .write-universal2 .last .1 .1 .1 .0)) ≡ length (started (parted up) .args .pins .now))
+      let m = middle c in
+      let a = started (parted (upper m)) .args in
+      length (withPart (a .gates) (m .write-middle .last .1 .1 .0) (c .write-universal2 .last .1 .1 .1 .0)) ≡ length (a .pins .now))
   pins-kept c =
       let m = middle c in
-      let up = upper m in
-      length-with (parts up .pins) (upperPins up) (c .write-universal2 .last .1 .1 .1 .0)
-      (c .write-universal2 .kept .1 .1 .1 .0 ∙ m .write-middle .kept .1 .1 .0)
-      ∙ length-front (started (parted up) .args .pins .now) (up .write-universal .last .1 .1 .1 .0) (parts up .pins) (upper-done up .kept)
-
-  selected-kept : (c : Lower) → length (c .write-universal2 .last .1 .1 .1 .1 .1 .0) ≡ length (started (parted (upper (middle c))) .args .selected .now)
-  selected-kept c =
-      let m = middle c in
-      c .write-universal2 .kept .1 .1 .1 .1 .1 .0 ∙ m .write-middle .kept .1 .1 .1 .1 .0 ∙ upper m .write-universal .kept .1 .1 .1 .1 .1 .0
+      length-with (started (parted (upper m)) .args .gates) (m .write-middle .last .1 .1 .0) (c .write-universal2 .last .1 .1 .1 .0)
+      (c .write-universal2 .kept .1 .1 .1 .0)
+      ∙ m .write-middle .kept .1 .1 .0 ∙ upper m .write-universal .kept .1 .1 .1 .0
 
 pub +write-universal-spec : {M : Type 1} → statement M
 +write-universal-spec =
@@ -173,48 +169,46 @@ pub +write-universal-spec : {M : Type 1} → statement M
     write-universal.Post
     -- the parts
     (λ c κs.
-    let pre = c .before .before .before .before .before .pre .1 in
-    record { some = c .if1 .taken; small = pre .small; wires = pre .wires })
-    (λ c. search needs) (λ c. search needs)
-    -- the upper half and its pins
-    (λ c. search needs) (λ c. search needs)
-    (λ c.
-    let start = started t (c .before .before .before .before) in
-    sym (length-take-le _ (start .args .pins .now) (search needs)))
-    (λ c κs. (search needs, upper-room (begun t (c .before .before .before .before .before .before))))
-    -- the rows between the halves, their stretch and the lower half's pins
-    (λ c. search needs) (λ c. search needs) (λ c. search needs) (λ c. search needs)
-    (λ c. let b = begun t (parted t (fed t c)) in omega arith)
+    let pre = c .before .before .before .before .pre .1 in
+    record { some = c .if1 .taken; power = pre .power; few = pre .few; wires = pre .wires })
+    (λ c. search needs)
+    -- the upper half
+    (λ c κs.
+    let p = c .before .before .before in
+    let b = begun t p in
+    (omega (arith, started t p .pre .0), upper-room b))
+    -- the rows between the halves and their stretch
+    (λ c. search needs)
     (λ c. select-fits t (fed t c))
     (λ c. let s = select-fits t (fed t c) in search needs)
     (λ c. search needs)
-    (λ c κs.
-    let up = fed t (c .before .before .before .before) in
-    let kept = up .write-universal .kept .1 .1 .1 .1 .1 .0 in
-    rw kept (middle-room (begun t (parted t up)) (upper-done t up)))
-    -- the lower half, its stretch and its output wires
-    (λ c. begun t (parted t (upper t (mixed t c))) .some)
-    (λ c. let b = begun t (parted t (upper t (mixed t c))) in omega arith)
+    (λ c κs. let up = fed t (c .before .before .before) in middle-room (begun t (parted t up)) (upper-done t up))
+    -- the lower half: its stretch, its pins, its output wires
+    (λ c. search needs)
     (λ c. lower-fits t (mixed t c))
     (λ c. let s = lower-fits t (mixed t c) in search needs)
     (λ c. search needs)
-    (λ c. let b = begun t (parted t (upper t (mixed t (c .before)))) in omega arith)
-    (λ c. outs-fit t (upper t (mixed t (c .before))))
-    (λ c. let s = outs-fit t (upper t (mixed t (c .before))) in search needs)
+    (λ c. search needs)
+    (λ c. pins-fit t (mixed t (c .before)))
+    (λ c. let s = pins-fit t (mixed t (c .before)) in search needs)
+    (λ c. search needs)
+    (λ c. search needs)
+    (λ c. outs-fit t (upper t (mixed t (c .before .before))))
+    (λ c. let s = outs-fit t (upper t (mixed t (c .before .before))) in search needs)
     (λ c. search needs)
     (λ c κs.
     let m = mixed t (c .before .before .before) in
     let p = parted t (upper t m) in
-    let kept = m .write-middle .kept .1 .1 .1 .1 .0 ∙ upper t m .write-universal .kept .1 .1 .1 .1 .1 .0 in
-    let falls = started t p .pre .0 in
-    (omega (arith, begun t p .some), rw kept (lower-room (begun t p) (upper-done t (upper t m)) (middle-done t m))))
+    let b = begun t p in
+    (omega (arith, started t p .pre .0), lower-room b (upper-done t (upper t m)) (middle-done t m)))
     -- U(1)
-    (λ c κs. gate-room (c .before .before .before .if1 .left) (c .before .before .before .before .before .before .before .before .pre .1))
+    (λ c κs. gate-room (c .before .before .before .if1 .left) (c .before .before .before .before .before .before .before .pre .1))
     -- what is written
-    (λ c. done t (lower t c) .rowsLength) (λ c. pins-kept t (lower t c)) (λ c. done t (lower t c) .outsLength) (λ c. selected-kept t (lower t c))
-    (λ c. let w = done t (lower t c) in (w .rows, w .outs))
-    -- and at level 0
+    (λ c. done t (lower t c) .rowsLength) (λ c. pins-kept t (lower t c)) (λ c. done t (lower t c) .outsLength)
+    (λ c. let w = done t (lower t c) in (w .rows, (w .pins, w .outs)))
+    -- and by one gate
     (λ c. search needs) (λ c. search needs) (λ c. search needs)
     (λ c.
     let gate = c .before .before .before .before in
-    gate-written _ _ _ _ _ _ _ (gate .before .before .before .before .if1 .left) (gate .write-gate .ensures))
+    let w = gate-written _ _ _ _ _ _ _ (gate .before .before .before .before .if1 .left) (gate .write-gate .ensures) in
+    (w .0, (refl, w .1)))

@@ -1,7 +1,8 @@
--- `fabric_rows::block::parts_of` meets its contract: the parts of a level follow each other, and make up its rows and wires. Assumes nothing.
+-- `fabric_rows::block::parts_of` meets its contract: the parts of U follow each other, and make up its rows and wires. Assumes nothing.
 use native.Mathlib.Omega.{arith}
 use mathlib.Core.Path.{refl}
 use borrow.Author.Needs.{needs}
+use Rattle.fabric_sizes.specs.PartsLaws.{halved}
 use Rattle.fabric_rows.specs.BlockLaws.{part-wire, parts-at}
 use Rattle.fabric_rows.proofs.block.parts_of.Statement.{statement}
 use Rattle.fabric_rows.proofs.block.parts_of.Tie as tie
@@ -13,14 +14,12 @@ parts c =
     let select = mix .before in
     let counted = select .before .before .before .before .before in
     let upper = counted .before in
-    let half = upper .before in
-    let w = half .before .pre in
-    let h = half .places-at .ensures in
+    let w = upper .before .pre in
+    let h = halved (w .power) (w .some) in
     let u = upper .universal-counts .ensures in
-    let s = counted .selection-counts .ensures in
+    let s = counted .pin-counts .ensures in
     parts-at w h u s
     (record {
-      halfIs = refl;
       pinsAre = refl;
       selectAt = select .row-place .ensures;
       mixAt = mix .row-place2 .ensures;
@@ -34,6 +33,5 @@ pub parts-of-spec : {M : Type 1} → statement M
 parts-of-spec =
     tie.close
     (tie.spec
-    (λ c. search needs) (λ c κs. search needs) (λ c. search needs) (λ c. search needs) (λ c κs. search needs) (λ c κs. search needs)
-    (λ c. search needs) (λ c. search needs) (λ c κs. search needs) (λ c κs. search needs) (λ c. search needs) (λ c κs. search needs)
-    (λ c κs. search needs) (λ c κs. search needs) (λ c. search needs) (λ c κs. search needs) parts)
+    (λ c κs. search needs) (λ c κs. search needs) (λ c. search needs) (λ c. search needs) (λ c κs. search needs) (λ c κs. search needs)
+    (λ c. search needs) (λ c κs. search needs) (λ c κs. search needs) (λ c κs. search needs) (λ c. search needs) (λ c κs. search needs) parts)

@@ -1,23 +1,28 @@
--- `fabric_rows::block::write_middle` meets its contract: the Y rows behind the selection block. Assumes nothing.
+-- `fabric_rows::block::write_middle` meets its contract: the Y rows behind the selection block, and their output wires behind its. Assumes
+-- nothing.
 use borrow.Author.Needs.{needs}
-use Rattle.fabric_rows.specs.BlockLaws.{middle-written}
+use Rattle.fabric_rows.specs.BlockLaws.{middle-written, middle-fed}
 use Rattle.fabric_rows.proofs.block.write_middle.Statement.{statement}
 use Rattle.fabric_rows.proofs.block.write_middle.Tie as tie
 
 written : tie.Need-returns
 written c =
-    let mixed = c .before .before .before .before in
-    let select = mixed .before .before .before .before .before .before .before .before in
+    let fed = c .before .before in
+    let mixed = fed .before .before .before .before in
+    let select = mixed .before .before .before .before .before .before .before in
     let start = select .before .before .before .before .before .before .before in
     let a = start .args in (
-      middle-written (a .parts) (a .outs .now) (a .pins .now) (a .rows .now) (a .selected .now) _ _ _ (start .pre) (select .put-selection .ensures)
-          (mixed .write-mix .ensures .0),
-      mixed .write-mix .ensures .1,
+      middle-written (a .parts) (a .outs .now) (a .rows .now) (a .pins .now) (start .pre) (select .put-selection .ensures) (mixed .write-mix .ensures),
+      middle-fed (a .parts) (a .outs .now) (a .rows .now) (a .pins .now) (start .pre) (select .put-selection .ensures) (fed .put-wires .ensures),
     )
 
 pub write-middle-spec : {M : Type 1} → statement M
 write-middle-spec =
     tie.close
     (tie.spec
-    (λ c κs. search needs) (λ c. search needs) (λ c. search needs) (λ c. search needs) (λ c. search needs) (λ c κs. search needs)
-    (λ c. search needs) (λ c. search needs) (λ c. search needs) written)
+    (λ c. search needs) (λ c κs. search needs)
+    -- the Y rows and their stretch
+    (λ c. search needs) (λ c. search needs) (λ c. search needs) (λ c. search needs) (λ c κs. search needs)
+    -- their output wires in the pins' place
+    (λ c. search needs) (λ c. search needs) (λ c. search needs) (λ c. search needs) (λ c κs. search needs)
+    (λ c. search needs) (λ c. search needs) written)

@@ -13,10 +13,10 @@ use Rattle.fabric_rows.proofs.writing.put_fabric.Statement.{statement}
 use Rattle.fabric_rows.proofs.writing.put_fabric.Tie as tie
 
 -- the way back from S(K, v) to U(K), to S(u, 2K), to the header, to the layout
-abbrev gates : tie.After-put-outputs → tie.After-put-gates
+abbrev gates : tie.After-put-outputs → tie.After-write-universal
 gates c = c .before .before .before .before .before .before .before
 
-abbrev pins : tie.After-put-gates → tie.After-put-pins
+abbrev pins : tie.After-write-universal → tie.After-put-pins
 pins c = c .before .before .before .before .before .before .before
 
 abbrev headed : tie.After-put-pins → tie.After-put-header
@@ -43,19 +43,19 @@ pins-done : (c : tie.After-put-pins) → (
     (c .put-pins .last .1 .1 .1 .0))
 pins-done c = record { rows = c .put-pins .ensures .0; pins = c .put-pins .ensures .1 }
 
-abbrev gateRows : tie.After-put-gates → List ℕ
-gateRows c = withPart (layout (headed (pins c)) .universal) (pinRows (pins c)) (c .put-gates .last .1 .1 .0)
+abbrev gateRows : tie.After-write-universal → List ℕ
+gateRows c = withPart (layout (headed (pins c)) .universal) (pinRows (pins c)) (c .write-universal .last .1 .1 .0)
 
-gates-done : (c : tie.After-put-gates) → (
+gates-done : (c : tie.After-write-universal) → (
     let p = pins c in
-    GatesDone (layout (headed p)) (pinRows p) (p .put-pins .last .1 .1 .1 .0) (replicate maxGates 0) (c .put-gates .last .1 .1 .0)
-    (c .put-gates .last .1 .1 .1 .1 .0))
-gates-done c = record { rows = c .put-gates .ensures .0; outs = c .put-gates .ensures .1 }
+    GatesDone (layout (headed p)) (pinRows p) (p .put-pins .last .1 .1 .1 .0) (replicate maxGates 0) (c .write-universal .last .1 .1 .0)
+    (c .write-universal .last .1 .1 .1 .1 .0))
+gates-done c = record { rows = c .write-universal .ensures .0; outs = c .write-universal .ensures .1 .1 }
 
 for-pins : tie.Need-put-pins-requires
 for-pins c κs = pin-room (begun (c .before .before .before .before))
 
-for-gates : tie.Need-put-gates-requires
+for-gates : tie.Need-write-universal-requires
 for-gates c κs =
     let p = c .before .before .before .before .before .before in
     let kept = p .put-pins .kept .1 .1 .1 .0 in

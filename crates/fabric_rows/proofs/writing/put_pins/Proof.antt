@@ -20,4 +20,5 @@ pub put-pins-spec : {M : Type 1} → statement M
 put-pins-spec =
     tie.close
     (tie.spec
-    (λ c. search needs) (λ c κs. search needs) (λ c. search needs) (λ c. search needs) passes (λ c. search needs) (λ c. search needs) written)
+    (λ c. search needs) (λ c κs. search needs) (λ c. search needs) (λ c. search needs) (λ c. search needs) passes (λ c. search needs)
+    (λ c. search needs) written)

@@ -1,0 +1,43 @@
+-- The counts of a fabric's parts: the rows of a block, the wires that they make, and their program bits.
+use Prim.Native.Nat.{ℕ, suc, _^_, _≤_}
+use mathlib.Core.Path.{_≡_}
+use Rattle.networks.specs.Selection.{selectionCount, selectionWires}
+use Rattle.universal.specs.Selector.{selection}
+use Rattle.universal.specs.Universal.{universalCount, universalWires, universalTakes}
+use Rattle.universal.specs.Fabric.{gateLevel}
+use Rattle.fabric_sizes.specs.declared.parts.BlockCounts.{BlockCounts}
+
+-- the largest level of U, where its gates are counted in 16 bits
+abbrev pub topLevel : ℕ
+topLevel = 16
+
+-- then no part of a fabric has more rows, wires or bits
+abbrev pub blockLimit : ℕ
+blockLimit = 2 ^ 26
+
+-- K
+pub record PlacesAre (k places : ℕ) : Type 0 where
+  pub isPlaces : places ≡ 2 ^ gateLevel k
+  pub some : 1 ≤ places
+  pub most : places ≤ 2 ^ topLevel
+
+-- a block's counts, which are small
+pub record BlockIs (rows wires bits : ℕ) (c : BlockCounts) : Type 0 where
+  pub isRows : c .rows ≡ rows
+  pub isWires : c .wires ≡ wires
+  pub isBits : c .bits ≡ bits
+  pub fewRows : c .rows ≤ blockLimit
+  pub fewWires : c .wires ≤ blockLimit
+  pub fewBits : c .bits ≤ blockLimit
+
+-- of S(m, n), where neither side has more than the pins of the largest U
+pub record SidesWithin (m n : ℕ) : Type 0 where
+  pub inputs : m ≤ 2 ^ suc topLevel
+  pub outputs : n ≤ 2 ^ suc topLevel
+
+abbrev pub SelectionIs : ℕ → ℕ → BlockCounts → Type 0
+SelectionIs m n c = BlockIs (selectionCount m n) (selectionWires m n) (selectionCount m n) c
+
+-- of U at a level
+abbrev pub UniversalIs : ℕ → BlockCounts → Type 0
+UniversalIs n c = BlockIs (universalCount selection n) (universalWires selection n) (universalTakes selection n) c

@@ -1,0 +1,66 @@
+// Counting: the rows, wires and program bits of the fabric of three counts, and the stated lengths that follow from them.
+ghost use mathlib.Core.Path.{_≡_};
+ghost use Rattle.networks.specs.Bits.{bytesFor};
+ghost use Rattle.universal.specs.Fabric.{fabricTakes};
+ghost use Rattle.fabric_sizes.specs.Counting.{countAnswer, counting, FabricCounts, tableLength};
+use crate::parts::output_counts;
+use crate::parts::pin_counts;
+use crate::parts::universal_counts;
+use elements::HEADER;
+use elements::row_place;
+use fault::Answer;
+use fault::Fault;
+use plan::counts_fault;
+
+// The rows, wires and program bits of a fabric.
+pub struct Counts {
+    pub rows: u32,
+    pub wires: u32,
+    pub bits: u32,
+}
+
+// The answer of counting.
+pub enum CountAnswer {
+    Counted(Counts),
+    Refused(Fault),
+}
+
+// The counts of the fabric of u inputs, k gates and v outputs.
+pub fn count_fabric(u: u32, k: u32, v: u32) -> CountAnswer
+    ensures { λ r. ⌜ countAnswer r ≡ counting u k v ⌝ }
+{
+    match counts_fault(u, k, v) {
+        Answer::Refused(f) => CountAnswer::Refused(f),
+        Answer::Done => CountAnswer::Counted(fabric_counts(u as u16, k as u16, v as u16)),
+    }
+}
+
+// The same without the checks, for any three counts of 16 bits.
+pub fn fabric_counts(u: u16, k: u16, v: u16) -> Counts
+    ensures { λ r. ⌜ FabricCounts u k v r ⌝ }
+{
+    let pins = pin_counts(u, k);
+    let universal = universal_counts(k);
+    let outputs = output_counts(k, v);
+    Counts {
+        rows: pins.rows + universal.rows + outputs.rows,
+        wires: 1 + u as u32 + pins.wires + universal.wires + outputs.wires,
+        bits: pins.bits + universal.bits + outputs.bits,
+    }
+}
+
+// The entries of its table.
+pub fn table_length(u: u16, k: u16, v: u16) -> usize
+    ensures { λ r. ⌜ r ≡ tableLength u k v ⌝ }
+{
+    let counts = fabric_counts(u, k, v);
+    HEADER + row_place(counts.rows) + v as usize
+}
+
+// The bytes of its programs.
+pub fn program_length(u: u16, k: u16, v: u16) -> usize
+    ensures { λ r. ⌜ r ≡ bytesFor (fabricTakes u k v) ⌝ }
+{
+    let counts = fabric_counts(u, k, v);
+    (counts.bits as usize + 7) / 8
+}

@@ -1,0 +1,16 @@
+// The sizes of fabrics: how many rows, wires and program bits U, the fabric's other parts and the fabric have, and how long its table and its
+// program are. Every call takes all numbers.
+mod counting;
+mod parts;
+
+pub use counting::CountAnswer;
+pub use counting::Counts;
+pub use counting::count_fabric;
+pub use counting::fabric_counts;
+pub use counting::program_length;
+pub use counting::table_length;
+pub use parts::BlockCounts;
+pub use parts::gate_places;
+pub use parts::output_counts;
+pub use parts::pin_counts;
+pub use parts::universal_counts;
