@@ -23,7 +23,7 @@ use Rattle.fabric_bits.specs.ProgramCalls.{programLength, planProgramFault, pla
 use Rattle.fabric_bits.specs.PlanProgramLaws.{program-succeeds, programmed-read}
 use Rattle.run_checks.specs.RunFault.{runFault}
 use Rattle.run.specs.RunCalls.{runResult}
-use Rattle.equivalence.specs.TwinCalls.{tableOf, entriesOf, wiresOf}
+use Rattle.equivalence.specs.BothCalls.{tableOf, entriesOf, wiresOf}
 
 -- "A row of input contacts is u entries, each 0 or 1"
 pub record ContactRow (u : ℕ) (row : List ℕ) : Type 0 where

@@ -1,6 +1,6 @@
 // Where a table's entries stand, and what a row of a kind makes and takes.
 ghost use mathlib.Core.Path.{_≡_};
-ghost use Prim.Native.Nat.{_+_, _*_, _<_, _≤_};
+ghost use Prim.Native.Nat.{_+_, _*_, _≤_};
 ghost use lib.ListN.{length};
 ghost use Rattle.networks.specs.Rows.{stride};
 ghost use Rattle.universal.specs.Tables.{header, outputsIn, rowsIn, maxFabricWires};

@@ -4,7 +4,7 @@ use crate::line::print;
 use crate::line::put_byte;
 use crate::line::put_entries;
 use crate::print_refusal;
-use equivalence::run_twin;
+use equivalence::run_both;
 use fault::Answer;
 use fault::Fault;
 use plan::Plan;
@@ -96,7 +96,7 @@ fn run_row(
     if u > inputs.len() {
         return Answer::Refused(Fault::Inputs);
     }
-    run_twin(plan, &inputs[..u], table, program, work, evaluated, ran)
+    run_both(plan, &inputs[..u], table, program, work, evaluated, ran)
 }
 
 // Input i + 1 is bit i of r.

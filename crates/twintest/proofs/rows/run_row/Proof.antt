@@ -6,7 +6,7 @@ use lib.Seq.{length-take-le}
 use Rattle.twintest.proofs.rows.run_row.Statement.{statement}
 use Rattle.twintest.proofs.rows.run_row.Tie as tie
 
-first : tie.Need-slice-aggregate-run-twin
+first : tie.Need-slice-aggregate-run-both
 first c = sym (length-take-le _ _ (omega arith))
 
 pub run-row-spec : {M : Type 1} → statement M

@@ -1,9 +1,9 @@
--- `equivalence::twin::make_twin` meets its contract: what the first two calls wrote is run, and none of the four refuses. Assumes nothing.
+-- `equivalence::both::make_both` meets its contract: what the first two calls wrote is run, and none of the four refuses. Assumes nothing.
 use native.Mathlib.Omega.{arith}
 use borrow.Author.Needs.{needs}
-use Rattle.equivalence.specs.TwinLaws.{made-table, made-program, made-work, made-evaluated, made-ran}
-use Rattle.equivalence.proofs.twin.make_twin.Statement.{statement}
-use Rattle.equivalence.proofs.twin.make_twin.Tie as tie
+use Rattle.equivalence.specs.BothLaws.{made-table, made-program, made-work, made-evaluated, made-ran}
+use Rattle.equivalence.proofs.both.make_both.Statement.{statement}
+use Rattle.equivalence.proofs.both.make_both.Tie as tie
 
 -- the buffers have kept their lengths
 written : tie.Need-run-written-requires
@@ -49,8 +49,8 @@ made c =
       ),
     )
 
-pub make-twin-spec : {M : Type 1} → statement M
-make-twin-spec =
+pub make-both-spec : {M : Type 1} → statement M
+make-both-spec =
     tie.close
     (tie.spec
     (λ c κs. search needs) (λ c. search needs) (λ c. search needs) (λ c. search needs) (λ c κs. search needs) (λ c κs. search needs)

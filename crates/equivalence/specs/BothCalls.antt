@@ -24,29 +24,29 @@ module _ (p : Plan) where
   wiresOf = fabricWires (p .inputs) (p .«gate_count») (p .«output_count»)
 
   -- 11 for lent buffers of so many entries: table, program, work, and the two results
-  unfoldable pub twinRoomFault : ℕ → ℕ → ℕ → ℕ → ℕ → ℕ
-  twinRoomFault table program work evaluated ran =
+  unfoldable pub bothRoomFault : ℕ → ℕ → ℕ → ℕ → ℕ → ℕ
+  bothRoomFault table program work evaluated ran =
       andThen (roomFault entriesOf table)
       (andThen (roomFault (programLength p) program)
       (andThen (roomFault wiresOf work) (andThen (roomFault (p .«output_count») evaluated) (roomFault (p .«output_count») ran))))
 
   -- plan faults, 12, 11
-  unfoldable pub twinFault : List ℕ → ℕ → ℕ → ℕ → ℕ → ℕ → ℕ
-  twinFault row table program work evaluated ran =
-      andThen (planFault p) (andThen (contactFault (p .inputs) row) (twinRoomFault table program work evaluated ran))
+  unfoldable pub bothFault : List ℕ → ℕ → ℕ → ℕ → ℕ → ℕ → ℕ
+  bothFault row table program work evaluated ran =
+      andThen (planFault p) (andThen (contactFault (p .inputs) row) (bothRoomFault table program work evaluated ran))
 
   -- each lent buffer after a call whose checks gave the number n
-  abbrev pub twinTable : ℕ → List ℕ → List ℕ
-  twinTable n table = filled n tableOf table
+  abbrev pub bothTable : ℕ → List ℕ → List ℕ
+  bothTable n table = filled n tableOf table
 
-  abbrev pub twinProgram : ℕ → List ℕ → List ℕ
-  twinProgram n program = filled n (planProgram p) program
+  abbrev pub bothProgram : ℕ → List ℕ → List ℕ
+  bothProgram n program = filled n (planProgram p) program
 
-  abbrev pub twinWork : ℕ → List ℕ → List ℕ → List ℕ
-  twinWork n row work = filled n (runWires tableOf (planProgram p) row) work
+  abbrev pub bothWork : ℕ → List ℕ → List ℕ → List ℕ
+  bothWork n row work = filled n (runWires tableOf (planProgram p) row) work
 
-  abbrev pub twinEvaluated : ℕ → List ℕ → List ℕ → List ℕ
-  twinEvaluated n row evaluated = filled n (planOutputs 0 gateBit p row) evaluated
+  abbrev pub bothEvaluated : ℕ → List ℕ → List ℕ → List ℕ
+  bothEvaluated n row evaluated = filled n (planOutputs 0 gateBit p row) evaluated
 
-  abbrev pub twinRan : ℕ → List ℕ → List ℕ → List ℕ
-  twinRan n row ran = filled n (runOutputs tableOf (planProgram p) row) ran
+  abbrev pub bothRan : ℕ → List ℕ → List ℕ → List ℕ
+  bothRan n row ran = filled n (runOutputs tableOf (planProgram p) row) ran

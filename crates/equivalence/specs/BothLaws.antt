@@ -25,8 +25,8 @@ use Rattle.fabric_bits.specs.ProgramCalls.{programLength, planProgramResult}
 use Rattle.fabric_bits.specs.PlanProgramLaws.{programmed-read}
 use Rattle.run_checks.specs.RunFault.{runFault}
 use Rattle.run.specs.RunCalls.{runWork, runResult}
-use Rattle.equivalence.specs.declared.twin.Lengths.{Lengths}
-use Rattle.equivalence.specs.TwinCalls.{tableOf, entriesOf, wiresOf, twinRoomFault, twinFault, twinEvaluated, twinRan}
+use Rattle.equivalence.specs.declared.both.Lengths.{Lengths}
+use Rattle.equivalence.specs.BothCalls.{tableOf, entriesOf, wiresOf, bothRoomFault, bothFault, bothEvaluated, bothRan}
 use Rattle.equivalence.specs.ThirdDemand.{ContactRow, Rooms, ThirdDemand, fabric-unrefused, third-demand}
 
 -- the stated lengths
@@ -36,15 +36,15 @@ pub record LengthsAre (p : Plan) (l : Lengths) : Type 0 where
   pub work : l .work ≡ wiresOf p
 
 -- what holds where no check fails
-pub record TwinPasses (p : Plan) (row : List ℕ) (table program work evaluated ran : ℕ) : Type 0 where
+pub record BothPasses (p : Plan) (row : List ℕ) (table program work evaluated ran : ℕ) : Type 0 where
   pub accepted : Accepted p
   pub contact : contactFault (p .inputs) row ≡ 0
   pub rooms : Rooms p table program work evaluated ran
 
-pub twin-passes : (p : Plan) (row : List ℕ) (table program work evaluated ran : ℕ) → twinFault p row table program work evaluated ran ≡ 0
-    → TwinPasses p row table program work evaluated ran
-unfolding twinFault twinRoomFault roomFault
-twin-passes p row table program work evaluated ran e =
+pub both-passes : (p : Plan) (row : List ℕ) (table program work evaluated ran : ℕ) → bothFault p row table program work evaluated ran ≡ 0
+    → BothPasses p row table program work evaluated ran
+unfolding bothFault bothRoomFault roomFault
+both-passes p row table program work evaluated ran e =
     let h = simp (and-then-zero, unless-zero) at e in
     let rooms = h .1 .1 in
     record {
@@ -64,9 +64,9 @@ pub contact-row : (u : ℕ) (row : List ℕ) → contactFault u row ≡ 0 → Co
 contact-row u row e = record { size = row-length u row e; bit = λ i l. row-bit u row e i }
 
 -- the two results are equal, entry by entry
-pub twin-same : (p : Plan) (row evaluated ran : List ℕ) → Accepted p → contactFault (p .inputs) row ≡ 0
-    → (j : ℕ) → j < p .«output_count» → getD (twinEvaluated p 0 row evaluated) j 0 ≡ getD (twinRan p 0 row ran) j 0
-twin-same p row evaluated ran accepted contact j l =
+pub both-same : (p : Plan) (row evaluated ran : List ℕ) → Accepted p → contactFault (p .inputs) row ≡ 0
+    → (j : ℕ) → j < p .«output_count» → getD (bothEvaluated p 0 row evaluated) j 0 ≡ getD (bothRan p 0 row ran) j 0
+both-same p row evaluated ran accepted contact j l =
     let outs = planOutputs 0 gateBit p row in
     let e : runOutputs (tableOf p) (planProgram p) row ≡ outs = fabric-runs p row accepted contact in
     let n : j < length outs = rw (length-listOf (p .«output_count») _) l in
@@ -81,7 +81,7 @@ refused-same f z = absurd (omega (arith, number-positive f))
 
 -- the four calls, one after another, where no check fails: what each leaves in its buffer
 module _ (p : Plan) (row table program work evaluated ran : List ℕ)
-    (passes : TwinPasses p row (length table) (length program) (length work) (length evaluated) (length ran)) where
+    (passes : BothPasses p row (length table) (length program) (length work) (length evaluated) (length ran)) where
   abbrev u : ℕ
   u = p .inputs
 

@@ -9,8 +9,8 @@ ghost use Rattle.evaluation.specs.Evaluation.{gateBit, planOutputs};
 ghost use Rattle.universal.specs.Fabric.{planProgram};
 ghost use Rattle.universal.specs.Tables.{runWires, runOutputs};
 ghost use Rattle.run.specs.RunCalls.{runWork, runResult};
-ghost use Rattle.equivalence.specs.TwinCalls.{tableOf, twinRoomFault, twinFault, twinTable, twinProgram, twinWork, twinEvaluated, twinRan};
-ghost use Rattle.equivalence.specs.TwinLaws.{LengthsAre, TwinPasses};
+ghost use Rattle.equivalence.specs.BothCalls.{tableOf, bothRoomFault, bothFault, bothTable, bothProgram, bothWork, bothEvaluated, bothRan};
+ghost use Rattle.equivalence.specs.BothLaws.{LengthsAre, BothPasses};
 use evaluation::contact_fault;
 use evaluation::evaluate;
 use fabric_bits::program_plan;
@@ -32,7 +32,7 @@ struct Lengths {
 }
 
 // The plan's outputs on the row into `evaluated`, the fabric's into `ran`; table, program and work are the fabric's.
-pub fn run_twin(
+pub fn run_both(
     plan: Plan,
     row: &[u8],
     table: &mut [u16],
@@ -41,15 +41,15 @@ pub fn run_twin(
     evaluated: &mut [u8],
     ran: &mut [u8],
 ) -> Answer
-    ensures answered { λ r. ⌜ answerNumber r ≡ twinFault plan (now (row .entry)) (length (now (table .entry))) (length (now (program .entry))) (length (now (work .entry))) (length (now (evaluated .entry))) (length (now (ran .entry))) ⌝ }
-    ensures table { λ r. ⌜ now (table .exit) ≡ twinTable plan (answerNumber r) (now (table .entry)) ⌝ }
-    ensures program { λ r. ⌜ now (program .exit) ≡ twinProgram plan (answerNumber r) (now (program .entry)) ⌝ }
-    ensures work { λ r. ⌜ now (work .exit) ≡ twinWork plan (answerNumber r) (now (row .entry)) (now (work .entry)) ⌝ }
-    ensures evaluated { λ r. ⌜ now (evaluated .exit) ≡ twinEvaluated plan (answerNumber r) (now (row .entry)) (now (evaluated .entry)) ⌝ }
-    ensures ran { λ r. ⌜ now (ran .exit) ≡ twinRan plan (answerNumber r) (now (row .entry)) (now (ran .entry)) ⌝ }
+    ensures answered { λ r. ⌜ answerNumber r ≡ bothFault plan (now (row .entry)) (length (now (table .entry))) (length (now (program .entry))) (length (now (work .entry))) (length (now (evaluated .entry))) (length (now (ran .entry))) ⌝ }
+    ensures table { λ r. ⌜ now (table .exit) ≡ bothTable plan (answerNumber r) (now (table .entry)) ⌝ }
+    ensures program { λ r. ⌜ now (program .exit) ≡ bothProgram plan (answerNumber r) (now (program .entry)) ⌝ }
+    ensures work { λ r. ⌜ now (work .exit) ≡ bothWork plan (answerNumber r) (now (row .entry)) (now (work .entry)) ⌝ }
+    ensures evaluated { λ r. ⌜ now (evaluated .exit) ≡ bothEvaluated plan (answerNumber r) (now (row .entry)) (now (evaluated .entry)) ⌝ }
+    ensures ran { λ r. ⌜ now (ran .exit) ≡ bothRan plan (answerNumber r) (now (row .entry)) (now (ran .entry)) ⌝ }
     ensures same { λ r. ⌜ (answerNumber r ≡ 0 → (j : _) → j < plan .«output_count» → getD (now (evaluated .exit)) j 0 ≡ getD (now (ran .exit)) j 0) ⌝ }
 {
-    match check_twin(
+    match check_both(
         plan,
         row,
         table.len(),
@@ -60,14 +60,14 @@ pub fn run_twin(
     ) {
         Answer::Refused(f) => Answer::Refused(f),
         Answer::Done => {
-            make_twin(plan, row, table, program, work, evaluated, ran);
+            make_both(plan, row, table, program, work, evaluated, ran);
             Answer::Done
         }
     }
 }
 
 // The checks: plan faults, 12, 11.
-fn check_twin(
+fn check_both(
     plan: Plan,
     row: &[u8],
     table: usize,
@@ -76,7 +76,7 @@ fn check_twin(
     evaluated: usize,
     ran: usize,
 ) -> Answer
-    ensures { λ r. ⌜ answerNumber r ≡ twinFault plan (now (row .entry)) table program work evaluated ran ⌝ }
+    ensures { λ r. ⌜ answerNumber r ≡ bothFault plan (now (row .entry)) table program work evaluated ran ⌝ }
 {
     match plan_fault(plan) {
         Answer::Refused(f) => Answer::Refused(f),
@@ -96,7 +96,7 @@ fn check_rooms(
     evaluated: usize,
     ran: usize,
 ) -> Answer
-    ensures { λ r. ⌜ answerNumber r ≡ twinRoomFault plan table program work evaluated ran ⌝ }
+    ensures { λ r. ⌜ answerNumber r ≡ bothRoomFault plan table program work evaluated ran ⌝ }
 {
     let lengths = lengths_of(plan);
     let outputs = plan.output_count as usize;
@@ -131,7 +131,7 @@ fn lengths_of(plan: Plan) -> Lengths
 }
 
 // The four calls where all checks pass.
-fn make_twin(
+fn make_both(
     plan: Plan,
     row: &[u8],
     table: &mut [u16],
@@ -140,7 +140,7 @@ fn make_twin(
     evaluated: &mut [u8],
     ran: &mut [u8],
 )
-    requires { ⌜ TwinPasses plan (now row) (length (now table)) (length (now program)) (length (now work)) (length (now evaluated)) (length (now ran)) ⌝ }
+    requires { ⌜ BothPasses plan (now row) (length (now table)) (length (now program)) (length (now work)) (length (now evaluated)) (length (now ran)) ⌝ }
     ensures { λ _. ⌜ now (table .exit) ≡ over (tableOf plan) (now (table .entry)) ⌝ }
     ensures { λ _. ⌜ now (program .exit) ≡ over (planProgram plan) (now (program .entry)) ⌝ }
     ensures { λ _. ⌜ now (work .exit) ≡ over (runWires (tableOf plan) (planProgram plan) (now (row .entry))) (now (work .entry)) ⌝ }

@@ -1,9 +1,9 @@
--- `equivalence::twin::run_written` meets its contract: so many entries and bytes are lent. Assumes nothing.
+-- `equivalence::both::run_written` meets its contract: so many entries and bytes are lent. Assumes nothing.
 use mathlib.Core.Path.{sym}
 use borrow.Author.Needs.{needs}
 use lib.Seq.{length-take-le}
-use Rattle.equivalence.proofs.twin.run_written.Statement.{statement}
-use Rattle.equivalence.proofs.twin.run_written.Tie as tie
+use Rattle.equivalence.proofs.both.run_written.Statement.{statement}
+use Rattle.equivalence.proofs.both.run_written.Tie as tie
 
 entries : tie.Need-slice-aggregate-run
 entries c =

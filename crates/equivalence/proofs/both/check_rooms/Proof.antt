@@ -1,43 +1,43 @@
--- `equivalence::twin::check_rooms` meets its contract: each length in its turn. Assumes nothing.
+-- `equivalence::both::check_rooms` meets its contract: each length in its turn. Assumes nothing.
 use native.Mathlib.Omega.{arith}
 use Prim.Native.Nat.{_<_, _≤_}
 use borrow.Author.Needs.{needs}
 use borrow.Author.Tests.{le-leb, lt-leb}
 use Rattle.fault.specs.Checks.{roomFault}
 use Rattle.fabric_bits.specs.ProgramCalls.{programLength}
-use Rattle.equivalence.specs.TwinCalls.{entriesOf, wiresOf, twinRoomFault}
-use Rattle.equivalence.proofs.twin.check_rooms.Statement.{statement}
-use Rattle.equivalence.proofs.twin.check_rooms.Tie as tie
+use Rattle.equivalence.specs.BothCalls.{entriesOf, wiresOf, bothRoomFault}
+use Rattle.equivalence.proofs.both.check_rooms.Statement.{statement}
+use Rattle.equivalence.proofs.both.check_rooms.Tie as tie
 
 short-table : tie.Need-returns
-unfolding twinRoomFault roomFault
+unfolding bothRoomFault roomFault
 short-table c =
     let a = c .before .before .before .before .args in
     let p = a .plan in
     let table : a .table < entriesOf p = omega arith in
-    rw (lt-leb (entriesOf p) (a .table) table)
+    rw (lt-leb _ _ table)
 
 short-program : tie.Need-returns-2
-unfolding twinRoomFault roomFault
+unfolding bothRoomFault roomFault
 short-program c =
     let a = c .before .before .before .before .before .before .args in
     let p = a .plan in
     let table : entriesOf p ≤ a .table = omega arith in
     let program : a .program < programLength p = omega arith in
-    rw (le-leb (entriesOf p) (a .table) table, lt-leb (programLength p) (a .program) program)
+    rw (le-leb _ _ table, lt-leb _ _ program)
 
 short-work : tie.Need-returns-3
-unfolding twinRoomFault roomFault
+unfolding bothRoomFault roomFault
 short-work c =
     let a = c .before .before .before .before .before .before .before .before .args in
     let p = a .plan in
     let table : entriesOf p ≤ a .table = omega arith in
     let program : programLength p ≤ a .program = omega arith in
     let work : a .work < wiresOf p = omega arith in
-    rw (le-leb (entriesOf p) (a .table) table, le-leb (programLength p) (a .program) program, lt-leb (wiresOf p) (a .work) work)
+    rw (le-leb _ _ table, le-leb _ _ program, lt-leb _ _ work)
 
 short-evaluated : tie.Need-returns-4
-unfolding twinRoomFault roomFault
+unfolding bothRoomFault roomFault
 short-evaluated c =
     let a = c .before .before .before .before .before .before .before .before .before .args in
     let p = a .plan in
@@ -45,10 +45,10 @@ short-evaluated c =
     let program : programLength p ≤ a .program = omega arith in
     let work : wiresOf p ≤ a .work = omega arith in
     let evaluated : a .evaluated < p .«output_count» = omega arith in
-    rw (le-leb (entriesOf p) (a .table) table, le-leb (programLength p) (a .program) program, le-leb (wiresOf p) (a .work) work, lt-leb (p .«output_count») (a .evaluated) evaluated)
+    rw (le-leb _ _ table, le-leb _ _ program, le-leb _ _ work, lt-leb _ _ evaluated)
 
 short-ran : tie.Need-returns-5
-unfolding twinRoomFault roomFault
+unfolding bothRoomFault roomFault
 short-ran c =
     let a = c .before .before .before .before .before .before .before .before .before .before .args in
     let p = a .plan in
@@ -57,10 +57,10 @@ short-ran c =
     let work : wiresOf p ≤ a .work = omega arith in
     let evaluated : p .«output_count» ≤ a .evaluated = omega arith in
     let ran : a .ran < p .«output_count» = omega arith in
-    rw (le-leb (entriesOf p) (a .table) table, le-leb (programLength p) (a .program) program, le-leb (wiresOf p) (a .work) work, le-leb (p .«output_count») (a .evaluated) evaluated, lt-leb (p .«output_count») (a .ran) ran)
+    rw (le-leb _ _ table, le-leb _ _ program, le-leb _ _ work, le-leb _ _ evaluated, lt-leb _ _ ran)
 
 room : tie.Need-returns-6
-unfolding twinRoomFault roomFault
+unfolding bothRoomFault roomFault
 room c =
     let a = c .before .before .before .before .before .before .before .before .before .before .args in
     let p = a .plan in
@@ -69,7 +69,7 @@ room c =
     let work : wiresOf p ≤ a .work = omega arith in
     let evaluated : p .«output_count» ≤ a .evaluated = omega arith in
     let ran : p .«output_count» ≤ a .ran = omega arith in
-    rw (le-leb (entriesOf p) (a .table) table, le-leb (programLength p) (a .program) program, le-leb (wiresOf p) (a .work) work, le-leb (p .«output_count») (a .evaluated) evaluated, le-leb (p .«output_count») (a .ran) ran)
+    rw (le-leb _ _ table, le-leb _ _ program, le-leb _ _ work, le-leb _ _ evaluated, le-leb _ _ ran)
 
 pub check-rooms-spec : {M : Type 1} → statement M
 check-rooms-spec =

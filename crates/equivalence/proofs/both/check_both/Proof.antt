@@ -1,13 +1,13 @@
--- `equivalence::twin::check_twin` meets its contract: plan faults, 12, 11, each asked where those before it pass. Assumes nothing.
+-- `equivalence::both::check_both` meets its contract: plan faults, 12, 11, each asked where those before it pass. Assumes nothing.
 use mathlib.Core.Path.{_≡_, sym, ap, _∙_}
 use borrow.Author.Needs.{needs}
 use Rattle.fault.specs.Number.{answerNumber}
 use Rattle.fault.specs.ChecksLaws.{first-refuses, second-answers}
 use Rattle.plan.specs.Faults.{planFault}
 use Rattle.evaluation.specs.Evaluation.{contactFault}
-use Rattle.equivalence.specs.TwinCalls.{twinFault}
-use Rattle.equivalence.proofs.twin.check_twin.Statement.{statement}
-use Rattle.equivalence.proofs.twin.check_twin.Tie as tie
+use Rattle.equivalence.specs.BothCalls.{bothFault}
+use Rattle.equivalence.proofs.both.check_both.Statement.{statement}
+use Rattle.equivalence.proofs.both.check_both.Tie as tie
 
 -- where there is no plan fault
 planned : (c : tie.After-enum-told) → 0 ≡ planFault (c .before .before .before .before .args .plan)
@@ -19,24 +19,24 @@ contacted : (c : tie.After-enum-told2) → let a = c .before .before .before .be
 contacted c = ap answerNumber (sym (c .enum-told2 .given .1)) ∙ c .before .before .contact-fault .ensures
 
 faulty : tie.Need-returns
-unfolding twinFault
+unfolding bothFault
 faulty c = first-refuses (c .before .f .given .0 .0) _ _ (ap answerNumber (sym (c .before .f .given .1)) ∙ c .before .before .before .plan-fault .ensures)
 
 no-contact : tie.Need-returns-2
-unfolding twinFault
+unfolding bothFault
 no-contact c =
     let asked = c .before .before .before in
     second-answers _ _ _ (planned (asked .before .before))
     (first-refuses (c .before .f2 .given .0 .0) _ _ (ap answerNumber (sym (c .before .f2 .given .1)) ∙ asked .contact-fault .ensures))
 
 rooms : tie.Need-returns-3
-unfolding twinFault
+unfolding bothFault
 rooms c =
     let told = c .before in
     second-answers _ _ _ (planned (told .before .before .before .before)) (second-answers _ _ _ (contacted told) (c .check-rooms .ensures))
 
-pub check-twin-spec : {M : Type 1} → statement M
-check-twin-spec =
+pub check-both-spec : {M : Type 1} → statement M
+check-both-spec =
     tie.close
     (tie.spec
     (λ c κs. search needs) (λ c. search needs) (λ c. search needs) (λ c. search needs) (λ c κs. search needs) (λ c. search needs)

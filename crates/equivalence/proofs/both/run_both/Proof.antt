@@ -1,25 +1,25 @@
--- `equivalence::twin::run_twin` meets its contract: the checks decide, and where none fails the two results are equal. Assumes nothing.
+-- `equivalence::both::run_both` meets its contract: the checks decide, and where none fails the two results are equal. Assumes nothing.
 use mathlib.Core.Path.{_≡_, sym, ap, _∙_}
 use lib.ListN.{length, getD}
 use borrow.Author.Needs.{needs}
 use Rattle.fault.specs.Number.{answerNumber}
-use Rattle.equivalence.specs.TwinCalls.{twinFault}
-use Rattle.equivalence.specs.TwinLaws.{twin-passes, kept, refused-same, twin-same}
-use Rattle.equivalence.proofs.twin.run_twin.Statement.{statement}
-use Rattle.equivalence.proofs.twin.run_twin.Tie as tie
+use Rattle.equivalence.specs.BothCalls.{bothFault}
+use Rattle.equivalence.specs.BothLaws.{both-passes, kept, refused-same, both-same}
+use Rattle.equivalence.proofs.both.run_both.Statement.{statement}
+use Rattle.equivalence.proofs.both.run_both.Tie as tie
 
 -- where the checks are done, none fails
 none : (c : tie.After-enum-told) → let a = c .before .before .before .before .before .before .before .before .before .args in
-    0 ≡ twinFault (a .plan) (a .row .now) (length (a .table .now)) (length (a .program .now)) (length (a .work .now)) (length (a .evaluated .now)) (length (a .ran .now))
-none c = ap answerNumber (sym (c .enum-told .given .1)) ∙ c .before .before .check-twin .ensures
+    0 ≡ bothFault (a .plan) (a .row .now) (length (a .table .now)) (length (a .program .now)) (length (a .work .now)) (length (a .evaluated .now)) (length (a .ran .now))
+none c = ap answerNumber (sym (c .enum-told .given .1)) ∙ c .before .before .check-both .ensures
 
-passes : tie.Need-make-twin-requires
-passes c κs = twin-passes _ _ _ _ _ _ _ (sym (none (c .before .before .before .before .before)))
+passes : tie.Need-make-both-requires
+passes c κs = both-passes _ _ _ _ _ _ _ (sym (none (c .before .before .before .before .before)))
 
 refused : tie.Need-returns
 refused c =
     let f = c .before .f .given .0 .0 in
-    let e = ap answerNumber (sym (c .before .f .given .1)) ∙ c .before .before .before .check-twin .ensures in
+    let e = ap answerNumber (sym (c .before .f .given .1)) ∙ c .before .before .before .check-both .ensures in
     (e, (kept f _ _, (kept f _ _, (kept f _ _, (kept f _ _, (kept f _ _, λ z. absurd (refused-same f z)))))))
 
 done : tie.Need-returns-2
@@ -28,9 +28,9 @@ done c =
     let told = make .before .before .before .before .before .before in
     let a = told .before .before .before .before .before .before .before .before .before .args in
     let z = none told in
-    let w = twin-passes _ _ _ _ _ _ _ (sym z) in
-    let (table, (program, (work, (evaluated, ran)))) = make .make-twin .ensures in
-    let same = twin-same (a .plan) (a .row .now) (a .evaluated .now) (a .ran .now) (w .accepted) (w .contact) in (
+    let w = both-passes _ _ _ _ _ _ _ (sym z) in
+    let (table, (program, (work, (evaluated, ran)))) = make .make-both .ensures in
+    let same = both-same (a .plan) (a .row .now) (a .evaluated .now) (a .ran .now) (w .accepted) (w .contact) in (
       z,
       (
         table,
@@ -50,8 +50,8 @@ done c =
       ),
     )
 
-pub run-twin-spec : {M : Type 1} → statement M
-run-twin-spec =
+pub run-both-spec : {M : Type 1} → statement M
+run-both-spec =
     tie.close
     (tie.spec
     (λ c κs. search needs) (λ c. search needs) (λ c. search needs) passes refused (λ c. search needs) (λ c. search needs) (λ c. search needs)
