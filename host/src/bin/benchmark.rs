@@ -91,8 +91,8 @@ type Arrays = (usize, &'static str);
 
 /// A bit for each wire.
 const EVALUATION: Arrays = (320, "crates/evaluation/src/evaluation.rt");
-/// Wires: the inputs, the pins, the gates, what is selected, the outputs.
-const FABRIC: Arrays = (2_304, "crates/fabric_rows/src/writing.rt");
+/// Wires: the inputs, the pins, the gates, the outputs.
+const FABRIC: Arrays = (1_792, "crates/fabric_rows/src/writing.rt");
 /// What feeds a network of S, and what it gave.
 const SELECTION: Arrays = (2_048, "crates/selection_rows/src/writing.rt");
 /// Operands and tables of the gates, and wanted inputs.
