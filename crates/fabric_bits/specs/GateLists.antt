@@ -15,10 +15,7 @@ use Rattle.selection_bits.specs.SelectionProgramLaws.{SelectionPasses}
 use Rattle.universal.specs.Selector.{pinCount, selection}
 use Rattle.universal.specs.Universal.{Gates, universalTakes, wantedGates, mixBits, universalBits}
 use Rattle.universal.specs.Fabric.{gateLevel, planGates, wantedInput}
-
--- two for each gate
-abbrev pub maxPins : ℕ
-maxPins = operands * maxGates
+use Rattle.fabric_sizes.specs.Parts.{maxPins}
 
 -- no plan's program has so many bits
 abbrev pub bitLimit : ℕ

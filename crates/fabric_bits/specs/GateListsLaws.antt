@@ -21,7 +21,8 @@ use Rattle.networks.specs.Rows.{operands, choose}
 use Rattle.universal.specs.Universal.{Gates, isOf, wantedGate}
 use Rattle.universal.specs.Fabric.{planGates}
 use Rattle.universal.specs.PlanValues.{padded-own, padded-spare, first-operand, second-operand}
-use Rattle.fabric_bits.specs.GateLists.{maxPins, isAmong, wantedAmong, Loaded}
+use Rattle.fabric_sizes.specs.Parts.{maxPins}
+use Rattle.fabric_bits.specs.GateLists.{isAmong, wantedAmong, Loaded}
 
 -- ---- filling
 

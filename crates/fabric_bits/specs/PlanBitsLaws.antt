@@ -24,7 +24,8 @@ use Rattle.universal.specs.Fabric.{gateLevel, fabricTakes, planGates, wantedInp
 use Rattle.universal.specs.FabricLaws.{fabric-within}
 use Rattle.universal.specs.FabricRun.{inputs-selected, outputs-selected}
 use Rattle.fabric_sizes.specs.PartsLaws.{few-places, same-level}
-use Rattle.fabric_bits.specs.GateLists.{maxPins, gatesIn, inputsWanted, gatesProgram, UniversalRoom, GatesRoom, Loaded}
+use Rattle.fabric_sizes.specs.Parts.{maxPins}
+use Rattle.fabric_bits.specs.GateLists.{gatesIn, inputsWanted, gatesProgram, UniversalRoom, GatesRoom, Loaded}
 use Rattle.fabric_bits.specs.UniversalBitsLaws.{SameGates, universal-same}
 
 -- ---- how many bits

@@ -10,7 +10,8 @@ ghost use Rattle.networks.specs.Selection.{selectionCount, selectionBits};
 ghost use Rattle.selection_bits.specs.SelectionProgramLaws.{SelectionPasses};
 ghost use Rattle.universal.specs.Fabric.{gateLevel, fabricTakes, wantedOutputs, planBits};
 ghost use Rattle.fabric_bits.specs.ProgramCalls.{planProgramFault, planProgramResult};
-ghost use Rattle.fabric_bits.specs.GateLists.{maxPins, inputsWanted, gatesProgram, GatesRoom};
+ghost use Rattle.fabric_sizes.specs.Parts.{maxPins};
+ghost use Rattle.fabric_bits.specs.GateLists.{inputsWanted, gatesProgram, GatesRoom};
 use crate::block::program_universal;
 use crate::block::store_selection;
 use crate::checks::check_program;
@@ -18,15 +19,13 @@ use crate::gates::list_inputs;
 use crate::gates::list_outputs;
 use crate::gates::load_gates;
 use elements::fill_bytes;
+use fabric_sizes::MAX_PINS;
 use fabric_sizes::gate_places;
 use fabric_sizes::program_length;
 use fabric_sizes::universal_counts;
 use fault::Answer;
 use plan::Plan;
 use sizes::selection_count;
-
-// The pins of the largest fabric, two for each gate.
-const PINS: usize = 2 * Plan::MAX_GATES;
 
 // The program of the plan, from the front of `program`. Spare bits of its last byte are 0.
 pub fn program_plan(plan: Plan, program: &mut [u8]) -> Answer
@@ -50,9 +49,9 @@ fn store_plan(plan: Plan, program: &mut [u8])
     requires { ⌜ fabricTakes (plan .inputs) (plan .«gate_count») (plan .«output_count») ≤ 8 * length (now program) ⌝ }
     ensures { λ _. ⌜ now (program .exit) ≡ storeBits (now (program .entry)) 0 (planBits plan) ⌝ }
 {
-    let mut pins = [1u16; PINS];
+    let mut pins = [1u16; MAX_PINS];
     let mut tables = [0u8; Plan::MAX_GATES];
-    let mut wanted = [0u16; PINS];
+    let mut wanted = [0u16; MAX_PINS];
     load_gates(plan, &mut pins, &mut tables);
     let next = store_gates(
         plan.inputs,

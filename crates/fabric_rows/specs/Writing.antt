@@ -5,7 +5,7 @@ use mathlib.Core.List.{List, _++_}
 use lib.ListN.{take}
 use Rattle.plan.specs.Record.{maxInputs, maxGates, maxOutputs}
 use Rattle.plan.specs.FaultsLaws.{CountsWithin}
-use Rattle.networks.specs.Rows.{operands, stride, flat}
+use Rattle.networks.specs.Rows.{stride, flat}
 use Rattle.networks.specs.Selection.{selectionRows, selectionOuts, selectionCount, selectionWires}
 use Rattle.elements.specs.Wires.{maxWires}
 use Rattle.write_checks.specs.WriteChecksLaws.{SelectionWritePasses}
@@ -15,10 +15,6 @@ use Rattle.universal.specs.Fabric.{gateLevel, inputWires, universalNext, output
 use Rattle.universal.specs.Tables.{header}
 use Rattle.fabric_sizes.specs.Counting.{tableLength}
 use Rattle.fabric_rows.specs.declared.writing.Layout.{Layout}
-
--- the pins of the largest U
-abbrev pub maxPins : ℕ
-maxPins = operands * maxGates
 
 -- what holds where no check fails
 pub record FabricPasses (u k v room : ℕ) : Type 0 where

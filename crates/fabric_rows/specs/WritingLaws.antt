@@ -30,10 +30,10 @@ use Rattle.universal.specs.FabricLaws.{length-inputWires, inputs-below, gates-b
 use Rattle.universal.specs.Tables.{header}
 use Rattle.fabric_sizes.specs.declared.parts.BlockCounts.{BlockCounts}
 use Rattle.fabric_sizes.specs.Counting.{tableLength}
-use Rattle.fabric_sizes.specs.Parts.{PlacesAre, SelectionIs, UniversalIs}
+use Rattle.fabric_sizes.specs.Parts.{maxPins, PlacesAre, SelectionIs, UniversalIs}
 use Rattle.fabric_sizes.specs.PartsLaws.{few-places, same-level}
 use Rattle.fabric_rows.specs.declared.writing.Layout.{Layout}
-use Rattle.fabric_rows.specs.Writing.{maxPins, FabricPasses, LayoutIs, PinRoom, outputEntries, OutputRoom}
+use Rattle.fabric_rows.specs.Writing.{FabricPasses, LayoutIs, PinRoom, outputEntries, OutputRoom}
 use Rattle.fabric_rows.specs.Block.{UniversalRoom}
 use Rattle.fabric_rows.specs.BlockLaws.{length-selection}
 use Rattle.fabric_rows.specs.UniversalWriteLaws.{length-universal}
@@ -235,9 +235,6 @@ module _ {u k v : ℕ} {l : Layout} {T₀ T₁ : List ℕ} (begun : Begun u k v 
           outRoom = omega arith;
         }
 
-    pub gates-start : l .universal ≤ length T₂
-    gates-start = omega (arith, length-T₂, enough, at .whole, at .outputsAt)
-
     -- after U(K)
     module _ {O₀ F₃ O₃ : List ℕ} (gated : GatesDone l T₂ P₂ O₀ F₃ O₃) where
       abbrev B : List ℕ
@@ -273,9 +270,6 @@ module _ {u k v : ℕ} {l : Layout} {T₀ T₁ : List ℕ} (begun : Begun u k v 
           length-universalOuts selection (gateLevel (l .gates)) (l .«universal_next» .0) ∙ ap (λ m. 2 ^ m) level-is ∙ sym (at .areGates) in
           rw (gated .outs) (take-at outs (drop (length outs) O₀) (l .gates) long)
           ∙ ap₂ (universalOuts selection) level-is (at .universalFrom)
-
-      pub outputs-start : l .outputs ≤ length T₃
-      outputs-start = omega (arith, length-T₃, enough, at .whole)
 
       pub output-room : OutputRoom (l .gates) v (l .end) (l .«output_next» .0) O₃ (length (partOf (l .outputs) T₃))
       output-room =

@@ -19,6 +19,7 @@ use elements::HEADER;
 use elements::copy_wires;
 use elements::put_wires;
 use elements::row_place;
+use fabric_sizes::MAX_PINS;
 use fabric_sizes::gate_places;
 use fabric_sizes::output_counts;
 use fabric_sizes::pin_counts;
@@ -28,9 +29,6 @@ use fault::Answer;
 use fault::Fault;
 use plan::Plan;
 use plan::counts_fault;
-
-// The pins of the largest U.
-const PINS: usize = 2 * Plan::MAX_GATES;
 
 // K; where the parts of the fabric begin in the table, and the first wires that they make; `end` is where the output wires stand, counted
 // from the rows of S(K, v).
@@ -101,7 +99,7 @@ fn put_fabric(u: u16, k: u16, v: u16, table: &mut [u16])
     requires { ⌜ FabricPasses u k v (length (now table)) ⌝ }
     ensures { λ _. ⌜ now (table .exit) ≡ over (fabricTable u k v) (now (table .entry)) ⌝ }
 {
-    let mut pins = [0u16; PINS];
+    let mut pins = [0u16; MAX_PINS];
     let mut outs = [0u16; Plan::MAX_GATES];
     let layout = layout_of(u, k, v);
     let universal = layout.universal;

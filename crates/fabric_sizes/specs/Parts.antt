@@ -1,11 +1,17 @@
 -- The counts of a fabric's parts: the rows of a block, the wires that they make, and their program bits.
-use Prim.Native.Nat.{ℕ, suc, _^_, _≤_}
+use Prim.Native.Nat.{ℕ, suc, _*_, _^_, _≤_}
 use mathlib.Core.Path.{_≡_}
+use Rattle.plan.specs.Record.{maxGates}
+use Rattle.networks.specs.Rows.{operands}
 use Rattle.networks.specs.Selection.{selectionCount, selectionWires}
 use Rattle.universal.specs.Selector.{selection}
 use Rattle.universal.specs.Universal.{universalCount, universalWires, universalTakes}
 use Rattle.universal.specs.Fabric.{gateLevel}
 use Rattle.fabric_sizes.specs.declared.parts.BlockCounts.{BlockCounts}
+
+-- the pins of the largest U of a plan, two for each gate
+abbrev pub maxPins : ℕ
+maxPins = operands * maxGates
 
 -- the largest level of U, where its gates are counted in 16 bits
 abbrev pub topLevel : ℕ

@@ -10,6 +10,7 @@ pub use counting::fabric_counts;
 pub use counting::program_length;
 pub use counting::table_length;
 pub use parts::BlockCounts;
+pub use parts::MAX_PINS;
 pub use parts::gate_places;
 pub use parts::output_counts;
 pub use parts::pin_counts;

@@ -4,10 +4,14 @@ ghost use Prim.Native.Nat.{_^_};
 ghost use Rattle.universal.specs.Selector.{pinCount};
 ghost use Rattle.universal.specs.Fabric.{gateLevel};
 ghost use Rattle.fabric_sizes.specs.Parts.{PlacesAre, SidesWithin, SelectionIs, UniversalIs};
+use plan::Plan;
 use powers::ceil_log;
 use powers::ceil_power;
 use sizes::selection_count;
 use sizes::selection_wires;
+
+// The pins of the largest U of a plan, two for each gate.
+pub const MAX_PINS: usize = 2 * Plan::MAX_GATES;
 
 // The rows of a block, the wires that they make, and their program bits.
 pub struct BlockCounts {
