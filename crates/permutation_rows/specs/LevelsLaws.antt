@@ -2,18 +2,19 @@
 -- in the place of its input wires.
 use mathlib.Core.Path.{_≡_, refl, sym, ap, ap₂, _∙_}
 use mathlib.Core.List.{List, [], _∷_, _++_}
-use Prim.Native.Nat.{ℕ, suc, _-_, _*_, _^_, _≤_}
+use Prim.Native.Nat.{ℕ, zero, suc, _-_, _*_, _^_, _≤_}
 use native.Mathlib.Nat.{pow-succ', not-suc-le-zero}
 use native.Mathlib.Omega.{arith}
 use lib.ListN.{length, take, length-append, length-take}
 use borrow.Rule.Slice.PartMut.{mid-len}
+use Rattle.lists.specs.Lists.{listOf}
 use Rattle.fault.specs.Buffers.{over}
 use Rattle.networks.specs.Rows.{stride, flat}
 use Rattle.networks.specs.Permutation.{permutationCount, inputRows, outputRows, firsts, seconds, upperNext, lowerNext}
 use Rattle.networks.specs.Permutation.{permutationOuts, upperOuts, lowerOuts, permutationRows}
 use Rattle.networks.specs.PermutationLaws.{length-permutationOuts}
 use Rattle.permutation_rows.specs.declared.level.Parts.{Parts}
-use Rattle.permutation_rows.specs.Levels.{gapRows, joined, PartsAt, OutputRoom}
+use Rattle.permutation_rows.specs.Levels.{gapRows, joined, LevelRoom, PartsAt, InputRoom, OutputRoom}
 use Rattle.permutation_rows.specs.HalvesLaws.{step-power, length-rows, length-upper, length-lower, upper-fed, lower-fed, after-halves}
 use Rattle.permutation_rows.specs.HalvesLaws.{output-rows-are, outputs-are, inputs-taken, length-inputs, length-outputs, flat-parts}
 use Rattle.fault.specs.PartsLaws.{partOf, withPart, length-over, over-part, over-again}
@@ -77,6 +78,30 @@ level-none level next R W h room =
     one : (l : List ℕ) → 1 ≤ length l → over (take 1 l) l ≡ l
     one [] z = absurd (not-suc-le-zero z)
     one (x ∷ l) z = refl
+
+-- at level 1 there is one row, and its outputs are P's
+pub pair-written : (level next : ℕ) (R W : List ℕ) → level ≤ 1 → 1 ≤ level → 2 ^ level ≤ length W
+    → (over (flat (inputRows 1 W)) R ≡ over (flat (permutationRows level (take (2 ^ level) W) next)) R)
+    × (over (firsts 1 next ++ seconds 1 next) W ≡ over (permutationOuts level (take (2 ^ level) W) next) W)
+unfolding inputRows firsts seconds outputRows permutationRows permutationOuts listOf
+pair-written level next R W low some room =
+    let e : level ≡ 1 = omega arith in
+    rw e (two W (rw e at room))
+  where
+    two : (l : List ℕ) → 2 ≤ length l → (over (flat (inputRows 1 l)) R ≡ over (flat (permutationRows 1 (take 2 l) next)) R)
+        × (over (firsts 1 next ++ seconds 1 next) l ≡ over (permutationOuts 1 (take 2 l) next) l)
+    two [] z = absurd (omega arith)
+    two (x ∷ []) z = absurd (omega arith)
+    two (x ∷ y ∷ l) z = (refl, refl)
+
+pub pair-room : (level : ℕ) {next entries places : ℕ} → level ≤ 1 → 1 ≤ level → LevelRoom level next entries places → InputRoom 1 next entries places
+unfolding permutationCount
+pair-room zero low some w = absurd (omega arith)
+pair-room (suc zero) low some w = record {
+  feed = record { some = omega arith; small = omega arith; wires = w .wires some; wireRoom = w .wireRoom };
+  rowRoom = w .rowRoom;
+}
+pair-room (suc (suc n)) low some w = absurd (omega arith)
 
 module _ (level next : ℕ) (some : 1 ≤ level) (p : Parts) (at : PartsAt level next p) (R₀ W₀ R₁ W₁ F₁ W₂ F₂ G F₃ W₄ : List ℕ)
     (rowRoom : stride * permutationCount level ≤ length R₀) (wireRoom : 2 ^ level ≤ length W₀)

@@ -34,7 +34,7 @@ pub(crate) fn write_level(level: u32, next: FabricWire, rows: &mut [u16], wires:
     ensures { λ _. ⌜ now (rows .exit) ≡ over (flat (permutationRows level (take (2 ^ level) (now (wires .entry))) (next .0))) (now (rows .entry)) ⌝ }
     ensures { λ _. ⌜ now (wires .exit) ≡ over (permutationOuts level (take (2 ^ level) (now (wires .entry))) (next .0)) (now (wires .entry)) ⌝ }
 {
-    if 0 < level {
+    if 1 < level {
         let parts = parts_of(level, next);
         let half = parts.half;
         let upper = parts.upper;
@@ -49,6 +49,19 @@ pub(crate) fn write_level(level: u32, next: FabricWire, rows: &mut [u16], wires:
             &mut wires[half..],
         );
         write_outputs(&mut rows[outputs..], wires, half, parts.output_next);
+    } else {
+        write_pair(level, next, rows, wires);
+    }
+}
+
+// The same for P(2), which is one X, and for P(1), which is a wire. Most blocks are these.
+fn write_pair(level: u32, next: FabricWire, rows: &mut [u16], wires: &mut [u16])
+    requires { ⌜ (level ≤ 1) × LevelRoom level (next .0) (length (now rows)) (length (now wires)) ⌝ }
+    ensures { λ _. ⌜ now (rows .exit) ≡ over (flat (permutationRows level (take (2 ^ level) (now (wires .entry))) (next .0))) (now (rows .entry)) ⌝ }
+    ensures { λ _. ⌜ now (wires .exit) ≡ over (permutationOuts level (take (2 ^ level) (now (wires .entry))) (next .0)) (now (wires .entry)) ⌝ }
+{
+    if 0 < level {
+        write_inputs(rows, wires, 1, next);
     }
 }
 

@@ -3,19 +3,21 @@ use mathlib.Core.Path.{_≡_, _∙_}
 use mathlib.Core.List.{List}
 use lib.ListN.{length}
 use borrow.Author.Needs.{needs}
-use Prim.Native.Nat.{ℕ, _<_}
+use Prim.Native.Nat.{ℕ, _<_, _≤_}
+use native.Mathlib.Omega.{arith}
 use borrow.Fn.Kinds.{In}
 use borrow.Fn.PlainCycle.{Measures, is, falls, and}
 use Rattle.permutation_rows.specs.declared.level.Parts.{Parts}
 use Rattle.permutation_rows.specs.Levels.{OutputRoom}
 use Rattle.fault.specs.PartsLaws.{partOf, withPart, length-with}
-use Rattle.permutation_rows.specs.LevelsLaws.{LevelWritten, output-room, level-none, level-written}
+use Rattle.permutation_rows.specs.LevelsLaws.{LevelWritten, output-room, level-written}
 use Rattle.permutation_rows.proofs.level.write_level.Reads as write-level
 use Rattle.permutation_rows.proofs.level.write_level.Kinds as write-level-kinds
 use Rattle.permutation_rows.proofs.level.+write_level.Lts-write_level as write-level-lts
 use Rattle.permutation_rows.proofs.level.parts_of.Reads as parts-of-reads
 use Rattle.permutation_rows.proofs.level.write_inputs.Reads as write-inputs-reads
 use Rattle.permutation_rows.proofs.level.write_outputs.Reads as write-outputs-reads
+use Rattle.permutation_rows.proofs.level.write_pair.Reads as write-pair-reads
 use Rattle.permutation_rows.proofs.level.+write_level.{statement}
 use Rattle.permutation_rows.proofs.level.+write_level.Tie.{close}
 
@@ -39,7 +41,12 @@ claims t = (
   write-level.Post,
   write-outputs-reads.Asked,
   write-outputs-reads.Learnt,
+  write-pair-reads.Asked,
+  write-pair-reads.Learnt,
 )
+
+some-below : {level : ℕ} → 1 < level → 1 ≤ level
+some-below l = omega arith
 
 module _ (t : ℕ) where
   -- the places where the parts are found, the inputs written, the upper half, the lower half, the outputs, and the way back from each
@@ -115,7 +122,7 @@ module _ (t : ℕ) where
       let inp = inputs up in
       let p = parted inp in
       let start = p .before .before .before .before in
-      level-written (start .args .level) (start .args .next .0) (p .before .if1 .taken) (p .parts-of .result) (p .parts-of .ensures)
+      level-written (start .args .level) (start .args .next .0) (some-below (p .before .if1 .taken)) (p .parts-of .result) (p .parts-of .ensures)
       (start .args .rows .now) (start .args .wires .now) (inp .write-inputs .last .0) (inp .write-inputs .last .1 .0)
       (up .write-level .last .1 .1 .0) (up .write-level .last .1 .1 .1 .0)
       (low .write-level2 .last .1 .1 .0) (low .write-level2 .last .1 .1 .1 .0)
@@ -140,7 +147,7 @@ pub +write-level-spec : {M : Type 1} → statement M
     (write-level-at t)
     write-level.Post
     -- the parts, the inputs
-    (λ c κs. let pre = c .before .before .before .pre .1 in record { some = c .if1 .taken; small = pre .small; wires = pre .wires (c .if1 .taken) })
+    (λ c κs. let pre = c .before .before .before .pre .1 in let l = some-below (c .if1 .taken) in record { some = l; small = pre .small; wires = pre .wires l })
     (λ c κs. search needs)
     -- the upper half and its stretch
     (λ c. search needs) (λ c. search needs) (λ c. search needs) (λ c. search needs) (λ c. search needs)
@@ -153,7 +160,10 @@ pub +write-level-spec : {M : Type 1} → statement M
     (λ c. let p = parted t (inputs t (upper t (c .before .before .before .before))) .parts-of .ensures in search needs)
     (λ c. search needs) (λ c. search needs) (λ c. search needs)
     (λ c κs. outputs-fit t (c .before .before .before .before .before .before))
-    -- what is written, and at level 0
+    -- P(2) and P(1)
+    (λ c κs. (c .before .before .if1 .left, c .before .before .before .before .before .pre .1))
+    -- what is written
     (λ c. done t (c .before .before .before .before) .rowsLength) (λ c. done t (c .before .before .before .before) .wiresLength)
     (λ c. let w = done t (c .before .before .before .before) in (w .rows, w .wires))
-    (λ c. let w = level-none _ _ _ _ (c .if1 .left) (c .before .before .before .pre .1 .wireRoom) in (w .rows, w .wires))
+    (λ c. search needs) (λ c. search needs)
+    (λ c. c .before .before .before .before .write-pair .ensures)
