@@ -40,7 +40,7 @@ pub(crate) fn program_block(
     }
 }
 
-// The same for P(2), whose one row is crossed where its first output takes the second input, and for P(1), which has no row. Half of all blocks
+// The same for P(2), whose one row is crossed where its first output takes the second input, and for P(1), which has no row. Most blocks
 // are these.
 fn program_pair(perm: &[u16], program: &mut [u8], start: usize, level: usize)
     requires { ⌜ IsPerm (now perm) × (length (now perm) ≡ 2 ^ level) × (level ≤ 1) ⌝ }
