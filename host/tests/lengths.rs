@@ -18,30 +18,40 @@ fn last_next(size: BlockSize) -> u32 {
     u32::from(u16::MAX) + 1 - size.wires
 }
 
+/// A block of this size with n outputs: the stated lengths and the highest next wire pass, one entry
+/// or byte less is short, one wire more is too many. P(1) and S(1, 1) have no row to take away.
+fn check_lengths(
+    size: BlockSize,
+    n: u32,
+    write: impl Fn(u32, &mut [u16], &mut [u16]) -> Result<(), Fault>,
+    program: impl Fn(&mut [u8]) -> Result<(), Fault>,
+) {
+    let write = |next, rows, outputs| write(next, &mut vec![0; rows], &mut vec![0; outputs]);
+    let program = |bytes| program(&mut vec![0; bytes]);
+    let (rows, outputs, bytes) = (size.rows_len(), n as usize, size.program_len());
+    assert_eq!(write(last_next(size), rows, outputs), Ok(()));
+    assert_eq!(write(1, rows, outputs - 1), Err(Fault::Short));
+    assert_eq!(program(bytes), Ok(()));
+    if size.rows > 0 {
+        let past = write(last_next(size) + 1, rows, outputs);
+        assert_eq!(past, Err(Fault::Fabric));
+        assert_eq!(write(1, rows - 1, outputs), Err(Fault::Short));
+        assert_eq!(program(bytes - 1), Err(Fault::Short));
+    }
+}
+
 #[test]
 fn lengths_of_permutations() {
     for level in 0..=MAX_SIZE.ilog2() {
         let n = 1 << level;
         let size = count_permutation(n).expect("n is a size of P");
-        let inputs = vec![0; n as usize];
-        let write = |next, rows_len, outputs_len| {
-            let (mut rows, mut outputs) = (vec![0; rows_len], vec![0; outputs_len]);
-            write_permutation(n, &inputs, next, &mut rows, &mut outputs)
-        };
-        let (rows_len, outputs_len) = (size.rows_len(), n as usize);
-        assert_eq!(write(last_next(size), rows_len, outputs_len), Ok(()));
-        assert_eq!(write(1, rows_len, outputs_len - 1), Err(Fault::Short));
-
         let wanted: Vec<u16> = (1..=n as u16).collect();
-        let program = |len| program_permutation(n, &wanted, &mut vec![0; len]);
-        assert_eq!(program(size.program_len()), Ok(()));
-
-        if n > 1 {
-            let past = write(last_next(size) + 1, rows_len, outputs_len);
-            assert_eq!(past, Err(Fault::Fabric));
-            assert_eq!(write(1, rows_len - 1, outputs_len), Err(Fault::Short));
-            assert_eq!(program(size.program_len() - 1), Err(Fault::Short));
-        }
+        check_lengths(
+            size,
+            n,
+            |next, rows, outputs| write_permutation(n, &vec![0; n as usize], next, rows, outputs),
+            |program| program_permutation(n, &wanted, program),
+        );
     }
 }
 
@@ -50,25 +60,13 @@ fn lengths_of_selections() {
     for m in sizes() {
         for n in sizes() {
             let size = count_selection(m, n).expect("m and n are sizes of S");
-            let inputs = vec![0; m as usize];
-            let write = |next, rows_len, outputs_len| {
-                let (mut rows, mut outputs) = (vec![0; rows_len], vec![0; outputs_len]);
-                write_selection(m, n, &inputs, next, &mut rows, &mut outputs)
-            };
-            let (rows_len, outputs_len) = (size.rows_len(), n as usize);
-            assert_eq!(write(last_next(size), rows_len, outputs_len), Ok(()));
-            assert_eq!(write(1, rows_len, outputs_len - 1), Err(Fault::Short));
-
-            let wanted = vec![1; n as usize];
-            let program = |len| program_selection(m, n, &wanted, &mut vec![0; len]);
-            assert_eq!(program(size.program_len()), Ok(()));
-
-            if (m, n) != (1, 1) {
-                let past = write(last_next(size) + 1, rows_len, outputs_len);
-                assert_eq!(past, Err(Fault::Fabric));
-                assert_eq!(write(1, rows_len - 1, outputs_len), Err(Fault::Short));
-                assert_eq!(program(size.program_len() - 1), Err(Fault::Short));
-            }
+            let (inputs, wanted) = (vec![0; m as usize], vec![1; n as usize]);
+            check_lengths(
+                size,
+                n,
+                |next, rows, outputs| write_selection(m, n, &inputs, next, rows, outputs),
+                |program| program_selection(m, n, &wanted, program),
+            );
         }
     }
 }

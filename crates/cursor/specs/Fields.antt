@@ -8,20 +8,23 @@ use Rattle.plan.specs.Record.{wire}
 use Rattle.plan.specs.Rules.{countAllowed, mapAllowed, operandAllowed, tableAllowed, sourceAllowed}
 use Rattle.cursor.specs.Parsing.{Step, _>>=_, pure, wordAt, byteAt, field, standing}
 
+-- u, k or v: two bytes, 1 to its limit, or the fault that is its own
 abbrev pub countField : ℕ → Fault → Step ℕ
 countField limit f = field 2 wordAt (countAllowed limit) f
 
+-- the map byte of a gate
 abbrev pub mapField : Step ℕ
 mapField = field 1 byteAt mapAllowed Fault.Map
 
--- an operand of the gate whose own wire is `own`
+-- an operand, two bytes, of the gate whose own wire is `own`
 abbrev pub operandField : ℕ → Step ℕ
 operandField own = field 2 wordAt (operandAllowed own) Fault.Operand
 
+-- the table of a gate, one byte
 abbrev pub tableField : Step ℕ
 tableField = field 1 byteAt tableAllowed Fault.Table
 
--- an output of a plan with u inputs and k gates
+-- an output, two bytes, of a plan with u inputs and k gates
 abbrev pub outputField : ℕ → ℕ → Step ℕ
 outputField u k = field 2 wordAt (sourceAllowed u k) Fault.Source
 

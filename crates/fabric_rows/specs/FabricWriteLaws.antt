@@ -11,7 +11,6 @@ use Rattle.fault.specs.declared.Fault.{Fault}
 use Rattle.fault.specs.Number.{faultNumber}
 use Rattle.fault.specs.Checks.{roomFault}
 use Rattle.fault.specs.ChecksLaws.{unless-zero, and-then-zero}
-use Rattle.fault.specs.PartsLaws.{length-filled}
 use Rattle.plan.specs.Faults.{countsFault}
 use Rattle.plan.specs.FaultsLaws.{counts-within}
 use Rattle.universal.specs.Fabric.{fabricTable}
@@ -50,10 +49,3 @@ pub fabric-written-read : (u k v : ℕ) (table : List ℕ) → fabricFault u k v
 fabric-written-read u k v table e =
     let new = fabricTable u k v in
     rw e (take-at new (drop (length new) table) (tableLength u k v) (length-fabricTable u k v))
-
--- the lent table stays as long as it is
-pub length-fabricResult : (u k v : ℕ) (table : List ℕ) → length (fabricResult u k v table) ≡ length table
-length-fabricResult u k v table =
-    length-filled (fabricFault u k v (length table)) (fabricTable u k v) table λ e.
-    let w = fabric-passes u k v (length table) e in
-    omega (arith, length-fabricTable u k v, w .enough)

@@ -13,7 +13,7 @@ use lib.Seq.{getD-set-same, getD-set-other, ext-getD, drop-length}
 use Rattle.lists.specs.ListsLaws.{getD-any, length-listOf, getD-listOf}
 use Rattle.networks.specs.Permutation.{Perm, partner, iterate, walk, key, lowest, side}
 use Rattle.networks.specs.Orbits.{Reach, reach-trans, once-round, Attained}
-use Rattle.networks.specs.Loops.{partner-partner, partner-half, partner-lt, same-pair, key-at, key-inj, key-partner, key-last, key-other, KeyAt, in-last, elsewhere, flipped, perm-lt}
+use Rattle.networks.specs.Loops.{partner-partner, partner-half, partner-lt, same-pair, key-at, key-inj, key-partner, key-last, key-other, KeyAt, in-last, elsewhere, perm-lt}
 use Rattle.networks.specs.Loops.{walk-lt, walk-closes, walk-sym, walk-mirror, lowest-at, lowest-low, lowest-same, lowest-partner, side-along, side-partner}
 use Rattle.networks.specs.Halves.{side-lt, output-sides}
 use Rattle.loops.specs.Mappings.{mapOf, Paired, walkIn, sideIn, sideList}
@@ -128,9 +128,6 @@ read-map l x h = getD-any l x 0 x h
 module _ {p q : List ℕ} (G : Paired p q) where
   pub place-lt : (x : ℕ) → x < length p → getD p x 0 < length p
   place-lt x l = rw (read-map p x l, ← G .even) (perm-lt (G .perm) x (rw (G .even) l))
-
-  pub taker-lt : (x : ℕ) → x < length p → getD q x 0 < length p
-  taker-lt x l = rw (read-map q x (rw (G .size) l), ← G .even) (perm-lt (flipped (G .perm)) x (rw (G .even) l))
 
   pub pair-lt : (x : ℕ) → x < length p → partner x < length p
   pair-lt x l = rw (← G .even) (partner-lt (length p / 2) x (rw (G .even) l))

@@ -94,15 +94,6 @@ module _ (test : ℕ → Bool) where
       go rec (inl e) (no f) = rw (e, ne-eqb (countOf test n) r f) (wider (rec (omega (arith, rw e at h))))
       go rec (inr e) d = rw e (wider (rec (omega (arith, rw e at h))))
 
-  -- a number that passes is found by what passes before it
-  pub nth-is : (n p : ℕ) → p < n → test p ≡ true → nthOf test n (countOf test p) ≡ p
-  nth-is n p l e =
-      let y = nthOf test n (countOf test p) in
-      let t = nth-at n (countOf test p) (count-before p n l e) in
-      let late : ¬ (p < y) = λ m. omega (arith, t .rank, count-before p y m e) in
-      let early : ¬ (y < p) = λ m. omega (arith, t .rank, count-before y p m (t .passes)) in
-      omega arith
-
 -- one test counts for two, or at most for two
 pub count-sum : (a b c : ℕ → Bool) → ((i : ℕ) → oneIf (a i) ≡ oneIf (b i) + oneIf (c i)) → (n : ℕ) → countOf a n ≡ countOf b n + countOf c n
 unfolding countOf

@@ -7,17 +7,16 @@ use lib.Seq.{take-at}
 use Rattle.lists.specs.Lists.{listOf}
 use Rattle.lists.specs.ListsLaws.{length-listOf}
 use Rattle.fault.specs.Buffers.{over}
-use Rattle.fault.specs.BuffersLaws.{filled-done}
-use Rattle.networks.specs.Bits.{pack, storeBits}
+use Rattle.networks.specs.Bits.{storeBits}
 use Rattle.networks.specs.Wanted.{Wanted, mapping, wantedBits}
 use Rattle.networks.specs.WantedLaws.{wanted-perm}
 use Rattle.sizes.specs.Sizes.{levelOf}
 use Rattle.elements.specs.ChecksLaws.{stored-done}
 use Rattle.loops.specs.Mappings.{IsPerm, listBits}
 use Rattle.loops.specs.MappingsLaws.{listed, bits-listed}
-use Rattle.wanted_checks.specs.Checks.{programFault, programAtFault}
-use Rattle.wanted_checks.specs.ChecksLaws.{program-passes, fault-at}
-use Rattle.permutation_bits.specs.ProgramCalls.{programResult, programAtResult}
+use Rattle.wanted_checks.specs.Checks.{programAtFault}
+use Rattle.wanted_checks.specs.ChecksLaws.{program-passes}
+use Rattle.permutation_bits.specs.ProgramCalls.{programAtResult}
 
 -- the front of an array that the mapping of the wanted inputs is loaded into
 module _ {N : ℕ} {wanted perm : List ℕ} (old : List ℕ) (W : Wanted N wanted) (loaded : perm ≡ over (listOf (length wanted) (mapping wanted)) old) where
@@ -33,13 +32,6 @@ module _ {N : ℕ} {wanted perm : List ℕ} (old : List ℕ) (W : Wanted N wante
   pub front-bits : (n : ℕ) → listBits n (take N perm) ≡ wantedBits n wanted
   unfolding wantedBits
   front-bits n = ap (listBits n) front-is ∙ bits-listed (wanted-perm W) n
-
--- where the checks pass, the program is the packed bits of a one-to-one mapping, followed by what stood past them
-pub program-packed : (N : ℕ) (wanted program : List ℕ) → programFault N wanted (length program) ≡ 0
-    → (Wanted (2 ^ levelOf N) wanted) × (programResult N wanted program ≡ over (pack (wantedBits (levelOf N) wanted)) program)
-program-packed N wanted program e =
-    let h = program-passes (fault-at N wanted (length program) ∙ e) in
-    (rw (h .size .power) (h .wantedOnce), sym (filled-done (programFault N wanted (length program)) (pack (wantedBits (levelOf N) wanted)) program (sym e)))
 
 pub program-stored : (N : ℕ) (wanted : List ℕ) (start : ℕ) (program : List ℕ) → programAtFault N wanted start (length program) ≡ 0
     → (Wanted (2 ^ levelOf N) wanted) × (programAtResult N wanted start program ≡ storeBits program start (wantedBits (levelOf N) wanted))

@@ -17,7 +17,7 @@ use Rattle.elements.specs.WiresLaws.{wires-copied}
 use Rattle.write_checks.specs.WriteChecksLaws.{WritePasses, write-passes}
 use Rattle.write_checks.specs.WriteChecks.{rowsOf, writeFault}
 use Rattle.permutation_rows.specs.WriteCalls.{writtenRows, writtenOutputs}
-use Rattle.fault.specs.PartsLaws.{length-over, length-filled, over-again}
+use Rattle.fault.specs.PartsLaws.{length-over, over-again}
 use Rattle.permutation_rows.specs.Levels.{LevelRoom}
 use Rattle.permutation_rows.specs.HalvesLaws.{step-count, length-rows}
 
@@ -34,7 +34,7 @@ length-entries N ins next = length-rows (levelOf N) ins next
 pub length-outs : (N : ℕ) (ins : List ℕ) (next : ℕ) → SizeIs N → length ins ≡ N → length (permutationOuts (levelOf N) ins next) ≡ N
 length-outs N ins next size e = length-permutationOuts (levelOf N) ins next (e ∙ sym (size .power)) ∙ size .power
 
--- the lent buffers stay as long as they are, and after success they begin with the rows and the output wires
+-- after success the lent buffers begin with the rows and the output wires
 pub record Written (N : ℕ) (ins : List ℕ) (next : ℕ) (rows outputs : List ℕ) : Type 0 where
   pub entriesRead : take (stride * rowsOf N) (writtenRows N ins next rows outputs) ≡ flat (permutationRows (levelOf N) ins next)
   pub rowsRead : decode (take (stride * rowsOf N) (writtenRows N ins next rows outputs)) ≡ permutationRows (levelOf N) ins next
@@ -53,19 +53,6 @@ written-read N ins next rows outputs e =
       rowsRead = ap decode front ∙ decode-flat (permutation-totals (levelOf N) ins next .family);
       outputsRead = rw e (take-at outs (drop (length outs) outputs) N (length-outs N ins next (w .size) (w .inputs)));
     }
-
-pub length-writtenRows : (N : ℕ) (ins : List ℕ) (next : ℕ) (rows outputs : List ℕ) → length (writtenRows N ins next rows outputs) ≡ length rows
-length-writtenRows N ins next rows outputs =
-    length-filled _ _ rows λ e.
-    let w = write-passes N ins next (length rows) (length outputs) e in
-    omega (arith, length-entries N ins next)
-
-pub length-writtenOutputs : (N : ℕ) (ins : List ℕ) (next : ℕ) (rows outputs : List ℕ)
-    → length (writtenOutputs N ins next rows outputs) ≡ length outputs
-length-writtenOutputs N ins next rows outputs =
-    length-filled _ _ outputs λ e.
-    let w = write-passes N ins next (length rows) (length outputs) e in
-    omega (arith, length-outs N ins next (w .size) (w .inputs))
 
 -- ---- the core of the call
 

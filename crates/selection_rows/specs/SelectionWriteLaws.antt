@@ -8,7 +8,7 @@ use lib.ListN.{length, getD, take, drop, replicate, length-replicate, getD-repli
 use lib.Seq.{ext-getD, take-at, take-all, take-append-le, getD-drop, getD-append-add}
 use Rattle.lists.specs.ListsLaws.{getD-listOf, listOf-ext}
 use Rattle.fault.specs.Buffers.{over}
-use Rattle.fault.specs.PartsLaws.{length-over, length-filled}
+use Rattle.fault.specs.PartsLaws.{length-over}
 use Rattle.powers.specs.PowersLaws.{ceilLog-power}
 use Rattle.networks.specs.Rows.{stride, flat, decode}
 use Rattle.networks.specs.RowsLaws.{length-flat, decode-flat}
@@ -18,7 +18,7 @@ use Rattle.networks.specs.SelectionLaws.{outputs-fit, length-padded, getD-padde
 use Rattle.networks.specs.SelectionLaws.{length-selectionRows, selection-totals, length-selectionOuts}
 use Rattle.sizes.specs.Sizes.{maxSize, levelOf}
 use Rattle.sizes.specs.SizesLaws.{size-is, power-allowed, power-small, side-level}
-use Rattle.write_checks.specs.WriteChecksLaws.{SelectionWritePasses, selection-write-passes, some-wire}
+use Rattle.write_checks.specs.WriteChecksLaws.{SelectionWritePasses, some-wire}
 use Rattle.write_checks.specs.WriteChecks.{selectionWriteFault}
 use Rattle.selection_rows.specs.WriteCalls.{selectionWrittenRows, selectionWrittenOutputs}
 use Rattle.selection_rows.specs.Block.{BlockRoom}
@@ -47,19 +47,6 @@ module _ (m n : ℕ) (ins : List ℕ) (next : ℕ) (rows outputs : List ℕ) whe
         rowsRead = ap decode front ∙ decode-flat (selection-totals m n ins next .family);
         outputsRead = rw e (take-at outs (drop (length outs) outputs) n (length-selectionOuts m n ins next));
       }
-
-  -- the lent buffers stay as long as they are
-  pub length-selectionWrittenRows : length (selectionWrittenRows m n ins next rows outputs) ≡ length rows
-  length-selectionWrittenRows =
-      length-filled _ _ rows λ e.
-      let w = selection-write-passes m n ins next (length rows) (length outputs) e in
-      omega (arith, length-entries m n ins next)
-
-  pub length-selectionWrittenOutputs : length (selectionWrittenOutputs m n ins next rows outputs) ≡ length outputs
-  length-selectionWrittenOutputs =
-      length-filled _ _ outputs λ e.
-      let w = selection-write-passes m n ins next (length rows) (length outputs) e in
-      omega (arith, length-selectionOuts m n ins next)
 
 -- ---- the core of the call
 
