@@ -12,8 +12,9 @@ ghost use Rattle.wanted_checks.specs.Checks.{programFault, selectionProgramFaul
 ghost use Rattle.permutation_bits.specs.ProgramCalls.{programResult};
 ghost use Rattle.selection_bits.specs.ProgramCalls.{selectionProgramResult};
 ghost use Rattle.fabric_sizes.specs.Counting.{counting};
-ghost use Rattle.fabric_rows.specs.FabricCalls.{fabricFault, fabricResult};
-ghost use Rattle.fabric_bits.specs.ProgramCalls.{planProgramFault, planProgramResult};
+ghost use Rattle.fabric_rows.specs.FabricCalls.{fabricResult};
+ghost use Rattle.fabric_checks.specs.FabricChecks.{fabricFault, planProgramFault};
+ghost use Rattle.fabric_bits.specs.ProgramCalls.{planProgramResult};
 ghost use Rattle.run_checks.specs.RunFault.{runFault};
 ghost use Rattle.run.specs.RunCalls.{runWork, runResult};
 ghost use Rattle.capi.specs.Exports.{outcomeOf, countsOf};

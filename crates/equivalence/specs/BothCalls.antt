@@ -10,7 +10,7 @@ use Rattle.evaluation.specs.Evaluation.{contactFault, gateBit, planOutputs}
 use Rattle.universal.specs.Fabric.{fabricTable, fabricWires, planProgram}
 use Rattle.universal.specs.Tables.{runWires, runOutputs}
 use Rattle.fabric_sizes.specs.Counting.{tableLength}
-use Rattle.fabric_bits.specs.ProgramCalls.{programLength}
+use Rattle.fabric_checks.specs.FabricChecks.{programLength}
 
 module _ (p : Plan) where
   -- the fabric of the plan's three counts: its table, the table's length, its wires

@@ -21,7 +21,8 @@ use Rattle.universal.specs.Tables.{runWires, runOutputs}
 use Rattle.universal.specs.FabricTableLaws.{fabric-runs}
 use Rattle.fabric_rows.specs.FabricCalls.{fabricResult}
 use Rattle.fabric_rows.specs.FabricWriteLaws.{fabric-written-read}
-use Rattle.fabric_bits.specs.ProgramCalls.{programLength, planProgramResult}
+use Rattle.fabric_checks.specs.FabricChecks.{programLength}
+use Rattle.fabric_bits.specs.ProgramCalls.{planProgramResult}
 use Rattle.fabric_bits.specs.PlanProgramLaws.{programmed-read}
 use Rattle.run_checks.specs.RunFault.{runFault}
 use Rattle.run.specs.RunCalls.{runWork, runResult}

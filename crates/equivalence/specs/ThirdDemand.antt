@@ -17,10 +17,12 @@ use Rattle.universal.specs.Fabric.{planProgram}
 use Rattle.universal.specs.Tables.{runOutputs}
 use Rattle.universal.specs.FabricTableLaws.{fabric-inputs, fabric-outputs, fabric-wiresIn, fabric-well-formed, program-exact, fabric-runs}
 use Rattle.fabric_sizes.specs.Counting.{tableLength}
-use Rattle.fabric_rows.specs.FabricCalls.{fabricFault, fabricResult}
-use Rattle.fabric_rows.specs.FabricWriteLaws.{fabric-succeeds, fabric-written-read}
-use Rattle.fabric_bits.specs.ProgramCalls.{programLength, planProgramFault, planProgramResult}
-use Rattle.fabric_bits.specs.PlanProgramLaws.{program-succeeds, programmed-read}
+use Rattle.fabric_rows.specs.FabricCalls.{fabricResult}
+use Rattle.fabric_rows.specs.FabricWriteLaws.{fabric-written-read}
+use Rattle.fabric_checks.specs.FabricChecks.{fabricFault, programLength, planProgramFault}
+use Rattle.fabric_checks.specs.FabricChecksLaws.{fabric-succeeds, plan-program-succeeds}
+use Rattle.fabric_bits.specs.ProgramCalls.{planProgramResult}
+use Rattle.fabric_bits.specs.PlanProgramLaws.{programmed-read}
 use Rattle.run_checks.specs.RunFault.{runFault}
 use Rattle.run.specs.RunCalls.{runResult}
 use Rattle.equivalence.specs.BothCalls.{tableOf, entriesOf, wiresOf}
@@ -90,7 +92,7 @@ module _ (p : Plan) (row table program work evaluated ran : List ℕ) where
       fabricates-here = fabric-succeeds u k v (length table) (counts-pass p accepted) (rooms .tableRoom)
 
       programs-here : planProgramFault p (length program) ≡ 0
-      programs-here = program-succeeds p (length program) accepted (rooms .programRoom)
+      programs-here = plan-program-succeeds p (length program) accepted (rooms .programRoom)
 
       entries-are : entriesWritten ≡ tableOf p
       entries-are = fabric-written-read u k v table fabricates-here

@@ -1,5 +1,5 @@
--- Document 01, "Program bits: plan faults, 11", and the programming of U and of the fabric.
--- the call, and what it gives
+-- Document 01, "Program bits", and the programming of U and of the fabric.
+-- what the call gives
 pub mod ProgramCalls
 pub mod PlanProgramLaws
 -- the lists that it works on, and what its parts store

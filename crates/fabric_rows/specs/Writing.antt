@@ -16,11 +16,6 @@ use Rattle.universal.specs.Tables.{header}
 use Rattle.fabric_sizes.specs.Counting.{tableLength}
 use Rattle.fabric_rows.specs.declared.writing.Layout.{Layout}
 
--- what holds where no check fails
-pub record FabricPasses (u k v room : ℕ) : Type 0 where
-  pub counts : CountsWithin u k v
-  pub enough : tableLength u k v ≤ room
-
 -- K, and where the parts begin
 pub record LayoutIs (u k v : ℕ) (l : Layout) : Type 0 where
   pub isRows : l .rows ≡ fabricCount u k v

@@ -33,7 +33,8 @@ use Rattle.fabric_sizes.specs.Counting.{tableLength}
 use Rattle.fabric_sizes.specs.Parts.{maxPins, PlacesAre, SelectionIs, UniversalIs}
 use Rattle.fabric_sizes.specs.PartsLaws.{few-places, same-level}
 use Rattle.fabric_rows.specs.declared.writing.Layout.{Layout}
-use Rattle.fabric_rows.specs.Writing.{FabricPasses, LayoutIs, PinRoom, outputEntries, OutputRoom}
+use Rattle.fabric_checks.specs.FabricChecksLaws.{FabricPasses}
+use Rattle.fabric_rows.specs.Writing.{LayoutIs, PinRoom, outputEntries, OutputRoom}
 use Rattle.fabric_rows.specs.Block.{UniversalRoom}
 use Rattle.fabric_rows.specs.BlockLaws.{length-selection}
 use Rattle.fabric_rows.specs.UniversalWriteLaws.{length-universal}

@@ -10,8 +10,10 @@ ghost use Rattle.plan.specs.FaultsLaws.{CountsWithin};
 ghost use Rattle.networks.specs.Rows.{flat};
 ghost use Rattle.networks.specs.Selection.{selectionRows, selectionOuts};
 ghost use Rattle.universal.specs.Fabric.{inputWires, fabricTable};
-ghost use Rattle.fabric_rows.specs.FabricCalls.{fabricFault, fabricResult};
-ghost use Rattle.fabric_rows.specs.Writing.{FabricPasses, LayoutIs, HeaderRoom, PinRoom, outputEntries, OutputRoom};
+ghost use Rattle.fabric_checks.specs.FabricChecks.{fabricFault};
+ghost use Rattle.fabric_checks.specs.FabricChecksLaws.{FabricPasses};
+ghost use Rattle.fabric_rows.specs.FabricCalls.{fabricResult};
+ghost use Rattle.fabric_rows.specs.Writing.{LayoutIs, HeaderRoom, PinRoom, outputEntries, OutputRoom};
 use crate::block::put_selection;
 use crate::block::write_universal;
 use elements::FabricWire;
@@ -19,16 +21,14 @@ use elements::HEADER;
 use elements::copy_wires;
 use elements::put_wires;
 use elements::row_place;
+use fabric_checks::check_fabric;
 use fabric_sizes::MAX_PINS;
 use fabric_sizes::gate_places;
 use fabric_sizes::output_counts;
 use fabric_sizes::pin_counts;
-use fabric_sizes::table_length;
 use fabric_sizes::universal_counts;
 use fault::Answer;
-use fault::Fault;
 use plan::Plan;
-use plan::counts_fault;
 
 // K; where the parts of the fabric begin in the table, and the first wires that they make; `end` is where the output wires stand, counted
 // from the rows of S(K, v).
@@ -51,22 +51,6 @@ pub fn write_fabric(u: u32, k: u32, v: u32, table: &mut [u16]) -> Answer
         Answer::Refused(f) => Answer::Refused(f),
         Answer::Done => {
             put_fabric(u as u16, k as u16, v as u16, table);
-            Answer::Done
-        }
-    }
-}
-
-// The checks of writing the fabric: 2, 3, 4, 11.
-fn check_fabric(u: u32, k: u32, v: u32, room: usize) -> Answer
-    ensures { λ r. ⌜ answerNumber r ≡ fabricFault u k v room ⌝ }
-{
-    match counts_fault(u, k, v) {
-        Answer::Refused(f) => Answer::Refused(f),
-        Answer::Done => {
-            let length = table_length(u as u16, k as u16, v as u16);
-            if room < length {
-                return Answer::Refused(Fault::Short);
-            }
             Answer::Done
         }
     }

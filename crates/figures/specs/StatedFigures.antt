@@ -34,8 +34,9 @@ use Rattle.universal.specs.Universal.{tableProgram, isOf, wantedGate, wantedGat
 use Rattle.universal.specs.Fabric.{inputWires, fabricRows, fabricOuts, fabricCount, fabricWires, fabricTakes, fabricTable}
 use Rattle.universal.specs.Fabric.{paddedGate, wantedInput, wantedInputs, wantedOutputs, planBits, planProgram}
 use Rattle.fabric_sizes.specs.Counting.{counting}
-use Rattle.fabric_rows.specs.FabricCalls.{fabricFault, fabricResult}
-use Rattle.fabric_bits.specs.ProgramCalls.{planProgramFault, planProgramResult}
+use Rattle.fabric_rows.specs.FabricCalls.{fabricResult}
+use Rattle.fabric_checks.specs.FabricChecks.{fabricFault, planProgramFault}
+use Rattle.fabric_bits.specs.ProgramCalls.{planProgramResult}
 use Rattle.figures.specs.Figure.{Figure, Holds, passes, passes-holds}
 
 -- a record as a row of numbers: the counts, every gate's place, every output's place

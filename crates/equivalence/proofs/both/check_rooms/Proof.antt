@@ -4,7 +4,7 @@ use Prim.Native.Nat.{_<_, _≤_}
 use borrow.Author.Needs.{needs}
 use borrow.Author.Tests.{le-leb, lt-leb}
 use Rattle.fault.specs.Checks.{roomFault}
-use Rattle.fabric_bits.specs.ProgramCalls.{programLength}
+use Rattle.fabric_checks.specs.FabricChecks.{programLength}
 use Rattle.equivalence.specs.BothCalls.{entriesOf, wiresOf, bothRoomFault}
 use Rattle.equivalence.proofs.both.check_rooms.Statement.{statement}
 use Rattle.equivalence.proofs.both.check_rooms.Tie as tie

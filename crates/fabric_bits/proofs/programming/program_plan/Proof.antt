@@ -11,8 +11,8 @@ use Rattle.networks.specs.Bits.{bytesFor, storeBits}
 use Rattle.elements.specs.StoreLaws.{store-zeroed, bytes-filled}
 use Rattle.universal.specs.Fabric.{planBits, planProgram}
 use Rattle.universal.specs.FabricLaws.{length-planBits}
-use Rattle.fabric_bits.specs.ProgramCalls.{planProgramFault}
-use Rattle.fabric_bits.specs.PlanProgramLaws.{ProgramPasses, program-passes}
+use Rattle.fabric_checks.specs.FabricChecks.{planProgramFault}
+use Rattle.fabric_checks.specs.FabricChecksLaws.{PlanProgramPasses, plan-program-passes}
 use Rattle.fabric_bits.proofs.programming.program_plan.Statement.{statement}
 use Rattle.fabric_bits.proofs.programming.program_plan.Tie as tie
 
@@ -21,8 +21,8 @@ module _ (c : tie.After-enum-told) where
   none : let a = c .before .before .before .before .args in 0 ≡ planProgramFault (a .plan) (length (a .program .now))
   none = ap answerNumber (sym (c .enum-told .given .1)) ∙ c .before .before .check-program .ensures
 
-  passes : let a = c .before .before .before .before .args in ProgramPasses (a .plan) (length (a .program .now))
-  passes = program-passes _ _ (sym none)
+  passes : let a = c .before .before .before .before .args in PlanProgramPasses (a .plan) (length (a .program .now))
+  passes = plan-program-passes _ _ (sym none)
 
 for-bits : tie.Need-store-plan-requires
 for-bits c κs =

@@ -5,9 +5,8 @@ use lib.ListN.{length}
 use borrow.Author.Needs.{needs}
 use Rattle.fault.specs.Number.{answerNumber}
 use Rattle.fault.specs.BuffersLaws.{filled-refused, is-filled}
-use Rattle.fabric_rows.specs.FabricCalls.{fabricFault}
-use Rattle.fabric_rows.specs.Writing.{FabricPasses}
-use Rattle.fabric_rows.specs.FabricWriteLaws.{fabric-passes}
+use Rattle.fabric_checks.specs.FabricChecks.{fabricFault}
+use Rattle.fabric_checks.specs.FabricChecksLaws.{FabricPasses, fabric-passes}
 use Rattle.fabric_rows.proofs.writing.write_fabric.Statement.{statement}
 use Rattle.fabric_rows.proofs.writing.write_fabric.Tie as tie
 

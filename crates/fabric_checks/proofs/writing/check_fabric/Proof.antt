@@ -1,4 +1,4 @@
--- `fabric_rows::writing::check_fabric` meets its contract: 2, 3, 4 first, then 11. Assumes nothing.
+-- `fabric_checks::writing::check_fabric` meets its contract: 2, 3, 4 first, then 11. Assumes nothing.
 use native.Mathlib.Omega.{arith}
 use mathlib.Core.Path.{_≡_, sym, ap, _∙_}
 use borrow.Author.Needs.{needs}
@@ -6,10 +6,10 @@ use Rattle.fault.specs.Number.{answerNumber}
 use Rattle.fault.specs.ChecksLaws.{first-refuses, second-answers}
 use Rattle.plan.specs.Faults.{countsFault}
 use Rattle.plan.specs.FaultsLaws.{CountsWithin, counts-within}
-use Rattle.fabric_rows.specs.FabricCalls.{fabricFault}
-use Rattle.fabric_rows.specs.FabricWriteLaws.{table-short, table-long}
-use Rattle.fabric_rows.proofs.writing.check_fabric.Statement.{statement}
-use Rattle.fabric_rows.proofs.writing.check_fabric.Tie as tie
+use Rattle.fabric_checks.specs.FabricChecks.{fabricFault}
+use Rattle.fabric_checks.specs.FabricChecksLaws.{too-short, long-enough}
+use Rattle.fabric_checks.proofs.writing.check_fabric.Statement.{statement}
+use Rattle.fabric_checks.proofs.writing.check_fabric.Tie as tie
 
 -- where the counts are allowed
 module _ (c : tie.After-enum-told) where
@@ -23,7 +23,7 @@ short : tie.Need-returns
 unfolding fabricFault
 short c =
     let length = c .before in
-    second-answers _ _ _ (allowed (length .before)) (table-short (length .table-length .ensures) (c .if1 .taken))
+    second-answers _ _ _ (allowed (length .before)) (too-short (length .table-length .ensures) (c .if1 .taken))
 
 refused : tie.Need-returns-2
 unfolding fabricFault
@@ -35,7 +35,7 @@ done : tie.Need-returns-3
 unfolding fabricFault
 done c =
     let length = c .before in
-    second-answers _ _ _ (allowed (length .before)) (table-long (length .table-length .ensures) (c .if1 .left))
+    second-answers _ _ _ (allowed (length .before)) (long-enough (length .table-length .ensures) (c .if1 .left))
 
 pub check-fabric-spec : {M : Type 1} → statement M
 check-fabric-spec =

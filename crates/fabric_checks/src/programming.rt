@@ -1,15 +1,15 @@
-// The checks of a plan's programming. They touch no buffer.
+// The checks of programming a plan.
 ghost use mathlib.Core.Path.{_≡_};
 ghost use Rattle.fault.specs.Number.{answerNumber};
-ghost use Rattle.fabric_bits.specs.ProgramCalls.{planProgramFault};
+ghost use Rattle.fabric_checks.specs.FabricChecks.{planProgramFault};
 use fabric_sizes::program_length;
 use fault::Answer;
 use fault::Fault;
 use plan::Plan;
 use plan::plan_fault;
 
-// Plan faults, then 11.
-pub(crate) fn check_program(plan: Plan, room: usize) -> Answer
+// Plan faults; then 11 for a program of so many bytes.
+pub fn check_program(plan: Plan, room: usize) -> Answer
     ensures { λ r. ⌜ answerNumber r ≡ planProgramFault plan room ⌝ }
 {
     match plan_fault(plan) {
