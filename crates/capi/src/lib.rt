@@ -61,7 +61,7 @@ pub extern "C" fn mkd_plan_read(file: &[u8]) -> Read
 pub extern "C" fn mkd_plan_fault(plan: Plan) -> u32
     ensures { λ r. ⌜ r ≡ planFault plan ⌝ }
 {
-    plan::plan_fault(plan).number()
+    plan_faults::plan_fault(plan).number()
 }
 
 // The plan's outputs on a row of inputs.

@@ -1,16 +1,12 @@
-// The elements X, Y and G in lent buffers: wires, rows of the table, program bits, and the checks of what is to be stored. Every call
-// takes all inputs: what does not fit is not stored.
+// The elements X, Y and G in lent buffers: wires, rows of the table, program bits. Every call takes all inputs: what does not fit is not
+// stored.
 mod bits;
-mod checks;
 mod rows;
 mod wires;
 
 pub use bits::fill_bytes;
 pub use bits::read_bit;
 pub use bits::store_bit;
-pub use checks::check_bits;
-pub use checks::check_room;
-pub use checks::check_wires;
 pub use rows::HEADER;
 pub use rows::Kind;
 pub use rows::put_pairs;

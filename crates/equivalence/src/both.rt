@@ -21,7 +21,7 @@ use fabric_sizes::table_length;
 use fault::Answer;
 use fault::Fault;
 use plan::Plan;
-use plan::plan_fault;
+use plan_faults::plan_fault;
 use run::run;
 
 // The stated lengths of table, program and work.

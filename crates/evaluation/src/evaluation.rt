@@ -12,7 +12,7 @@ use fault::Answer;
 use fault::Fault;
 use plan::Plan;
 use plan::PlanWire;
-use plan::plan_fault;
+use plan_faults::plan_fault;
 
 // The wires of the largest plan.
 const MAX_PLAN_WIRES: usize = Plan::MAX_INPUTS + Plan::MAX_GATES;

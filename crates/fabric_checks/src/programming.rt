@@ -6,7 +6,7 @@ use fabric_sizes::program_length;
 use fault::Answer;
 use fault::Fault;
 use plan::Plan;
-use plan::plan_fault;
+use plan_faults::plan_fault;
 
 // Plan faults; then 11 for a program of so many bytes.
 pub fn check_program(plan: Plan, room: usize) -> Answer

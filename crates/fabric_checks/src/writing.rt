@@ -5,7 +5,7 @@ ghost use Rattle.fabric_checks.specs.FabricChecks.{fabricFault};
 use fabric_sizes::table_length;
 use fault::Answer;
 use fault::Fault;
-use plan::counts_fault;
+use plan_faults::counts_fault;
 
 // 2, 3, 4; then 11 for a table of so many entries.
 pub fn check_fabric(u: u32, k: u32, v: u32, room: usize) -> Answer

@@ -10,7 +10,7 @@ use elements::HEADER;
 use elements::row_place;
 use fault::Answer;
 use fault::Fault;
-use plan::counts_fault;
+use plan_faults::counts_fault;
 
 // The rows, wires and program bits of a fabric.
 pub struct Counts {

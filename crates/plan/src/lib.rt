@@ -1,11 +1,8 @@
-// Plans: the record in memory, the rules of its parts, and its faults. For any record in memory `plan_fault` says, with proof, whether it is an
-// accepted plan. Nothing here reads files or knows of fabrics.
-mod faults;
+// Plans: the record in memory and the rules of its parts. What a plan's faults are is defined here; the crate plan_faults finds them. Nothing
+// here reads files or knows of fabrics.
 mod record;
 mod rules;
 
-pub use faults::counts_fault;
-pub use faults::plan_fault;
 pub use record::Gate;
 pub use record::Plan;
 pub use record::PlanWire;

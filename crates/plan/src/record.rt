@@ -1,7 +1,6 @@
 // The plan record in memory, with its limits.
 ghost use mathlib.Core.Path.{_≡_};
-ghost use Prim.Native.Nat.{_≤_, _<_};
-ghost use Rattle.plan.specs.Record.{maxInputs, maxGates, zeroPlan, gateWire};
+ghost use Rattle.plan.specs.Record.{zeroPlan};
 
 // A wire of a plan: 1 to u are inputs, u + g is gate g.
 #[repr(C)]
@@ -50,12 +49,4 @@ impl Plan {
             outputs: [none; Plan::MAX_OUTPUTS],
         }
     }
-}
-
-// The own wire of gate i, counted from 0, in a plan with so many inputs.
-pub(crate) fn gate_wire(inputs: u16, i: usize) -> PlanWire
-    requires { ⌜ (inputs ≤ maxInputs) × (i < maxGates) ⌝ }
-    ensures { λ r. ⌜ r .0 ≡ gateWire inputs i ⌝ }
-{
-    PlanWire(inputs + (i as u16) + 1)
 }

@@ -15,9 +15,9 @@ use Rattle.networks.specs.BitsLaws.{unpack-bits}
 use Rattle.universal.specs.Tables.{header, inputsIn, rowsIn, kindAt, leftAt, rightAt, rowAt, rowsTo, wiresBefore, bitsBefore, wiresIn, bitsIn}
 use Rattle.universal.specs.Tables.{maxFabricWires, runStart, runWires}
 use Rattle.universal.specs.TablesLaws.{wires-more, bits-more, run-areBits}
-use Rattle.run_checks.specs.declared.table.RowCounts.{RowCounts}
-use Rattle.run_checks.specs.Counting.{kindWires, CountsOf, Counted}
-use Rattle.run_checks.specs.CountingLaws.{of-kind, wires-mono, bits-mono, counted-few, counted-more}
+use Rattle.table_checks.specs.declared.table.RowCounts.{RowCounts}
+use Rattle.table_checks.specs.Counting.{kindWires, CountsOf, Counted}
+use Rattle.table_checks.specs.CountingLaws.{of-kind, wires-mono, bits-mono, counted-few, counted-more}
 use Rattle.run.specs.RunRows.{seen, rowDone, leftOf, rightOf, RowRoom, Runnable, stateTo, Stands}
 use Rattle.run.specs.RowLaws.{sees-row}
 use Rattle.run.specs.WorkLaws.{sets-over, over-longer}

@@ -10,7 +10,7 @@ use Rattle.networks.specs.Rows.{Row, gateBits, State, outputs, run, gateOnBits}
 use Rattle.networks.specs.Bits.{bitAt, AreBits}
 use Rattle.universal.specs.Tables.{inputsIn, outputsIn, rowsIn, outputWireAt, rowsTo, wiresIn, runStart}
 use Rattle.universal.specs.TablesLaws.{WellFormed}
-use Rattle.run_checks.specs.Counting.{maxBits, Counted}
+use Rattle.table_checks.specs.Counting.{maxBits, Counted}
 
 -- what a row sees: the wires' bits, and the program from its first bit on
 abbrev pub seen : List ℕ → ℕ → List ℕ → State ℕ

@@ -9,21 +9,21 @@ ghost use Rattle.networks.specs.Rows.{X, Y, Gate, rowOf, choose};
 ghost use Rattle.universal.specs.Tables.{runWires};
 ghost use Rattle.run_checks.specs.RunFault.{runFault};
 ghost use Rattle.run.specs.RunCalls.{runWork, runResult};
-ghost use Rattle.run_checks.specs.Counting.{kindWires};
+ghost use Rattle.table_checks.specs.Counting.{kindWires};
 ghost use Rattle.run.specs.RunRows.{Runnable, RowRoom, OutputRoom, outputsOn, leftOf, rightOf, rowDone};
 use elements::FabricWire;
 use elements::read_bit;
 use elements::wide;
 use fault::Answer;
-use run_checks::INPUTS;
-use run_checks::KIND_X;
-use run_checks::KIND_Y;
-use run_checks::OUTPUTS;
-use run_checks::ROWS;
 use run_checks::check_run;
-use run_checks::counts_of;
-use run_checks::row_place;
-use run_checks::wire_of;
+use table_checks::INPUTS;
+use table_checks::KIND_X;
+use table_checks::KIND_Y;
+use table_checks::OUTPUTS;
+use table_checks::ROWS;
+use table_checks::counts_of;
+use table_checks::row_place;
+use table_checks::wire_of;
 
 // The run of a table with a program on a row of inputs: every wire's bit into the work buffer, the outputs' bits into the result.
 pub fn run(table: &[u16], program: &[u8], row: &[u8], work: &mut [u8], result: &mut [u8]) -> Answer

@@ -5,9 +5,13 @@ use Rattle.fault.specs.Checks.{andThen, roomFault}
 use Rattle.evaluation.specs.Evaluation.{contactFault}
 use Rattle.universal.specs.Tables.{inputsIn, outputsIn, wiresIn, bitsIn, tableFault, programFault}
 
+-- 11: a work buffer and a result of so many entries, where there are so many wires and outputs
+abbrev pub roomsFault : ℕ → ℕ → ℕ → ℕ → ℕ
+roomsFault wires outputs work result = andThen (roomFault wires work) (roomFault outputs result)
+
 -- 13, 14, 12, 11: the work buffer has one byte per wire, the result one per output
 unfoldable pub runFault : List ℕ → List ℕ → List ℕ → ℕ → ℕ → ℕ
 runFault table program row work result =
     andThen (tableFault table)
     (andThen (programFault (bitsIn table) program)
-    (andThen (contactFault (inputsIn table) row) (andThen (roomFault (wiresIn table) work) (roomFault (outputsIn table) result))))
+    (andThen (contactFault (inputsIn table) row) (roomsFault (wiresIn table) (outputsIn table) work result)))

@@ -7,7 +7,7 @@ ghost use Rattle.networks.specs.Selection.{Selected};
 ghost use Rattle.sizes.specs.Sizes.{maxSize};
 ghost use Rattle.wanted_checks.specs.Checks.{twiceFault, sourceFault, wantedFault, programAtFault};
 use crate::selection::check_selected;
-use elements::check_bits;
+use element_checks::check_bits;
 use elements::wide;
 use fault::Answer;
 use fault::Fault;

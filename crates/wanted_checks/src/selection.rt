@@ -2,7 +2,7 @@
 ghost use mathlib.Core.Path.{_≡_};
 ghost use Rattle.fault.specs.Number.{answerNumber};
 ghost use Rattle.wanted_checks.specs.Checks.{selectedFault, selectionWantedFault, selectionProgramAtFault};
-use elements::check_bits;
+use element_checks::check_bits;
 use elements::wide;
 use fault::Answer;
 use fault::Fault;

@@ -2,9 +2,9 @@
 ghost use mathlib.Core.Path.{_≡_};
 ghost use Rattle.fault.specs.Number.{answerNumber};
 ghost use Rattle.write_checks.specs.WriteChecks.{writeFault};
+use element_checks::check_room;
+use element_checks::check_wires;
 use elements::FabricWire;
-use elements::check_room;
-use elements::check_wires;
 use fault::Answer;
 use fault::Fault;
 use sizes::permutation_count;

@@ -2,7 +2,7 @@
 use mathlib.Core.Path.{sym, ap, subst, _∙_}
 use borrow.Author.Needs.{needs}
 use Rattle.networks.specs.Rows.{makes}
-use Rattle.run_checks.specs.CountingLaws.{kind-x, kind-y, kind-g}
+use Rattle.table_checks.specs.CountingLaws.{kind-x, kind-y, kind-g}
 use Rattle.run.specs.RunRows.{RowRoom, rowDone}
 use Rattle.run.proofs.running.run_row.Statement.{statement}
 use Rattle.run.proofs.running.run_row.Tie as tie

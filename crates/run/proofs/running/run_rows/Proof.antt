@@ -5,8 +5,8 @@ use Prim.Native.Nat.{_+_, _-_, _≤_, _<_}
 use borrow.Author.Needs.{needs}
 use lib.ListN.{getD}
 use Rattle.universal.specs.Tables.{rowsIn, kindAt, maxFabricWires}
-use Rattle.run_checks.specs.CountingLaws.{counted-first, counted-few}
-use Rattle.run_checks.specs.Counting.{Countable}
+use Rattle.table_checks.specs.CountingLaws.{counted-first, counted-few}
+use Rattle.table_checks.specs.Counting.{Countable}
 use Rattle.run.specs.RunRows.{Runnable, Stands}
 use Rattle.run.specs.RunLaws.{start-room, stands-first, row-ready, stands-more, stands-last}
 use Rattle.run.proofs.running.run_rows.Statement.{statement}

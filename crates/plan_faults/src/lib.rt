@@ -1,0 +1,113 @@
+// Plan faults: for any record in memory `plan_fault` says, with proof, whether it is an accepted plan. Unused places are not looked at.
+ghost use mathlib.Core.Path.{_≡_};
+ghost use Prim.Native.Nat.{_≤_, _<_};
+ghost use Rattle.fault.specs.Number.{answerNumber};
+ghost use Rattle.plan.specs.Record.{maxInputs, maxGates, gateWire};
+ghost use Rattle.plan.specs.Faults.{countsFault, gateFault, gatesFault, outputsFault, planFault};
+ghost use Rattle.plan.specs.FaultsLaws.{CountsWithin};
+use fault::Answer;
+use fault::Fault;
+use plan::Gate;
+use plan::Plan;
+use plan::PlanWire;
+use plan::count_allowed;
+use plan::operand_allowed;
+use plan::source_allowed;
+use plan::table_allowed;
+
+// The first plan fault: the counts, then gate by gate, then output by output.
+pub fn plan_fault(plan: Plan) -> Answer
+    ensures { λ r. ⌜ answerNumber r ≡ planFault plan ⌝ }
+{
+    match counts_fault(
+        plan.inputs as u32,
+        plan.gate_count as u32,
+        plan.output_count as u32,
+    ) {
+        Answer::Refused(f) => Answer::Refused(f),
+        Answer::Done => match gates_fault(plan) {
+            Answer::Refused(f) => Answer::Refused(f),
+            Answer::Done => outputs_fault(plan),
+        },
+    }
+}
+
+// Whether each count is within its limit.
+pub fn counts_fault(inputs: u32, gates: u32, outputs: u32) -> Answer
+    ensures { λ r. ⌜ answerNumber r ≡ countsFault inputs gates outputs ⌝ }
+{
+    if !count_allowed(inputs, Plan::MAX_INPUTS) {
+        return Answer::Refused(Fault::Inputs);
+    }
+    if !count_allowed(gates, Plan::MAX_GATES) {
+        return Answer::Refused(Fault::Gates);
+    }
+    if !count_allowed(outputs, Plan::MAX_OUTPUTS) {
+        return Answer::Refused(Fault::Outputs);
+    }
+    Answer::Done
+}
+
+// The first fault of the gates.
+fn gates_fault(plan: Plan) -> Answer
+    requires { ⌜ CountsWithin (plan .inputs) (plan .«gate_count») (plan .«output_count») ⌝ }
+    ensures { λ r. ⌜ answerNumber r ≡ gatesFault plan (plan .«gate_count») ⌝ }
+{
+    let inputs = plan.inputs;
+    let count = plan.gate_count as usize;
+    let mut i: usize = 0;
+    while i < count {
+        let gate = plan.gates[i];
+        match gate_fault(gate_wire(inputs, i), gate) {
+            Answer::Refused(f) => {
+                return Answer::Refused(f);
+            }
+            Answer::Done => {}
+        }
+        i += 1;
+    }
+    Answer::Done
+}
+
+// The own wire of gate i, counted from 0, in a plan with so many inputs.
+fn gate_wire(inputs: u16, i: usize) -> PlanWire
+    requires { ⌜ (inputs ≤ maxInputs) × (i < maxGates) ⌝ }
+    ensures { λ r. ⌜ r .0 ≡ gateWire inputs i ⌝ }
+{
+    PlanWire(inputs + (i as u16) + 1)
+}
+
+// The fault of a gate whose own wire is own.
+fn gate_fault(own: PlanWire, gate: Gate) -> Answer
+    ensures { λ r. ⌜ answerNumber r ≡ gateFault (own .0) gate ⌝ }
+{
+    if !operand_allowed(own, gate.first) {
+        return Answer::Refused(Fault::Operand);
+    }
+    if !operand_allowed(own, gate.second) {
+        return Answer::Refused(Fault::Operand);
+    }
+    if !table_allowed(gate.table) {
+        return Answer::Refused(Fault::Table);
+    }
+    Answer::Done
+}
+
+// The first fault of the outputs.
+fn outputs_fault(plan: Plan) -> Answer
+    requires { ⌜ CountsWithin (plan .inputs) (plan .«gate_count») (plan .«output_count») ⌝ }
+    ensures { λ r. ⌜ answerNumber r ≡ outputsFault plan (plan .«output_count») ⌝ }
+{
+    let inputs = plan.inputs;
+    let gates = plan.gate_count;
+    let count = plan.output_count as usize;
+    let mut i: usize = 0;
+    while i < count {
+        let wire = plan.outputs[i];
+        if !source_allowed(inputs, gates, wire) {
+            return Answer::Refused(Fault::Source);
+        }
+        i += 1;
+    }
+    Answer::Done
+}

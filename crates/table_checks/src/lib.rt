@@ -1,0 +1,17 @@
+// The table of a fabric as a run finds it: where its entries stand, what its rows count, and check 13, which takes any table and touches no
+// buffer.
+mod checking;
+mod table;
+
+pub use checking::TableAnswer;
+pub use checking::TableCounts;
+pub use checking::check_table;
+pub use table::INPUTS;
+pub use table::KIND_X;
+pub use table::KIND_Y;
+pub use table::OUTPUTS;
+pub use table::ROWS;
+pub use table::RowCounts;
+pub use table::counts_of;
+pub use table::row_place;
+pub use table::wire_of;

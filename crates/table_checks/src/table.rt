@@ -1,0 +1,71 @@
+// Where a table's entries stand, and what a row of a kind makes and takes.
+ghost use mathlib.Core.Path.{_≡_};
+ghost use Prim.Native.Nat.{_+_, _*_, _≤_};
+ghost use lib.ListN.{length};
+ghost use Rattle.networks.specs.Rows.{stride};
+ghost use Rattle.universal.specs.Tables.{header, outputsIn, rowsIn, maxFabricWires};
+ghost use Rattle.table_checks.specs.Counting.{CountsOf};
+use elements::FabricWire;
+use elements::HEADER;
+use elements::wide;
+
+// Which of the entries before the rows are the numbers of inputs, outputs and rows.
+pub const INPUTS: usize = 0;
+
+pub const OUTPUTS: usize = 1;
+
+pub const ROWS: usize = 2;
+
+// Document 01's kinds of rows.
+pub const KIND_X: u16 = 1;
+
+pub const KIND_Y: u16 = 2;
+
+pub(crate) const KIND_G: u16 = 3;
+
+// The program bits of a gate: its table.
+const GATE_BITS: usize = 4;
+
+// How many wires a row makes, and how many program bits it takes.
+pub struct RowCounts {
+    pub wires: usize,
+    pub bits: usize,
+}
+
+// Those of a row of this kind. What is no kind is counted as G.
+pub fn counts_of(kind: u16) -> RowCounts
+    ensures { λ r. ⌜ CountsOf kind r ⌝ }
+{
+    if kind == KIND_X {
+        return RowCounts { wires: 2, bits: 1 };
+    }
+    if kind == KIND_Y {
+        return RowCounts { wires: 1, bits: 1 };
+    }
+    RowCounts {
+        wires: 1,
+        bits: GATE_BITS,
+    }
+}
+
+// The place of row i in the table. Behind the last row stand the output wires.
+pub fn row_place(i: u16) -> usize
+    ensures { λ r. ⌜ (r ≡ header + stride * i) × (r ≤ stride * maxFabricWires) ⌝ }
+{
+    HEADER + elements::row_place(i as u32)
+}
+
+// An entry of the table, as a wire.
+pub fn wire_of(entry: u16) -> FabricWire
+    ensures { λ r. ⌜ r .0 ≡ entry ⌝ }
+{
+    FabricWire(entry as u32)
+}
+
+// The length that a table with these counts has.
+pub(crate) fn table_length(table: &[u16]) -> usize
+    requires { ⌜ header ≤ length (now table) ⌝ }
+    ensures { λ r. ⌜ r ≡ header + stride * rowsIn (now (table .entry)) + outputsIn (now (table .entry)) ⌝ }
+{
+    row_place(table[ROWS]) + wide(table[OUTPUTS])
+}
