@@ -15,8 +15,9 @@ const PAGE: &str = "docs/WHAT_IS_PROVED.md";
 const EXPORTS: &str = "crates/capi/src";
 
 /// The crates whose root hands on the library's calls.
-const LIBRARIES: [&str; 7] = [
+const LIBRARIES: [&str; 8] = [
     "plan",
+    "plan_faults",
     "evaluation",
     "cursor",
     "reading",

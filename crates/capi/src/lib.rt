@@ -3,7 +3,8 @@
 ghost use mathlib.Core.Path.{_≡_};
 ghost use lib.ListN.{length};
 ghost use Rattle.plan.specs.Faults.{planFault};
-ghost use Rattle.evaluation.specs.Evaluation.{evaluateFault, evaluateResult};
+ghost use Rattle.evaluation_checks.specs.EvaluationChecks.{evaluateFault};
+ghost use Rattle.evaluation.specs.Evaluation.{evaluateResult};
 ghost use Rattle.reading.specs.PlanFile.{planRead};
 ghost use Rattle.write_checks.specs.WriteChecks.{writeFault, selectionWriteFault};
 ghost use Rattle.permutation_rows.specs.WriteCalls.{writtenRows, writtenOutputs};

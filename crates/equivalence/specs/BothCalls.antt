@@ -6,7 +6,8 @@ use Rattle.fault.specs.Checks.{andThen, roomFault}
 use Rattle.fault.specs.Buffers.{filled}
 use Rattle.plan.specs.declared.record.Plan.{Plan}
 use Rattle.plan.specs.Faults.{planFault}
-use Rattle.evaluation.specs.Evaluation.{contactFault, gateBit, planOutputs}
+use Rattle.evaluation_checks.specs.EvaluationChecks.{contactFault}
+use Rattle.evaluation.specs.Evaluation.{gateBit, planOutputs}
 use Rattle.universal.specs.Fabric.{fabricTable, fabricWires, planProgram}
 use Rattle.universal.specs.Tables.{runWires, runOutputs}
 use Rattle.fabric_sizes.specs.Counting.{tableLength}

@@ -14,8 +14,9 @@ use Rattle.fault.specs.declared.Fault.{Fault}
 use Rattle.fault.specs.ChecksLaws.{unless-zero, and-then-zero, number-positive}
 use Rattle.plan.specs.declared.record.Plan.{Plan}
 use Rattle.plan.specs.Faults.{Accepted}
-use Rattle.evaluation.specs.Evaluation.{contactFault, gateBit, planOutputs, evaluateResult}
-use Rattle.evaluation.specs.EvaluationLaws.{row-length, row-bit}
+use Rattle.evaluation_checks.specs.EvaluationChecks.{contactFault}
+use Rattle.evaluation.specs.Evaluation.{gateBit, planOutputs, evaluateResult}
+use Rattle.evaluation_checks.specs.EvaluationChecksLaws.{row-length, row-bit}
 use Rattle.universal.specs.Fabric.{planProgram}
 use Rattle.universal.specs.Tables.{runWires, runOutputs}
 use Rattle.universal.specs.FabricTableLaws.{fabric-runs}

@@ -12,7 +12,8 @@ use Rattle.fault.specs.Checks.{roomFault}
 use Rattle.fault.specs.ChecksLaws.{unless-zero, and-then-zero, first-of-zero}
 use Rattle.plan.specs.declared.record.Plan.{Plan}
 use Rattle.plan.specs.Faults.{countsFault, planFault, Accepted}
-use Rattle.evaluation.specs.Evaluation.{contactFault, gateBit, planOutputs, evaluateFault, evaluateResult}
+use Rattle.evaluation_checks.specs.EvaluationChecks.{contactFault, evaluateFault}
+use Rattle.evaluation.specs.Evaluation.{gateBit, planOutputs, evaluateResult}
 use Rattle.universal.specs.Fabric.{planProgram}
 use Rattle.universal.specs.Tables.{runOutputs}
 use Rattle.universal.specs.FabricTableLaws.{fabric-inputs, fabric-outputs, fabric-wiresIn, fabric-well-formed, program-exact, fabric-runs}

@@ -8,7 +8,8 @@ use Rattle.lists.specs.ListsLaws.{listOf-ext}
 use Rattle.plan.specs.declared.record.Plan.{Plan}
 use Rattle.plan.specs.Record.{outputAt}
 use Rattle.plan.specs.AgreeLaws.{Agree, same-fault}
-use Rattle.evaluation.specs.Evaluation.{valueOn, planWires, namedBy, planOutputs, gateBit, evaluateFault, evaluateResult}
+use Rattle.evaluation_checks.specs.EvaluationChecks.{evaluateFault}
+use Rattle.evaluation.specs.Evaluation.{valueOn, planWires, namedBy, planOutputs, gateBit, evaluateResult}
 
 module _ (p q : Plan) (same : Agree p q) where
   -- over values of any type

@@ -2,16 +2,13 @@
 -- the wire that output j names". The wires are defined over values of any type, bits are one instance.
 use Prim.Native.Nat.{ℕ, zero, suc, _+_, _-_, _*_, _/_, _%_, _^_}
 use mathlib.Core.List.{List, [], _∷_, _++_}
-use lib.Dec.{leb, eqb}
 use lib.ListN.{length, getD}
 use Rattle.lists.specs.Lists.{listOf}
-use Rattle.fault.specs.declared.Fault.{Fault}
-use Rattle.fault.specs.Checks.{unless, andThen, firstOf, roomFault}
 use Rattle.fault.specs.Buffers.{filled}
 use Rattle.plan.specs.declared.record.Plan.{Plan}
 use Rattle.plan.specs.declared.record.PlanWire.{PlanWire}
 use Rattle.plan.specs.Record.{gateAt, outputAt}
-use Rattle.plan.specs.Faults.{planFault}
+use Rattle.evaluation_checks.specs.EvaluationChecks.{evaluateFault}
 
 -- the value on a wire: wire w stands at place w - 1
 abbrev pub valueOn : {A : Type 0} → A → List A → PlanWire → A
@@ -41,16 +38,6 @@ tableBit t a b = t / 2 ^ (2 * a + b) % 2
 -- the action of a gate on bits
 abbrev pub gateBit : ℕ → ℕ → ℕ → ℕ → ℕ
 gateBit i t a b = tableBit t a b
-
--- 12: the row is not of length u, or an entry is not 0 or 1
-unfoldable pub contactFault : ℕ → List ℕ → ℕ
-contactFault u row =
-    andThen (unless (eqb (length row) u) Fault.Contact)
-    (firstOf (λ i. unless (leb (getD row i 0) 1) Fault.Contact) (length row))
-
--- the call's checks, with a result buffer of n entries: plan faults, 12, 11
-abbrev pub evaluateFault : Plan → List ℕ → ℕ → ℕ
-evaluateFault p row n = andThen (planFault p) (andThen (contactFault (p .inputs) row) (roomFault (p .«output_count») n))
 
 -- the result buffer after the call
 abbrev pub evaluateResult : Plan → List ℕ → List ℕ → List ℕ

@@ -1,53 +1,28 @@
 -- Laws of evaluation: how many wires there are, that bits stay bits, and that unused places of the wires' array do not show.
 use mathlib.Core.Path.{_≡_, ap, _∙_, fun-ext}
-use mathlib.Core.Bool.{true}
 use mathlib.Core.List.{List, [], _∷_, _++_}
 use Prim.Native.Nat.{ℕ, zero, suc, _+_, _-_, _<_, _≤_}
 use native.Mathlib.Omega.{arith}
 use native.Mathlib.Numerals.{add-one}
-use native.Mathlib.Decide.{decLt}
-use borrow.Author.Tests.{leb-true, eqb-true}
-use lib.Dec.{leb, eqb}
-use lib.ListN.{length, getD, set, length-append, List·getD-eq-default}
+use lib.ListN.{length, getD, set, length-append}
 use Rattle.lists.specs.Lists.{listOf}
-use Rattle.fault.specs.Checks.{roomFault}
-use Rattle.fault.specs.ChecksLaws.{unless-zero, and-then-zero, first-of-zero}
 use Rattle.plan.specs.declared.record.Plan.{Plan}
 use Rattle.plan.specs.Record.{maxInputs, maxGates, maxOutputs, places, gateAt, outputAt, gateWire}
 use Rattle.plan.specs.RecordLaws.{places-more, getD-places}
 use Rattle.plan.specs.Faults.{Accepted}
 use Rattle.plan.specs.FaultsLaws.{GateWithin, accepted-counts, accepted-gate, accepted-output}
-use Rattle.evaluation.specs.Evaluation.{valueOn, planWires, namedBy, tableBit, gateBit, contactFault, evaluateFault}
+use Rattle.evaluation_checks.specs.EvaluationChecksLaws.{Evaluable, row-length, row-bit}
+use Rattle.evaluation.specs.Evaluation.{valueOn, planWires, namedBy, tableBit, gateBit}
 
 -- the wires of the largest plan
 abbrev pub maxPlanWires : ℕ
 maxPlanWires = maxInputs + maxGates
-
--- an accepted plan with a row of its inputs
-pub record Evaluable (p : Plan) (row : List ℕ) : Type 0 where
-  pub accepted : Accepted p
-  pub contacts : contactFault (p .inputs) row ≡ 0
 
 module _ {A : Type 0} (none : A) (act : ℕ → ℕ → A → A → A) (p : Plan) (row : List A) where
   pub length-planWires : (n : ℕ) → length (planWires none act p row n) ≡ length row + n
   unfolding planWires
   length-planWires zero = omega arith
   length-planWires (suc n) = length-append (planWires none act p row n) _ ∙ omega (arith, length-planWires n)
-
--- a row that passes its check: one entry for each input, each 0 or 1
-module _ (u : ℕ) (row : List ℕ) (contacts : contactFault u row ≡ 0) where
-  passed : (eqb (length row) u ≡ true) × ((i : ℕ) → i < length row → leb (getD row i 0) 1 ≡ true)
-  unfolding contactFault
-  passed = simp (and-then-zero, first-of-zero, unless-zero) at contacts
-
-  pub row-length : length row ≡ u
-  row-length = eqb-true (length row) u (passed .0)
-
-  pub row-bit : (i : ℕ) → getD row i 0 ≤ 1
-  row-bit i = elim (decLt i (length row)) [
-    | yes y ↦ leb-true _ 1 (passed .1 i y)
-    | no n ↦ rw (List·getD-eq-default row 0 {n = i} (omega arith)) (omega arith)
-  ]
 
 pub table-bit : (t a b : ℕ) → tableBit t a b ≤ 1
 unfolding tableBit
@@ -113,17 +88,6 @@ module _ (p : Plan) (row : List ℕ) (e : Evaluable p row) where
       let lw : length ws ≡ p .inputs + i = length-planWires 0 gateBit p row i ∙ ap (λ n. n + i) l in
       rw (add-one i, er, held, getD-places maxPlanWires 0 ws (gateAt p i .first .0 - 1), getD-places maxPlanWires 0 ws (gateAt p i .second .0 - 1))
       (places-more maxPlanWires 0 ws _ (p .inputs + i) lw (g .own))
-
--- what the checks of evaluation give where none fails
-pub record EvaluationPasses (p : Plan) (row : List ℕ) (n : ℕ) : Type 0 where
-  pub evaluable : Evaluable p row
-  pub room : p .«output_count» ≤ n
-
-pub evaluation-passes : (p : Plan) (row : List ℕ) (n : ℕ) → evaluateFault p row n ≡ 0 → EvaluationPasses p row n
-unfolding roomFault
-evaluation-passes p row n e =
-    let h = simp (and-then-zero, unless-zero) at e in
-    record { evaluable = record { accepted = h .0; contacts = h .1 .0 }; room = leb-true (p .«output_count») n (h .1 .1) }
 
 -- unused places of the wires' array do not show in the outputs
 pub named-places : (p : Plan) (ws : List ℕ) (n m : ℕ) → namedBy 0 p (places n 0 ws) m ≡ namedBy 0 p ws m

@@ -6,13 +6,14 @@ ghost use Rattle.fault.specs.Number.{answerNumber};
 ghost use Rattle.fault.specs.Buffers.{over};
 ghost use Rattle.plan.specs.Record.{places};
 ghost use Rattle.plan.specs.Faults.{Accepted};
-ghost use Rattle.evaluation.specs.Evaluation.{tableBit, gateBit, planWires, namedBy, contactFault, evaluateFault, evaluateResult};
-ghost use Rattle.evaluation.specs.EvaluationLaws.{maxPlanWires, Evaluable};
+ghost use Rattle.evaluation_checks.specs.EvaluationChecks.{evaluateFault};
+ghost use Rattle.evaluation_checks.specs.EvaluationChecksLaws.{Evaluable};
+ghost use Rattle.evaluation.specs.Evaluation.{tableBit, gateBit, planWires, namedBy, evaluateResult};
+ghost use Rattle.evaluation.specs.EvaluationLaws.{maxPlanWires};
+use evaluation_checks::check_evaluate;
 use fault::Answer;
-use fault::Fault;
 use plan::Plan;
 use plan::PlanWire;
-use plan_faults::plan_fault;
 
 // The wires of the largest plan.
 const MAX_PLAN_WIRES: usize = Plan::MAX_INPUTS + Plan::MAX_GATES;
@@ -29,41 +30,6 @@ pub fn evaluate(plan: Plan, row: &[u8], result: &mut [u8]) -> Answer
             Answer::Done
         }
     }
-}
-
-// The checks of evaluation: plan faults, 12, 11.
-fn check_evaluate(plan: Plan, row: &[u8], room: usize) -> Answer
-    ensures { λ r. ⌜ answerNumber r ≡ evaluateFault plan (now (row .entry)) room ⌝ }
-{
-    match plan_fault(plan) {
-        Answer::Refused(f) => Answer::Refused(f),
-        Answer::Done => match contact_fault(plan.inputs as usize, row) {
-            Answer::Refused(f) => Answer::Refused(f),
-            Answer::Done => {
-                if room < plan.output_count as usize {
-                    return Answer::Refused(Fault::Short);
-                }
-                Answer::Done
-            }
-        },
-    }
-}
-
-// Whether a row has one entry for each input, each 0 or 1.
-pub fn contact_fault(inputs: usize, row: &[u8]) -> Answer
-    ensures { λ r. ⌜ answerNumber r ≡ contactFault inputs (now (row .entry)) ⌝ }
-{
-    if row.len() != inputs {
-        return Answer::Refused(Fault::Contact);
-    }
-    let mut i: usize = 0;
-    while i < row.len() {
-        if 1 < row[i] {
-            return Answer::Refused(Fault::Contact);
-        }
-        i += 1;
-    }
-    Answer::Done
 }
 
 // The bit that a gate's table gives for its operands' bits.

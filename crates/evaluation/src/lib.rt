@@ -2,5 +2,4 @@
 // has a fault, or gives the plan's outputs.
 mod evaluation;
 
-pub use evaluation::contact_fault;
 pub use evaluation::evaluate;

@@ -9,7 +9,7 @@ use Rattle.lists.specs.ListsLaws.{listOf-ext}
 use Rattle.fault.specs.Checks.{roomFault}
 use Rattle.fault.specs.ChecksLaws.{and-then-zero, unless-zero}
 use Rattle.fault.specs.Buffers.{over}
-use Rattle.evaluation.specs.EvaluationLaws.{row-length, row-bit}
+use Rattle.evaluation_checks.specs.EvaluationChecksLaws.{row-length, row-bit}
 use Rattle.universal.specs.Tables.{inputsIn, outputsIn, outputWireAt, wiresIn, runWires, runOutputs}
 use Rattle.universal.specs.TablesLaws.{WellFormed, table-faultless, length-runWires}
 use Rattle.run_checks.specs.RunFault.{runFault}

@@ -2,7 +2,7 @@
 use Prim.Native.Nat.{ℕ}
 use mathlib.Core.List.{List}
 use Rattle.fault.specs.Checks.{andThen, roomFault}
-use Rattle.evaluation.specs.Evaluation.{contactFault}
+use Rattle.evaluation_checks.specs.EvaluationChecks.{contactFault}
 use Rattle.universal.specs.Tables.{inputsIn, outputsIn, wiresIn, bitsIn, tableFault, programFault}
 
 -- 11: a work buffer and a result of so many entries, where there are so many wires and outputs

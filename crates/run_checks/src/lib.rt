@@ -8,7 +8,7 @@ ghost use Rattle.table_checks.specs.Counting.{maxBits};
 ghost use Rattle.run_checks.specs.RunFault.{roomsFault, runFault};
 use elements::read_bit;
 use elements::wide;
-use evaluation::contact_fault;
+use evaluation_checks::contact_fault;
 use fault::Answer;
 use fault::Fault;
 use table_checks::INPUTS;

@@ -12,8 +12,10 @@ use Rattle.plan.specs.declared.record.Plan.{Plan}
 use Rattle.plan.specs.Record.{gateAt}
 use Rattle.plan.specs.Faults.{countsFault, Accepted}
 use Rattle.plan.specs.FaultsLaws.{counts-within}
-use Rattle.evaluation.specs.Evaluation.{valueOn, planWires, namedBy, planOutputs, tableBit, gateBit, contactFault}
-use Rattle.evaluation.specs.EvaluationLaws.{row-length, row-bit, wire-bit}
+use Rattle.evaluation_checks.specs.EvaluationChecks.{contactFault}
+use Rattle.evaluation.specs.Evaluation.{valueOn, planWires, namedBy, planOutputs, tableBit, gateBit}
+use Rattle.evaluation_checks.specs.EvaluationChecksLaws.{row-length, row-bit}
+use Rattle.evaluation.specs.EvaluationLaws.{wire-bit}
 use Rattle.networks.specs.Rows.{Row, gateBits, flat, run, lineOf, gateOnBits}
 use Rattle.networks.specs.Bits.{bytesFor, unpack}
 use Rattle.networks.specs.BitsLaws.{length-pack, unpack-pack}

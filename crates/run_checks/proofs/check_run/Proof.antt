@@ -6,7 +6,7 @@ use native.Mathlib.Omega.{arith}
 use borrow.Author.Needs.{needs}
 use Rattle.fault.specs.Number.{answerNumber}
 use Rattle.fault.specs.ChecksLaws.{first-refuses, second-answers}
-use Rattle.evaluation.specs.Evaluation.{contactFault}
+use Rattle.evaluation_checks.specs.EvaluationChecks.{contactFault}
 use Rattle.universal.specs.Tables.{inputsIn, bitsIn, tableFault, programFault}
 use Rattle.universal.specs.TablesLaws.{WellFormed, table-faultless}
 use Rattle.table_checks.specs.Counting.{maxBits}

@@ -5,8 +5,10 @@ use lib.ListN.{length}
 use Rattle.fault.specs.Number.{answerNumber}
 use Rattle.fault.specs.Buffers.{over}
 use Rattle.fault.specs.BuffersLaws.{filled-refused, filled-done}
-use Rattle.evaluation.specs.Evaluation.{evaluateFault, namedBy}
-use Rattle.evaluation.specs.EvaluationLaws.{evaluation-passes, named-places}
+use Rattle.evaluation_checks.specs.EvaluationChecks.{evaluateFault}
+use Rattle.evaluation.specs.Evaluation.{namedBy}
+use Rattle.evaluation_checks.specs.EvaluationChecksLaws.{evaluation-passes}
+use Rattle.evaluation.specs.EvaluationLaws.{named-places}
 use Rattle.evaluation.proofs.evaluation.evaluate.Statement.{statement}
 use Rattle.evaluation.proofs.evaluation.evaluate.Tie as tie
 

@@ -1,12 +1,12 @@
--- `evaluation::evaluation::check_evaluate` meets its contract: plan faults, 12, 11, each asked where those before it pass. Assumes nothing.
+-- `evaluation_checks::check_evaluate` meets its contract: plan faults, 12, 11, each asked where those before it pass. Assumes nothing.
 use mathlib.Core.Path.{sym, ap, _∙_}
 use borrow.Author.Needs.{needs}
 use borrow.Author.Tests.{lt-leb, le-leb}
 use Rattle.fault.specs.Number.{answerNumber}
 use Rattle.fault.specs.ChecksLaws.{first-refuses, second-answers}
 use Rattle.fault.specs.Checks.{roomFault}
-use Rattle.evaluation.proofs.evaluation.check_evaluate.Statement.{statement}
-use Rattle.evaluation.proofs.evaluation.check_evaluate.Tie as tie
+use Rattle.evaluation_checks.proofs.check_evaluate.Statement.{statement}
+use Rattle.evaluation_checks.proofs.check_evaluate.Tie as tie
 
 short : tie.Need-returns
 unfolding roomFault

@@ -1,4 +1,4 @@
--- `evaluation::evaluation::contact_fault` meets its contract. The loop's invariant: the first i entries pass. Assumes nothing.
+-- `evaluation_checks::contact_fault` meets its contract. The loop's invariant: the first i entries pass. Assumes nothing.
 use native.Mathlib.Omega.{arith}
 use mathlib.Core.Path.{_≡_, refl, sym, ap}
 use Prim.Native.Nat.{_≤_, _-_}
@@ -10,9 +10,9 @@ use lib.ListN.{length, getD}
 use Rattle.fault.specs.declared.Fault.{Fault}
 use Rattle.fault.specs.Checks.{unless, firstOf}
 use Rattle.fault.specs.ChecksLaws.{first-passes, first-fails}
-use Rattle.evaluation.specs.Evaluation.{contactFault}
-use Rattle.evaluation.proofs.evaluation.contact_fault.Statement.{statement}
-use Rattle.evaluation.proofs.evaluation.contact_fault.Tie as tie
+use Rattle.evaluation_checks.specs.EvaluationChecks.{contactFault}
+use Rattle.evaluation_checks.proofs.contact_fault.Statement.{statement}
+use Rattle.evaluation_checks.proofs.contact_fault.Tie as tie
 
 abbrev Inv-loop : tie.InvT-loop
 Inv-loop inputs row i₀ i =
