@@ -15,11 +15,12 @@ const PAGE: &str = "docs/WHAT_IS_PROVED.md";
 const EXPORTS: &str = "crates/capi/src";
 
 /// The crates whose root hands on the library's calls.
-const LIBRARIES: [&str; 8] = [
+const LIBRARIES: [&str; 9] = [
     "plan",
     "plan_faults",
     "evaluation",
     "cursor",
+    "gate_fields",
     "reading",
     "blocks",
     "fabric",

@@ -2,13 +2,11 @@
 use Prim.Native.Nat.{ℕ}
 use Rattle.fault.specs.Number.{faultNumber}
 use Rattle.fault.specs.declared.Refusal.{Refusal}
-use Rattle.plan.specs.declared.record.Gate.{Gate}
 use Rattle.cursor.specs.declared.cursor.CountStep.{CountStep}
 use Rattle.cursor.specs.declared.cursor.MapStep.{MapStep}
 use Rattle.cursor.specs.declared.cursor.OperandStep.{OperandStep}
 use Rattle.cursor.specs.declared.cursor.TableStep.{TableStep}
 use Rattle.cursor.specs.declared.cursor.OutputStep.{OutputStep}
-use Rattle.cursor.specs.declared.gate.GateStep.{GateStep}
 use Rattle.cursor.specs.Parsing.{Parsed, got, refused}
 
 -- a refusal: its number and its offset
@@ -34,8 +32,3 @@ tableAnswer (TableStep.Refused x) = refusal x
 abbrev pub outputAnswer : OutputStep → Parsed ℕ
 outputAnswer (OutputStep.Output w next) = got (w .0) (next .at)
 outputAnswer (OutputStep.Refused x) = refusal x
-
--- a gate, or its refusal
-abbrev pub gateAnswer : GateStep → Parsed Gate
-gateAnswer (GateStep.Gate g next) = got g (next .at)
-gateAnswer (GateStep.Refused x) = refusal x

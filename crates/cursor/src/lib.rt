@@ -1,7 +1,6 @@
-// The cursor of a plan file. For any bytes and any place in them, each step says, with proof, which field or gate stands there and where
-// the next one begins, or which fault it has and where.
+// The cursor of a plan file. For any bytes and any place in them, each step says, with proof, which field stands there and where the
+// next one begins, or which fault it has and where.
 mod cursor;
-mod gate;
 
 pub use cursor::CountStep;
 pub use cursor::Cursor;
@@ -9,4 +8,3 @@ pub use cursor::MapStep;
 pub use cursor::OperandStep;
 pub use cursor::OutputStep;
 pub use cursor::TableStep;
-pub use gate::GateStep;

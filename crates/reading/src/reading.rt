@@ -8,10 +8,11 @@ ghost use Rattle.reading.specs.Answers.{readAnswer};
 ghost use Rattle.reading.specs.Parts.{Limited, HeaderRead, countsPart, headerPart, bodyPart};
 use cursor::CountStep;
 use cursor::Cursor;
-use cursor::GateStep;
 use cursor::OutputStep;
 use fault::Fault;
 use fault::Refusal;
+use gate_fields::GateStep;
+use gate_fields::read_gate;
 use plan::Plan;
 use plan::PlanWire;
 
@@ -119,7 +120,7 @@ fn read_body(file: &[u8], c: Cursor, header: Header) -> PlanRead
     let mut at = c;
     let mut i: usize = 0;
     while i < gate_count {
-        match at.gate(file, gate_wire(inputs, i)) {
+        match read_gate(file, at, gate_wire(inputs, i)) {
             GateStep::Refused(x) => {
                 return refused_read(x);
             }

@@ -13,7 +13,7 @@ use fault::Answer;
 use fault::Fault;
 use table_checks::INPUTS;
 use table_checks::OUTPUTS;
-use table_checks::TableAnswer;
+use table_checks::TableCheck;
 use table_checks::check_table;
 
 // The checks of the run, for a work buffer and a result of so many entries.
@@ -21,8 +21,8 @@ pub fn check_run(table: &[u16], program: &[u8], row: &[u8], work: usize, result:
     ensures { λ r. ⌜ answerNumber r ≡ runFault (now (table .entry)) (now (program .entry)) (now (row .entry)) work result ⌝ }
 {
     match check_table(table) {
-        TableAnswer::Refused(f) => Answer::Refused(f),
-        TableAnswer::Counted(c) => match check_program(c.bits, program) {
+        TableCheck::Refused(f) => Answer::Refused(f),
+        TableCheck::Counted(c) => match check_program(c.bits, program) {
             Answer::Refused(f) => Answer::Refused(f),
             Answer::Done => match contact_fault(wide(table[INPUTS]), row) {
                 Answer::Refused(f) => Answer::Refused(f),

@@ -8,7 +8,7 @@ use Rattle.fault.specs.Number.{faultNumber}
 use Rattle.fault.specs.Checks.{unless, andThen, firstOf}
 use Rattle.universal.specs.Tables.{outputsIn, rowsIn, wiresBefore, wiresIn, bitsIn, maxFabricWires, outputWireFault, tableFault}
 use Rattle.universal.specs.TablesLaws.{HeaderWithin}
-use Rattle.table_checks.specs.declared.checking.TableAnswer.{TableAnswer}
+use Rattle.table_checks.specs.declared.checking.TableCheck.{TableCheck}
 
 -- what is said of a table: the number of the refusal, 0 for none; its wires and program bits, both 0 on a refusal
 pub record TableOutcome : Type 0 where
@@ -17,9 +17,9 @@ pub record TableOutcome : Type 0 where
   pub bits : ℕ
 
 -- what each case of the answer says
-abbrev pub tableAnswer : TableAnswer → TableOutcome
-tableAnswer (TableAnswer.Counted c) = record { number = 0; wires = c .wires; bits = c .bits }
-tableAnswer (TableAnswer.Refused f) = record { number = faultNumber f; wires = 0; bits = 0 }
+abbrev pub checkOutcome : TableCheck → TableOutcome
+checkOutcome (TableCheck.Counted c) = record { number = 0; wires = c .wires; bits = c .bits }
+checkOutcome (TableCheck.Refused f) = record { number = faultNumber f; wires = 0; bits = 0 }
 
 -- where a check gave this number
 abbrev pub countedOr : ℕ → List ℕ → TableOutcome
@@ -27,8 +27,8 @@ countedOr zero table = record { number = 0; wires = wiresIn table; bits = bitsIn
 countedOr (suc n) table = record { number = suc n; wires = 0; bits = 0 }
 
 -- the check of a table: 13
-abbrev pub tableChecked : List ℕ → TableOutcome
-tableChecked table = countedOr (tableFault table) table
+abbrev pub tableOutcome : List ℕ → TableOutcome
+tableOutcome table = countedOr (tableFault table) table
 
 -- ---- its parts
 

@@ -6,7 +6,7 @@ ghost use Rattle.fault.specs.Checks.{firstOf};
 ghost use Rattle.universal.specs.Tables.{outputsIn, rowsIn, wiresIn, kindAllowed, headerFault, rowFault, outputWireFault};
 ghost use Rattle.universal.specs.TablesLaws.{HeaderWithin};
 ghost use Rattle.table_checks.specs.Counting.{maxBits};
-ghost use Rattle.table_checks.specs.Checking.{tableAnswer, countedOr, tableChecked, RowToCheck, endFault};
+ghost use Rattle.table_checks.specs.Checking.{checkOutcome, countedOr, tableOutcome, RowToCheck, endFault};
 use crate::table::INPUTS;
 use crate::table::KIND_G;
 use crate::table::KIND_X;
@@ -31,23 +31,23 @@ pub struct TableCounts {
 }
 
 // What a check of a table answers.
-pub enum TableAnswer {
+pub enum TableCheck {
     Counted(TableCounts),
     Refused(Fault),
 }
 
 // 13: a malformed table.
-pub fn check_table(table: &[u16]) -> TableAnswer
-    ensures checked { λ r. ⌜ tableAnswer r ≡ tableChecked (now (table .entry)) ⌝ }
-    ensures few { λ r. ⌜ tableAnswer r .bits ≤ maxBits ⌝ }
+pub fn check_table(table: &[u16]) -> TableCheck
+    ensures checked { λ r. ⌜ checkOutcome r ≡ tableOutcome (now (table .entry)) ⌝ }
+    ensures few { λ r. ⌜ checkOutcome r .bits ≤ maxBits ⌝ }
 {
     match check_header(table) {
-        Answer::Refused(f) => TableAnswer::Refused(f),
+        Answer::Refused(f) => TableCheck::Refused(f),
         Answer::Done => match check_rows(table) {
-            TableAnswer::Refused(f) => TableAnswer::Refused(f),
-            TableAnswer::Counted(c) => match check_end(table, c.wires) {
-                Answer::Refused(f) => TableAnswer::Refused(f),
-                Answer::Done => TableAnswer::Counted(c),
+            TableCheck::Refused(f) => TableCheck::Refused(f),
+            TableCheck::Counted(c) => match check_end(table, c.wires) {
+                Answer::Refused(f) => TableCheck::Refused(f),
+                Answer::Done => TableCheck::Counted(c),
             },
         },
     }
@@ -73,10 +73,10 @@ fn check_header(table: &[u16]) -> Answer
 }
 
 // Row by row: a kind not 1 to 3; a wire not made before that row.
-fn check_rows(table: &[u16]) -> TableAnswer
+fn check_rows(table: &[u16]) -> TableCheck
     requires { ⌜ HeaderWithin (now table) ⌝ }
-    ensures checked { λ r. ⌜ tableAnswer r ≡ countedOr (firstOf (rowFault (now (table .entry))) (rowsIn (now (table .entry)))) (now (table .entry)) ⌝ }
-    ensures few { λ r. ⌜ tableAnswer r .bits ≤ maxBits ⌝ }
+    ensures checked { λ r. ⌜ checkOutcome r ≡ countedOr (firstOf (rowFault (now (table .entry))) (rowsIn (now (table .entry)))) (now (table .entry)) ⌝ }
+    ensures few { λ r. ⌜ checkOutcome r .bits ≤ maxBits ⌝ }
 {
     let rows = table[ROWS];
     let mut wires = 1 + wide(table[INPUTS]);
@@ -85,7 +85,7 @@ fn check_rows(table: &[u16]) -> TableAnswer
     while i < rows {
         match check_row(table, i, wires) {
             Answer::Refused(f) => {
-                return TableAnswer::Refused(f);
+                return TableCheck::Refused(f);
             }
             Answer::Done => {}
         }
@@ -94,7 +94,7 @@ fn check_rows(table: &[u16]) -> TableAnswer
         bits += own.bits;
         i += 1;
     }
-    TableAnswer::Counted(TableCounts {
+    TableCheck::Counted(TableCounts {
         wires: wires,
         bits: bits,
     })

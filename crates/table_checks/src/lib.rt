@@ -3,7 +3,7 @@
 mod checking;
 mod table;
 
-pub use checking::TableAnswer;
+pub use checking::TableCheck;
 pub use checking::TableCounts;
 pub use checking::check_table;
 pub use table::INPUTS;

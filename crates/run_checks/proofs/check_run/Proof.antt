@@ -10,7 +10,7 @@ use Rattle.evaluation_checks.specs.EvaluationChecks.{contactFault}
 use Rattle.universal.specs.Tables.{inputsIn, bitsIn, tableFault, programFault}
 use Rattle.universal.specs.TablesLaws.{WellFormed, table-faultless}
 use Rattle.table_checks.specs.Counting.{maxBits}
-use Rattle.table_checks.specs.Checking.{tableAnswer}
+use Rattle.table_checks.specs.Checking.{checkOutcome}
 use Rattle.table_checks.specs.CheckingLaws.{refused-by, CountedBy, counted-by}
 use Rattle.run_checks.specs.RunFault.{roomsFault, runFault}
 use Rattle.run_checks.proofs.check_run.Statement.{statement}
@@ -26,13 +26,13 @@ module _ (c : tie.After-c) where
 
   counted : CountedBy (tableFault table) table (c .c .given .0 .0)
   counted =
-      counted-by (tableFault table) table (c .c .given .0 .0) (ap tableAnswer (sym (c .c .given .1)) ∙ c .before .before .check-table .ensures .0)
+      counted-by (tableFault table) table (c .c .given .0 .0) (ap checkOutcome (sym (c .c .given .1)) ∙ c .before .before .check-table .ensures .0)
 
   well-formed : WellFormed table
   well-formed = table-faultless table .0 (sym (counted .passes))
 
   few : c .c .given .0 .0 .bits ≤ maxBits
-  few = subst (λ r. tableAnswer r .bits ≤ maxBits) (c .c .given .1) (c .before .before .check-table .ensures .1)
+  few = subst (λ r. checkOutcome r .bits ≤ maxBits) (c .c .given .1) (c .before .before .check-table .ensures .1)
 
 -- what 14 and 12 answer, and where they pass
 module _ (c : tie.After-check-program) where
@@ -66,7 +66,7 @@ bad-table c =
     let f = c .before .f .given in
     let asked = c .before .before .before in
     let table = asked .before .before .before .before .args .table .now in
-    first-refuses (f .0 .0) _ _ (refused-by (f .0 .0) (tableFault table) table (ap tableAnswer (sym (f .1)) ∙ asked .check-table .ensures .0))
+    first-refuses (f .0 .0) _ _ (refused-by (f .0 .0) (tableFault table) table (ap checkOutcome (sym (f .1)) ∙ asked .check-table .ensures .0))
 
 bad-program : tie.Need-returns-2
 unfolding runFault

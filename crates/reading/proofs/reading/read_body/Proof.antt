@@ -7,7 +7,8 @@ use borrow.Author.Needs.{needs}
 use Rattle.plan.specs.Record.{maxGates, maxOutputs, wire, zeroGate, gateWire}
 use Rattle.cursor.specs.Parsing.{got, followed}
 use Rattle.cursor.specs.Fields.{gateStep}
-use Rattle.cursor.specs.Answers.{gateAnswer, outputAnswer}
+use Rattle.cursor.specs.Answers.{outputAnswer}
+use Rattle.gate_fields.specs.Answers.{gateAnswer}
 use Rattle.reading.specs.PlanFile.{outputStep, outcome}
 use Rattle.reading.specs.PartsLaws.{ReadSoFar, Counted, none-read, one-more, one-refused, all-read, plan-held, gates-refused, outputs-refused, tail-refused, body-read}
 use Rattle.reading.proofs.reading.read_body.Statement.{statement}
@@ -43,7 +44,7 @@ no-gate c =
     let turn = met .before .before .before in
     let start = turn .before .before .before in
     let e =
-    ap gateAnswer (sym (c .before .before .x .given .1)) ∙ met .gate .ensures
+    ap gateAnswer (sym (c .before .before .x .given .1)) ∙ met .read-gate .ensures
     ∙ ap (λ w. gateStep w (start .args .file .now) (turn .loop .at .at)) (met .before .gate-wire .ensures) in
     rw (c .refused-read .ensures)
     (ap outcome (gates-refused (start .args .header) _ _ _ _ (one-refused _ _ _ _ _ _ _ _ _ _ _ (omega arith) (turn .loop .inv .3) e)))
@@ -54,7 +55,7 @@ again c =
     let turn = met .before .before .before in
     let start = turn .before .before .before in
     let e =
-    ap gateAnswer (sym (c .before .gate2 .given .1)) ∙ met .gate .ensures
+    ap gateAnswer (sym (c .before .gate .given .1)) ∙ met .read-gate .ensures
     ∙ ap (λ w. gateStep w (start .args .file .now) (turn .loop .at .at)) (met .before .gate-wire .ensures) in
     let same = turn .loop .inv .1 in (
       omega arith,

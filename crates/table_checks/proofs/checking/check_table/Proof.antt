@@ -11,7 +11,7 @@ use Rattle.fault.specs.ChecksLaws.{first-refuses, second-answers}
 use Rattle.universal.specs.Tables.{rowsIn, headerFault, rowFault, tableFault}
 use Rattle.universal.specs.TablesLaws.{header-faultless}
 use Rattle.table_checks.specs.Counting.{maxBits}
-use Rattle.table_checks.specs.Checking.{tableAnswer}
+use Rattle.table_checks.specs.Checking.{checkOutcome}
 use Rattle.table_checks.specs.CheckingLaws.{refused-table, refused-by, counted-table, CountedBy, counted-by}
 use Rattle.table_checks.proofs.checking.check_table.Statement.{statement}
 use Rattle.table_checks.proofs.checking.check_table.Tie as tie
@@ -27,7 +27,7 @@ module _ (c : tie.After-c) where
   rows-pass : CountedBy (firstOf (rowFault tableOf) (rowsIn tableOf)) tableOf (c .c .given .0 .0)
   rows-pass =
       counted-by (firstOf (rowFault tableOf) (rowsIn tableOf)) tableOf (c .c .given .0 .0)
-      (ap tableAnswer (sym (c .c .given .1)) ∙ c .before .before .check-rows .ensures .0)
+      (ap checkOutcome (sym (c .c .given .1)) ∙ c .before .before .check-rows .ensures .0)
 
 for-rows : tie.Need-check-rows-requires
 for-rows c κs = header-faultless (c .before .before .before .before .args .table .now) .0 (sym (header-passes c))
@@ -53,7 +53,7 @@ bad-row c =
     let f = c .before .f2 .given in
     let asked = c .before .before .before in
     let table = asked .before .before .before .before .before .args .table .now in
-    let e = refused-by (f .0 .0) (firstOf (rowFault table) (rowsIn table)) table (ap tableAnswer (sym (f .1)) ∙ asked .check-rows .ensures .0) in (
+    let e = refused-by (f .0 .0) (firstOf (rowFault table) (rowsIn table)) table (ap checkOutcome (sym (f .1)) ∙ asked .check-rows .ensures .0) in (
       refused-table (f .0 .0) (tableFault table) table
           (second-answers _ _ _ (header-passes (asked .before)) (first-refuses (f .0 .0) _ _ e)),
       omega arith,
@@ -81,7 +81,7 @@ well-formed c =
           (second-answers _ _ _ (header-passes (rows .before .before .before))
           (second-answers _ _ _ (rows-pass rows .passes) (ap answerNumber (sym (c .enum-told2 .given .1)) ∙ asked .check-end .ensures)))
           (rows-pass rows .counted),
-      subst (λ r. tableAnswer r .bits ≤ maxBits) (counts .1) (rows .before .before .check-rows .ensures .1),
+      subst (λ r. checkOutcome r .bits ≤ maxBits) (counts .1) (rows .before .before .check-rows .ensures .1),
     )
 
 pub check-table-spec : {M : Type 1} → statement M

@@ -1,10 +1,10 @@
--- `cursor::gate::read_fields` meets its contract: each step hands its value and cursor to the next. Assumes nothing.
+-- `gate_fields::read_fields` meets its contract: each step hands its value and cursor to the next. Assumes nothing.
 use mathlib.Core.Path.{sym, ap, _∙_}
 use borrow.Author.Needs.{needs}
 use Rattle.cursor.specs.Parsing.{followed}
 use Rattle.cursor.specs.Answers.{operandAnswer, tableAnswer}
-use Rattle.cursor.proofs.gate.read_fields.Statement.{statement}
-use Rattle.cursor.proofs.gate.read_fields.Tie as tie
+use Rattle.gate_fields.proofs.read_fields.Statement.{statement}
+use Rattle.gate_fields.proofs.read_fields.Tie as tie
 
 no-first : tie.Need-returns
 no-first c =

@@ -1,11 +1,11 @@
--- `cursor::gate::map_bit` meets its contract: a shift and a mask of one bit. Assumes nothing.
+-- `gate_fields::map_bit` meets its contract: a shift and a mask of one bit. Assumes nothing.
 use mathlib.Core.Path.{ap}
 use borrow.Author.Needs.{needs}
 use lib.Bits.{and-mask}
 use lib.Dec.{eqb}
 use Prim.Native.Nat.{_/_, _^_}
-use Rattle.cursor.proofs.gate.map_bit.Statement.{statement}
-use Rattle.cursor.proofs.gate.map_bit.Tie as tie
+use Rattle.gate_fields.proofs.map_bit.Statement.{statement}
+use Rattle.gate_fields.proofs.map_bit.Tie as tie
 
 within : tie.Need-shr-result
 within c = search needs

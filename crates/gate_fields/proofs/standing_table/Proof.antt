@@ -1,7 +1,7 @@
--- `cursor::gate::standing_table` meets its contract. Assumes nothing.
+-- `gate_fields::standing_table` meets its contract. Assumes nothing.
 use borrow.Author.Needs.{needs}
-use Rattle.cursor.proofs.gate.standing_table.Statement.{statement}
-use Rattle.cursor.proofs.gate.standing_table.Tie as tie
+use Rattle.gate_fields.proofs.standing_table.Statement.{statement}
+use Rattle.gate_fields.proofs.standing_table.Tie as tie
 
 stands : tie.Need-returns
 stands c = rw (← c .before .before .map-bit .ensures, c .before .if1 .taken) (c .table .ensures)

@@ -1,31 +1,32 @@
-// A gate of a plan file: one map byte, then only the fields whose map bit stands.
+// A gate of a plan file: one map byte, then only the fields whose map bit stands. For any bytes and any place in them the call says, with
+// proof, which gate stands there and where the next field begins, or which fault it has and where.
 ghost use mathlib.Core.Path.{_≡_};
 ghost use Prim.Native.Nat.{_-_, _<_};
 ghost use Rattle.cursor.specs.Parsing.{standing};
 ghost use Rattle.cursor.specs.Fields.{mapBit, operandField, tableField, gateFields, gateStep};
-ghost use Rattle.cursor.specs.Answers.{operandAnswer, tableAnswer, gateAnswer};
-use crate::cursor::Cursor;
-use crate::cursor::MapStep;
-use crate::cursor::OperandStep;
-use crate::cursor::TableStep;
+ghost use Rattle.cursor.specs.Answers.{operandAnswer, tableAnswer};
+ghost use Rattle.gate_fields.specs.Answers.{gateAnswer};
+use cursor::Cursor;
+use cursor::MapStep;
+use cursor::OperandStep;
+use cursor::TableStep;
 use fault::Refusal;
 use plan::Gate;
 use plan::PlanWire;
 
+// A gate with the next cursor, or its refusal.
 pub enum GateStep {
     Gate(Gate, Cursor),
     Refused(Refusal),
 }
 
-impl Cursor {
-    // The gate whose own wire is own: the map byte, then the fields that it says stand.
-    pub fn gate(self, file: &[u8], own: PlanWire) -> GateStep
-        ensures { λ r. ⌜ gateAnswer r ≡ gateStep (own .0) (now (file .entry)) (self .at) ⌝ }
-    {
-        match self.map_byte(file) {
-            MapStep::Refused(x) => GateStep::Refused(x),
-            MapStep::Map(map, next) => read_fields(file, next, own, map),
-        }
+// The gate whose own wire is own: the map byte, then the fields that it says stand.
+pub fn read_gate(file: &[u8], c: Cursor, own: PlanWire) -> GateStep
+    ensures { λ r. ⌜ gateAnswer r ≡ gateStep (own .0) (now (file .entry)) (c .at) ⌝ }
+{
+    match c.map_byte(file) {
+        MapStep::Refused(x) => GateStep::Refused(x),
+        MapStep::Map(map, next) => read_fields(file, next, own, map),
     }
 }
 

@@ -1,0 +1,2 @@
+-- Document 01, "The plan": what the answer of reading a gate says.
+pub mod Answers
