@@ -220,11 +220,14 @@ pub +write-level-spec : {M : Type 1} → statement M
     (λ c κs. (smaller t (c .before .before .before .before .before .before), upper-asked t (c .before .before .before .before .before .before)))
     -- the lower half, its stretch and its half of the list
     (λ c. some-below (parted t (inputs t (c .before .before .before .before)) .before .if1 .taken))
-    (λ c. fits t (inputs t (c .before .before .before .before)) .lower) (λ c. lower-at t (c .before .before .before .before)) (λ c. lower-at t (c .before .before .before .before)) (λ c. le-refl _)
-    (λ c. fits t (inputs t (c .before .before .before .before .before)) .half) (λ c. half-at t (c .before .before .before .before .before)) (λ c. half-at t (c .before .before .before .before .before)) (λ c. le-refl _)
+    (λ c. fits t (inputs t (c .before .before .before .before)) .lower)
+    (λ c. lower-at t (c .before .before .before .before)) (λ c. lower-at t (c .before .before .before .before)) (λ c. le-refl _)
+    (λ c. fits t (inputs t (c .before .before .before .before .before)) .half)
+    (λ c. half-at t (c .before .before .before .before .before)) (λ c. half-at t (c .before .before .before .before .before)) (λ c. le-refl _)
     (λ c κs. (smaller t (inputs t (c .before .before .before .before .before .before)), lower-asked t (c .before .before .before .before .before .before)))
     -- the outputs and their stretch
-    (λ c. fits t (inputs t (upper t (c .before .before .before .before))) .outputs) (λ c. outputs-at t (c .before .before .before .before)) (λ c. outputs-at t (c .before .before .before .before)) (λ c. le-refl _)
+    (λ c. fits t (inputs t (upper t (c .before .before .before .before))) .outputs)
+    (λ c. outputs-at t (c .before .before .before .before)) (λ c. outputs-at t (c .before .before .before .before)) (λ c. le-refl _)
     (λ c κs. outputs-asked t (c .before .before .before .before .before .before))
     -- P(2) and P(1)
     (λ c κs. (c .before .before .if1 .left, c .before .before .before .before .before .pre .1))
