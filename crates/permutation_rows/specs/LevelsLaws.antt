@@ -2,12 +2,16 @@
 -- in the place of its input wires.
 use mathlib.Core.Path.{_≡_, refl, sym, ap, ap₂, _∙_}
 use mathlib.Core.List.{List, [], _∷_, _++_}
-use Prim.Native.Nat.{ℕ, zero, suc, _-_, _*_, _^_, _≤_}
-use native.Mathlib.Nat.{pow-succ', not-suc-le-zero}
+use Prim.Native.Nat.{ℕ, zero, suc, _-_, _*_, _^_, _≤_, _<_}
+use native.Mathlib.Nat.{pow-succ', not-suc-le-zero, le-refl}
 use native.Mathlib.Omega.{arith}
 use lib.ListN.{length, take, length-append, length-take}
+use mir.Syntax.{w64}
+use mir.Val.{Fits}
+use mir.Facts.{fits-below}
 use borrow.Rule.Slice.PartMut.{mid-len}
 use Rattle.lists.specs.Lists.{listOf}
+use Rattle.elements.specs.Wires.{maxWires}
 use Rattle.fault.specs.Buffers.{over}
 use Rattle.networks.specs.Rows.{stride, flat}
 use Rattle.networks.specs.Permutation.{permutationCount, inputRows, outputRows, firsts, seconds, upperNext, lowerNext}
@@ -19,14 +23,56 @@ use Rattle.permutation_rows.specs.HalvesLaws.{step-power, length-rows, l
 use Rattle.permutation_rows.specs.HalvesLaws.{output-rows-are, outputs-are, inputs-taken, length-inputs, length-outputs, flat-parts}
 use Rattle.fault.specs.PartsLaws.{partOf, withPart, length-over, over-part, over-again}
 
--- the outputs of a level fit what is left for them
-pub output-room : (level next : ℕ) (p : Parts) (R W : List ℕ) → PartsAt level next p → stride * permutationCount level ≤ length R
-    → 2 ^ level ≤ length W → OutputRoom (p .half) (p .«output_next» .0) (length (partOf (p .outputs) R)) (length W)
-output-room level next p R W at rowRoom wireRoom =
-    record {
-      join = record { some = at .some; small = at .small; wires = omega arith; wireRoom = omega arith };
-      rowRoom = rw (mid-len (p .outputs) (length R) R (omega arith)) (omega arith);
-    }
+-- the parts begin at bytes that fit: an entry has two
+pub record PlacesFit (p : Parts) : Type 0 where
+  pub half : Fits w64 (p .half * 2)
+  pub upper : Fits w64 (p .upper * 2)
+  pub lower : Fits w64 (p .lower * 2)
+  pub outputs : Fits w64 (p .outputs * 2)
+
+pub places-fit : {level next : ℕ} {p : Parts} → PartsAt level next p → PlacesFit p
+places-fit w = record { half = few (omega arith); upper = few (omega arith); lower = few (omega arith); outputs = few (omega arith) }
+  where
+    few : {m : ℕ} → m ≤ 2 * (stride * maxWires) → Fits w64 m
+    few = fits-below tt
+
+-- the parts of a level in the part R of the table and in the list W of wires, which stay as long as the level was given them
+module _ {level next entries places : ℕ} {p : Parts} (at : PartsAt level next p) (room : LevelRoom level next entries places) (R W : List ℕ)
+    (rows : length R ≡ entries) (wires : length W ≡ places) where
+  pub upper-in : p .upper ≤ length R
+  upper-in = omega arith
+
+  pub lower-in : p .lower ≤ length R
+  lower-in = omega arith
+
+  pub outputs-in : p .outputs ≤ length R
+  outputs-in = omega arith
+
+  pub half-in : p .half ≤ length W
+  half-in = omega arith
+
+  pub upper-room : 1 < level → LevelRoom (level - 1) (p .«upper_next» .0) (length (partOf (p .upper) R)) (length W)
+  upper-room some = record {
+    small = omega arith;
+    wires = λ l. omega arith;
+    rowRoom = rw (mid-len (p .upper) (length R) R (le-refl (length R))) (omega arith);
+    wireRoom = omega arith;
+  }
+
+  pub lower-room : 1 < level → LevelRoom (level - 1) (p .«lower_next» .0) (length (partOf (p .lower) R)) (length (partOf (p .half) W))
+  lower-room some = record {
+    small = omega arith;
+    wires = λ l. omega arith;
+    rowRoom = rw (mid-len (p .lower) (length R) R (le-refl (length R))) (omega arith);
+    wireRoom = rw (mid-len (p .half) (length W) W (le-refl (length W))) (omega arith);
+  }
+
+  -- the outputs of a level fit what is left for them
+  pub output-room : OutputRoom (p .half) (p .«output_next» .0) (length (partOf (p .outputs) R)) (length W)
+  output-room = record {
+    join = record { some = at .some; small = at .small; wires = omega arith; wireRoom = omega arith };
+    rowRoom = rw (mid-len (p .outputs) (length R) R (le-refl (length R))) (omega arith);
+  }
 
 -- R and W are the table's part and the list of wires after each step, F and G the parts that a callee was lent
 pub record LevelSteps (level next : ℕ) (p : Parts) (R₀ W₀ R₁ W₁ F₁ W₂ F₂ G F₃ W₄ : List ℕ) : Type 0 where

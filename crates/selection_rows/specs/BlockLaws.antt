@@ -7,6 +7,9 @@ use native.Mathlib.Decide.{decLe}
 use native.Mathlib.Omega.{arith}
 use lib.ListN.{length, take, drop, length-append}
 use lib.Seq.{ext-getD, getD-take, length-take-le, take-at}
+use mir.Syntax.{w64}
+use mir.Val.{Fits}
+use mir.Facts.{fits-below}
 use borrow.Rule.Slice.PartMut.{mid-len}
 use Rattle.fault.specs.Buffers.{over, filled}
 use Rattle.fault.specs.PartsLaws.{partOf, withPart, length-over, over-part, over-again}
@@ -16,7 +19,8 @@ use Rattle.networks.specs.Permutation.{permutationCount, permutationRows, permu
 use Rattle.networks.specs.Selection.{padded, chainRows, chainOuts, chainNext, secondNext, firstOuts, middleOuts}
 use Rattle.networks.specs.Selection.{wholeRows, wholeOuts, wholeCount, wholeWires}
 use Rattle.networks.specs.SelectionLaws.{WholeWires, whole-wires, length-padded, getD-padded, length-wholeOuts}
-use Rattle.sizes.specs.Sizes.{levelOf}
+use Rattle.sizes.specs.Sizes.{maxSize, maxLevel, levelOf}
+use Rattle.sizes.specs.SizesLaws.{few-rows}
 use Rattle.elements.specs.Wires.{maxWires}
 use Rattle.elements.specs.WiresLaws.{wire-after}
 use Rattle.write_checks.specs.WriteChecksLaws.{WritePasses}
@@ -44,6 +48,25 @@ taken-padded N l h =
 -- a buffer after P's call where no check fails
 pub filled-over : (n : ℕ) (new old l : List ℕ) → l ≡ filled n new old → n ≡ 0 → l ≡ over new old
 filled-over n new old l e z = rw z at e
+
+-- where the parts begin lies in the table's part, at bytes that fit: an entry has two
+pub record PlacesIn (p : Parts) (rows : ℕ) : Type 0 where
+  pub chain : p .chain ≤ rows
+  pub second : p .second ≤ rows
+  pub chainFits : Fits w64 (p .chain * 2)
+  pub secondFits : Fits w64 (p .second * 2)
+
+pub places-in : {N next rows to places : ℕ} {from : List ℕ} {p : Parts} → BlockRoom N from next rows to → PartsAt (levelOf N) next p → places ≡ rows
+    → PlacesIn p places
+places-in {N} room at same =
+    let l = room .rowRoom in
+    let few = few-rows (levelOf N) (room .made .size .level) in
+    let e = room .made .size .power in
+    let most = room .made .size .most in
+    record { chain = omega arith; second = omega arith; chainFits = small (omega arith); secondFits = small (omega arith) }
+  where
+    small : {m : ℕ} → m ≤ 2 * (stride * (maxLevel * maxSize + maxSize)) → Fits w64 m
+    small = fits-below tt
 
 -- ---- the steps. R, A and T are the table's part, `from` and `to` after each, F the parts of the table that a callee was lent
 

@@ -2,13 +2,19 @@
 -- the rest of the record is as it was; the second's the same of outputs. Assumes nothing.
 use native.Mathlib.Omega.{arith}
 use mathlib.Core.Path.{_≡_, refl, sym, ap, _∙_}
-use Prim.Native.Nat.{_≤_, _-_}
+use native.Mathlib.Nat.{le-antisymm, lt-of-lt-of-le, mul-le-mul}
+use Prim.Native.Nat.{ℕ, zero-le, _+_, _-_, _*_, _≤_, _<_}
+use mir.Syntax.{w64}
+use mir.Val.{Fits}
+use mir.Facts.{fits-below}
+use lib.Dec.{lit≤}
 use borrow.Author.Needs.{needs}
 use Rattle.plan.specs.Record.{maxGates, maxOutputs, wire, zeroGate, gateWire}
 use Rattle.cursor.specs.Parsing.{got, followed}
 use Rattle.cursor.specs.Fields.{gateStep}
 use Rattle.cursor.specs.Answers.{outputAnswer}
 use Rattle.gate_fields.specs.Answers.{gateAnswer}
+use Rattle.reading.specs.Parts.{Limited}
 use Rattle.reading.specs.PlanFile.{outputStep, outcome}
 use Rattle.reading.specs.PartsLaws.{ReadSoFar, Counted, none-read, one-more, one-refused, all-read, plan-held, gates-refused, outputs-refused, tail-refused, body-read}
 use Rattle.reading.proofs.reading.read_body.Statement.{statement}
@@ -30,9 +36,27 @@ Inv-loop2 file inputs gates outputs gate-count output-count plan₀ at₀ i j₀
 abbrev μ-loop2 : tie.MeasureT-loop2
 μ-loop2 file inputs gates outputs gate-count output-count plan₀ at₀ i j₀ plan at j = output-count - j
 
+-- a turn of a loop over so many items, which the record has places for: their bytes fit, and one turn less is left
+module _ {i n places : ℕ} (h : i < n) (small : n ≤ places) where
+  within : i < places
+  within = lt-of-lt-of-le h small
+
+  bytes-fit : (size : ℕ) → size ≤ 6 → places ≤ 256 → Fits w64 (i * size)
+  bytes-fit size s p = fits-below {n = 256 * 6} tt (let few : i ≤ 256 = omega arith in mul-le-mul few s)
+
+  next-fits : places ≤ 256 → Fits w64 (i + 1)
+  next-fits p = fits-below {n = 256} tt (omega arith)
+
+module _ {i n : ℕ} (h : i < n) where
+  next-within : i + 1 ≤ n
+  next-within = omega arith
+
+  fewer-left : n - (i + 1) < n - i
+  fewer-left = omega arith
+
 holds : tie.Need-loop-holds Inv-loop μ-loop Inv-loop2 μ-loop2
 holds c = (
-  omega arith,
+  zero-le,
   record { inputs = refl; gates = refl; outputs = refl },
   refl,
   none-read _ _ _ _ _ _ (ap (λ p. p .gates) (c .zero .ensures)),
@@ -47,7 +71,7 @@ no-gate c =
     ap gateAnswer (sym (c .before .before .x .given .1)) ∙ met .read-gate .ensures
     ∙ ap (λ w. gateStep w (start .args .file .now) (turn .loop .at .at)) (met .before .gate-wire .ensures) in
     rw (c .refused-read .ensures)
-    (ap outcome (gates-refused (start .args .header) _ _ _ _ (one-refused _ _ _ _ _ _ _ _ _ _ _ (omega arith) (turn .loop .inv .3) e)))
+    (ap outcome (gates-refused (start .args .header) _ _ _ _ (one-refused _ _ _ _ _ _ _ _ _ _ _ (met .before .before .loop-test .taken) (turn .loop .inv .3) e)))
 
 again : tie.Need-loop-again Inv-loop μ-loop Inv-loop2 μ-loop2
 again c =
@@ -57,17 +81,18 @@ again c =
     let e =
     ap gateAnswer (sym (c .before .gate .given .1)) ∙ met .read-gate .ensures
     ∙ ap (λ w. gateStep w (start .args .file .now) (turn .loop .at .at)) (met .before .gate-wire .ensures) in
+    let taken = met .before .before .loop-test .taken in
     let same = turn .loop .inv .1 in (
-      omega arith,
+      next-within taken,
       record { inputs = same .inputs; gates = same .gates; outputs = same .outputs },
       turn .loop .inv .2,
-      one-more _ _ _ _ _ _ _ _ _ _ (omega arith) (turn .loop .inv .3) e,
+      one-more _ _ _ _ _ _ _ _ _ _ (within taken (start .pre .gates)) (turn .loop .inv .3) e,
     )
 
 holds2 : tie.Need-loop2-holds Inv-loop μ-loop Inv-loop2 μ-loop2
 holds2 c =
     let first = c .before in (
-      omega arith,
+      zero-le,
       first .loop .inv .1,
       refl,
       none-read _ _ _ _ _ _ (first .loop .inv .2 ∙ ap (λ p. p .outputs) (first .before .zero .ensures)),
@@ -79,22 +104,24 @@ no-output c =
     let second = met .before .before in
     let first = second .before .before in
     let h = first .before .before .before .args .header in
-    let gates-read : first .loop .i ≡ h .gates = omega arith in
+    let gates-read : first .loop .i ≡ h .gates = le-antisymm (first .loop .inv .0) (second .before .loop-test .left) in
     rw (c .refused-read2 .ensures)
     (ap outcome
     (outputs-refused h _ _ _ _ (all-read _ _ _ _ _ _ _ _ _ gates-read (first .loop .inv .3)) _ _
-    (one-refused _ _ _ _ _ _ _ _ _ _ _ (omega arith) (second .loop2 .inv .3)
+    (one-refused _ _ _ _ _ _ _ _ _ _ _ (met .before .loop2-test .taken) (second .loop2 .inv .3)
     (ap (followed _ _) (ap outputAnswer (sym (c .before .before .y .given .1)) ∙ met .output .ensures)))))
 
 again2 : tie.Need-loop2-again Inv-loop μ-loop Inv-loop2 μ-loop2
 again2 c =
     let met = c .before .before .before in
     let loop = met .before .before .loop2 in
+    let taken = met .before .loop2-test .taken in
+    let start = met .before .before .before .before .before .before .before in
     let same = loop .inv .1 in (
-      omega arith,
+      next-within taken,
       record { inputs = same .inputs; gates = same .gates; outputs = same .outputs },
       loop .inv .2,
-      one-more _ _ _ _ _ _ _ _ _ _ (omega arith) (loop .inv .3)
+      one-more _ _ _ _ _ _ _ _ _ _ (within taken (start .pre .outputs)) (loop .inv .3)
           (ap (followed _ _) (ap outputAnswer (sym (c .before .wire .given .1)) ∙ met .output .ensures)),
     )
 
@@ -103,8 +130,8 @@ tail c =
     let second = c .before .before .before in
     let first = second .before .before in
     let h = first .before .before .before .args .header in
-    let gates-read : first .loop .i ≡ h .gates = omega arith in
-    let outputs-read : second .loop2 .j ≡ h .outputs = omega arith in
+    let gates-read : first .loop .i ≡ h .gates = le-antisymm (first .loop .inv .0) (second .before .loop-test .left) in
+    let outputs-read : second .loop2 .j ≡ h .outputs = le-antisymm (second .loop2 .inv .0) (c .before .before .loop2-test .left) in
     rw (c .refused-read3 .ensures)
     (ap outcome
     (tail-refused h _ _ _ _ (all-read _ _ _ _ _ _ _ _ _ gates-read (first .loop .inv .3)) _ _
@@ -115,8 +142,8 @@ read c =
     let second = c .before .before in
     let first = second .before .before in
     let h = first .before .before .before .args .header in
-    let gates-read : first .loop .i ≡ h .gates = omega arith in
-    let outputs-read : second .loop2 .j ≡ h .outputs = omega arith in
+    let gates-read : first .loop .i ≡ h .gates = le-antisymm (first .loop .inv .0) (second .before .loop-test .left) in
+    let outputs-read : second .loop2 .j ≡ h .outputs = le-antisymm (second .loop2 .inv .0) (c .before .loop2-test .left) in
     let held =
     plan-held _ _ _ _ _ _ (second .loop2 .inv .1) (second .loop2 .inv .2 ∙ first .loop .inv .3 .placed) (second .loop2 .inv .3 .placed) in
     ap outcome
@@ -124,13 +151,33 @@ read c =
     ∙ body-read h _ _ _ _ (all-read _ _ _ _ _ _ _ _ _ gates-read (first .loop .inv .3)) _ _
     (all-read _ _ _ _ _ _ _ _ _ outputs-read (second .loop2 .inv .3)) (c .if1 .left))
 
+-- the turns in which a gate and an output are stored, and the limits of their counts
+abbrev gate-turn : tie.After-known-told2 Inv-loop μ-loop Inv-loop2 μ-loop2 → tie.In-loop Inv-loop μ-loop Inv-loop2 μ-loop2
+gate-turn c = c .before .before .before .before .before
+
+abbrev gate-limit : (c : tie.After-known-told2 Inv-loop μ-loop Inv-loop2 μ-loop2) → Limited (gate-turn c .before .before .before .before .args .header)
+gate-limit c = gate-turn c .before .before .before .before .pre
+
+abbrev output-turn : tie.After-known-told4 Inv-loop μ-loop Inv-loop2 μ-loop2 → tie.In-loop2 Inv-loop μ-loop Inv-loop2 μ-loop2
+output-turn c = c .before .before .before .before
+
+abbrev output-limit : (c : tie.After-known-told4 Inv-loop μ-loop Inv-loop2 μ-loop2) → Limited (output-turn c .before .before .before .before .before .before .args .header)
+output-limit c = output-turn c .before .before .before .before .before .before .pre
+
 pub read-body-spec : {M : Type 1} → statement M
 read-body-spec =
     tie.close
     (tie.spec Inv-loop μ-loop Inv-loop2 μ-loop2
-    (λ c. search needs) (λ c. search needs) (λ c κs. search needs) holds
-    (λ c κs. search needs) (λ c κs. search needs) (λ c. search needs) (λ c κs. search needs) no-gate
-    (λ c. search needs) (λ c. search needs) (λ c. search needs) (λ c. search needs) (λ c. search needs) again
-    holds2 (λ c κs. search needs) (λ c. search needs) (λ c κs. search needs) no-output
-    (λ c. search needs) (λ c. search needs) (λ c. search needs) (λ c. search needs) (λ c. search needs) again2
-    (λ c κs. search needs) tail read)
+    (λ c. search needs) (λ c. search needs) (λ c κs. tt) holds
+    -- a gate
+    (λ c κs. let s = c .before .before .before .before in (s .pre .inputs, within (c .loop-test .taken) (s .pre .gates)))
+    (λ c κs. tt) (λ c. search needs) (λ c κs. tt) no-gate (λ c. search needs)
+    (λ c. bytes-fit (gate-turn c .loop-test .taken) (gate-limit c .gates) 6 (lit≤ tt) (lit≤ tt))
+    (λ c. within (gate-turn c .loop-test .taken) (gate-limit c .gates))
+    (λ c. next-fits (gate-turn c .loop-test .taken) (gate-limit c .gates) (lit≤ tt)) (λ c. fewer-left (gate-turn c .loop-test .taken)) again
+    -- an output
+    holds2 (λ c κs. tt) (λ c. search needs) (λ c κs. tt) no-output (λ c. search needs)
+    (λ c. bytes-fit (output-turn c .loop2-test .taken) (output-limit c .outputs) 2 (lit≤ tt) (lit≤ tt))
+    (λ c. within (output-turn c .loop2-test .taken) (output-limit c .outputs))
+    (λ c. next-fits (output-turn c .loop2-test .taken) (output-limit c .outputs) (lit≤ tt)) (λ c. fewer-left (output-turn c .loop2-test .taken)) again2
+    (λ c κs. tt) tail read)

@@ -1,12 +1,21 @@
 -- `run::running::run_rows` meets its contract. The loop's invariant: the run stands before row i. Assumes nothing.
 use native.Mathlib.Omega.{arith}
+use native.Mathlib.Nat.{le-antisymm, le-of-lt, le-trans, lt-of-lt-of-le}
 use mathlib.Core.Path.{_≡_, sym, ap, subst, _∙_}
-use Prim.Native.Nat.{_+_, _-_, _≤_, _<_}
-use borrow.Author.Needs.{needs}
-use lib.ListN.{getD}
-use Rattle.universal.specs.Tables.{rowsIn, kindAt, maxFabricWires}
+use mathlib.Core.List.{List}
+use Prim.Native.Nat.{ℕ, zero-le, _+_, _-_, _*_, _≤_, _<_}
+use mir.Syntax.{w16, w64}
+use mir.Val.{Fits}
+use mir.Facts.{fits-below}
+use lib.Dec.{lit<}
+use lib.ListN.{length, getD}
+use Rattle.networks.specs.Rows.{stride, gateBits}
+use Rattle.elements.specs.Wires.{maxWires}
+use Rattle.universal.specs.Tables.{header, rowsIn, kindAt, maxFabricWires}
+use Rattle.universal.specs.TablesLaws.{WellFormed}
 use Rattle.table_checks.specs.CountingLaws.{counted-first, counted-few}
-use Rattle.table_checks.specs.Counting.{Countable}
+use Rattle.table_checks.specs.declared.table.RowCounts.{RowCounts}
+use Rattle.table_checks.specs.Counting.{maxBits, CountsOf, Countable}
 use Rattle.run.specs.RunRows.{Runnable, Stands}
 use Rattle.run.specs.RunLaws.{start-room, stands-first, row-ready, stands-more, stands-last}
 use Rattle.run.proofs.running.run_rows.Statement.{statement}
@@ -19,6 +28,36 @@ Inv-loop table program row work₀ rows made₀ bit₀ i₀ work made bit i =
 abbrev μ-loop : tie.MeasureT-loop
 μ-loop table program row work₀ rows made₀ bit₀ i₀ work made bit i = rows - i
 
+-- the numbers of the run are small, and its places lie in the table
+first-fits : {n : ℕ} → n < maxWires → Fits w64 (1 + n)
+first-fits h = fits-below {n = maxWires} tt (omega arith)
+
+place-fits : {at : ℕ} → at ≤ stride * maxFabricWires → Fits w64 (at * 2)
+place-fits h = fits-below {n = 2 * (stride * maxFabricWires)} tt (omega arith)
+
+wires-sum : (made : ℕ) {own : RowCounts} {kind : ℕ} → made ≤ maxBits → CountsOf kind own → Fits w64 (made + own .wires)
+wires-sum made h k = fits-below {n = maxBits + 2} tt (omega arith)
+
+bits-sum : (bit : ℕ) {own : RowCounts} {kind : ℕ} → bit ≤ maxBits → CountsOf kind own → Fits w64 (bit + own .bits)
+bits-sum bit h k = fits-below {n = maxBits + gateBits} tt (omega arith)
+
+header-in : {table : List ℕ} (at : ℕ) → at < header → WellFormed table → at < length table
+header-in at h w = lt-of-lt-of-le h (w .start .long)
+
+place-in : {table : List ℕ} {i at : ℕ} → WellFormed table → i < rowsIn table → at ≡ header + stride * i → at < length table
+place-in w h e = let s = w .start .size in omega arith
+
+-- one row more
+module _ {i rows : ℕ} (h : i < rows) where
+  next-fits : rows < maxFabricWires → Fits w16 (i + 1)
+  next-fits few = fits-below {n = maxFabricWires - 1} tt (omega arith)
+
+  next-within : i + 1 ≤ rows
+  next-within = omega arith
+
+  fewer-left : rows - (i + 1) < rows - i
+  fewer-left = omega arith
+
 for-start : tie.Need-start-wires-requires Inv-loop μ-loop
 for-start c κs = start-room (c .before .before .before .before .before .pre)
 
@@ -30,8 +69,8 @@ holds c =
     let a = s .args in
     let ready = subst (Runnable (a .table .now) (a .row .now)) (sym (started .start-wires .kept .1 .0)) (s .pre) in
     let made = 1 + c .wide .result in
-    let counted = counted-first (a .table .now) made (omega arith) in (
-      omega arith,
+    let counted = counted-first (a .table .now) made (ap (λ n. 1 + n) (c .wide .ensures .0)) in (
+      zero-le,
       omega (arith, read .shared-slice-known4 .given 2),
       stands-first (a .table .now) (a .program .now) (a .row .now) (a .work .now) _ made ready counted (started .start-wires .ensures),
     )
@@ -48,27 +87,31 @@ kind-read c = ap (λ n. getD (start (c .before) .args .table .now) n 0) (c .row-
 for-row : tie.Need-run-row-requires Inv-loop μ-loop
 for-row c κs =
     let placed = c .before .before in
-    row-ready (placed .before .before .loop .inv .2) (omega arith) (omega arith) (placed .row-place .ensures .0) (kind-read placed)
+    let at = placed .before in
+    row-ready (at .before .loop .inv .2) (at .loop-test .taken) (le-of-lt (at .before .loop .inv .1)) (placed .row-place .ensures .0) (kind-read placed)
 
 -- few wires and bits are counted before row i
 few : (c : tie.In-loop Inv-loop μ-loop) → Countable (c .before .loop .made) (c .before .loop .bit)
-few c = let now = c .before .loop .inv .2 in counted-few (now .ready .wellFormed .start .inputs) (omega arith) (now .counted)
+few c =
+    let inv = c .before .loop .inv in
+    counted-few (inv .2 .ready .wellFormed .start .inputs) (le-trans (inv .0) (le-of-lt (inv .1))) (inv .2 .counted)
 
 wires-fit : tie.Need-add-made-2 Inv-loop μ-loop
-wires-fit c = omega (arith, few (c .before .before .before .before .before .before .before .before))
+wires-fit c = let l = c .before .before .before .before .before .before .before .before in wires-sum (l .before .loop .made) (few l .wires) (c .before .counts-of .ensures)
 
 bits-fit : tie.Need-add-bit Inv-loop μ-loop
-bits-fit c = omega (arith, few (c .before .before .before .before .before .before .before .before .before))
+bits-fit c = let l = c .before .before .before .before .before .before .before .before .before in bits-sum (l .before .loop .bit) (few l .bits) (c .before .before .counts-of .ensures)
 
 again : tie.Need-loop-again Inv-loop μ-loop
 again c =
     let counted = c .before .before in
     let ran = counted .before .before .before in
     let placed = ran .before .before .before in
-    let loop = placed .before .before .loop in (
-      omega arith,
+    let loop = placed .before .before .loop in
+    let taken = placed .before .loop-test .taken in (
+      next-within taken,
       loop .inv .1,
-      stands-more (loop .inv .2) (omega arith) (counted .counts-of .result) _ (placed .row-place .ensures .0) (kind-read placed)
+      stands-more (loop .inv .2) taken (counted .counts-of .result) _ (placed .row-place .ensures .0) (kind-read placed)
           (counted .counts-of .ensures) (ran .run-row .ensures),
     )
 
@@ -80,13 +123,21 @@ all c =
     let loop = c .before .loop in
     let started = c .before .before .before .before .before .before .before in
     let a = started .before .before .before .before .before .before .args in
-    let e : loop .i ≡ rowsIn (a .table .now) = omega arith in
-    stands-last (a .work .now) (loop .inv .2) e (started .start-wires .ensures)
+    stands-last (a .work .now) (loop .inv .2) (le-antisymm (loop .inv .0) (c .loop-test .left)) (started .start-wires .ensures)
 
 pub run-rows-spec : {M : Type 1} → statement M
 run-rows-spec =
     tie.close
     (tie.spec Inv-loop μ-loop
-    for-start (λ c. search needs) (λ c. search needs) (λ c κs. search needs) (λ c. search needs) holds (λ c κs. search needs)
-    (λ c. search needs) (λ c. search needs) for-row (λ c κs. search needs) wires-fit bits-fit (λ c. search needs) (λ c. search needs) again
+    for-start
+    -- the table's counts
+    (λ c. header-in 2 (lit< tt) (c .before .before .before .before .before .before .before .before .before .pre .wellFormed))
+    (λ c. header-in 0 (lit< tt) (c .before .before .before .before .before .before .before .before .before .before .pre .wellFormed))
+    (λ c κs. tt) (λ c. first-fits (c .wide .ensures .1)) holds
+    -- a row
+    (λ c κs. tt) (λ c. place-fits (c .row-place .ensures .1))
+    (λ c. let l = c .before .before in place-in (start l .pre .wellFormed) (l .loop-test .taken) (c .before .row-place .ensures .0))
+    for-row (λ c κs. tt) wires-fit bits-fit
+    (λ c. let l = c .before .before .before .before .before .before .before .before .before in next-fits (l .loop-test .taken) (l .before .loop .inv .1))
+    (λ c. fewer-left (c .before .before .before .before .before .before .before .before .before .loop-test .taken)) again
     same-length all)

@@ -1,6 +1,11 @@
 -- `selection_rows::block::write_block` meets its contract: the first P, the chain, the second P, each behind the one before. Assumes nothing.
-use borrow.Author.Needs.{needs}
-use Rattle.selection_rows.specs.BlockLaws.{first-passes, chain-room, second-passes, block-written}
+use native.Mathlib.Nat.{le-refl}
+use mathlib.Core.Path.{_≡_, _∙_}
+use mathlib.Core.List.{List}
+use Prim.Native.Nat.{ℕ}
+use lib.ListN.{length}
+use Rattle.fault.specs.PartsLaws.{withPart, length-with}
+use Rattle.selection_rows.specs.BlockLaws.{PlacesIn, places-in, first-passes, chain-room, second-passes, block-written}
 use Rattle.selection_rows.proofs.block.write_block.Statement.{statement}
 use Rattle.selection_rows.proofs.block.write_block.Tie as tie
 
@@ -14,20 +19,39 @@ first c = c .before .before .before .before .before .before .before .before
 abbrev parted : tie.After-write-network → tie.After-parts-of
 parted c = c .before .before .before .before
 
+abbrev start : tie.After-parts-of → tie.Start
+start c = c .before .before .before .before
+
+-- the table's part once the chain is written, and where the parts begin in it
+abbrev chainedRows : tie.After-write-chain → List ℕ
+chainedRows c = withPart (parted (first c) .parts-of .result .chain) (first c .write-network .last .1 .1 .0) (c .write-chain .last .1 .1 .0)
+
+chained-rows : (c : tie.After-write-chain) → length (chainedRows c) ≡ length (start (parted (first c)) .args .rows .now)
+chained-rows c =
+    length-with (parted (first c) .parts-of .result .chain) (first c .write-network .last .1 .1 .0) (c .write-chain .last .1 .1 .0)
+    (c .write-chain .kept .1 .1 .0)
+    ∙ first c .write-network .kept .1 .1 .0
+
+first-places : (c : tie.After-write-network) → PlacesIn (parted c .parts-of .result) (length (c .write-network .last .1 .1 .0))
+first-places c = places-in (start (parted c) .pre) (parted c .parts-of .ensures) (c .write-network .kept .1 .1 .0)
+
+second-places : (c : tie.After-write-chain) → PlacesIn (parted (first c) .parts-of .result) (length (chainedRows c))
+second-places c = places-in (start (parted (first c)) .pre) (parted (first c) .parts-of .ensures) (chained-rows c)
+
 first-fits : tie.Need-write-network-requires
 first-fits c κs =
     let parts = c .before .before .before in
-    let start = parts .before .before .before .before in
-    let a = start .args in
-    first-passes (a .size) (a .next .0) (parts .parts-of .result) (a .rows .now) (a .from .now) (a .to .now) (start .pre) (parts .parts-of .ensures)
+    let s = start parts in
+    let a = s .args in
+    first-passes (a .size) (a .next .0) (parts .parts-of .result) (a .rows .now) (a .from .now) (a .to .now) (s .pre) (parts .parts-of .ensures)
 
 chain-fits : tie.Need-write-chain-requires
 chain-fits c κs =
     let one = c .before .before .before .before .before .before .before in
     let parts = parted one in
-    let start = parts .before .before .before .before in
-    let a = start .args in
-    chain-room (a .size) (a .next .0) (parts .parts-of .result) (a .rows .now) (a .from .now) (a .to .now) (start .pre) (parts .parts-of .ensures)
+    let s = start parts in
+    let a = s .args in
+    chain-room (a .size) (a .next .0) (parts .parts-of .result) (a .rows .now) (a .from .now) (a .to .now) (s .pre) (parts .parts-of .ensures)
     (one .write-network .last .1 .1 .0) (one .write-network .last .1 .1 .1 .1 .0) (one .write-network .ensures)
 
 second-fits : tie.Need-write-network-requires-2
@@ -35,11 +59,22 @@ second-fits c κs =
     let two = c .before .before .before .before .before .before .before in
     let one = first two in
     let parts = parted one in
-    let start = parts .before .before .before .before in
-    let a = start .args in
-    second-passes (a .size) (a .next .0) (parts .parts-of .result) (a .rows .now) (a .from .now) (a .to .now) (start .pre) (parts .parts-of .ensures)
+    let s = start parts in
+    let a = s .args in
+    second-passes (a .size) (a .next .0) (parts .parts-of .result) (a .rows .now) (a .from .now) (a .to .now) (s .pre) (parts .parts-of .ensures)
     (one .write-network .last .1 .1 .0) (one .write-network .last .1 .1 .1 .1 .0) (one .write-network .ensures)
     (two .write-chain .last .1 .1 .0) (two .write-chain .last .1 .1 .1 .0) (two .write-chain .ensures)
+
+-- no call changes a length
+same-rows : tie.Need-same-length
+same-rows c =
+    let three = c .before .before .before .before in
+    let two = chained three in
+    length-with (parted (first two) .parts-of .result .second) (chainedRows two) (three .write-network2 .last .1 .1 .0) (three .write-network2 .kept .1 .1 .0)
+    ∙ chained-rows two
+
+same-to : tie.Need-same-length-3
+same-to c = let three = c .before .before .before .before in three .write-network2 .kept .1 .1 .1 .1 .0 ∙ first (chained three) .write-network .kept .1 .1 .1 .1 .0
 
 written : tie.Need-returns
 written c =
@@ -47,9 +82,9 @@ written c =
     let two = chained three in
     let one = first two in
     let parts = parted one in
-    let start = parts .before .before .before .before in
-    let a = start .args in
-    block-written (a .size) (a .next .0) (parts .parts-of .result) (a .rows .now) (a .from .now) (a .to .now) (start .pre) (parts .parts-of .ensures)
+    let s = start parts in
+    let a = s .args in
+    block-written (a .size) (a .next .0) (parts .parts-of .result) (a .rows .now) (a .from .now) (a .to .now) (s .pre) (parts .parts-of .ensures)
     (one .write-network .last .1 .1 .0) (one .write-network .last .1 .1 .1 .1 .0) (one .write-network .ensures)
     (two .write-chain .last .1 .1 .0) (two .write-chain .last .1 .1 .1 .0) (two .write-chain .ensures)
     (three .write-network2 .last .1 .1 .0) (three .write-network2 .last .1 .1 .1 .1 .0) (three .write-network2 .ensures)
@@ -59,10 +94,12 @@ write-block-spec =
     tie.close
     (tie.spec
     -- the parts, the first P
-    (λ c κs. search needs) first-fits
+    (λ c κs. c .before .before .before .pre .made) first-fits
     -- the chain and its stretch
-    (λ c. search needs) (λ c. search needs) (λ c. search needs) (λ c. search needs) chain-fits
+    (λ c. first-places (c .before .before .before .before) .chainFits) (λ c. first-places (c .before .before .before .before) .chain)
+    (λ c. first-places (c .before .before .before .before) .chain) (λ c. le-refl _) chain-fits
     -- the second P and its stretch
-    (λ c. search needs) (λ c. search needs) (λ c. search needs) (λ c. search needs) second-fits
+    (λ c. second-places (c .before .before .before .before) .secondFits) (λ c. second-places (c .before .before .before .before) .second)
+    (λ c. second-places (c .before .before .before .before) .second) (λ c. le-refl _) second-fits
     -- what is written
-    (λ c. search needs) (λ c. search needs) (λ c. search needs) written)
+    same-rows (λ c. c .before .before .before .before .before .before .before .before .before .before .before .before .write-chain .kept .1 .1 .1 .0) same-to written)
