@@ -127,6 +127,11 @@ selection-put m n ins next R₀ T₀ R T w e =
 pub length-selection : (m n : ℕ) (ins : List ℕ) (next : ℕ) → length (flat (selectionRows m n ins next)) ≡ stride * selectionCount m n
 length-selection m n ins next = length-flat (selection-totals m n ins next .family) ∙ ap (λ k. stride * k) (length-selectionRows m n ins next)
 
+-- what is written behind what was written
+pub over-behind : (a b L : List ℕ) (n : ℕ) → length a ≡ n → take n (over a L) ++ over b (drop n (over a L)) ≡ over (a ++ b) L
+over-behind a b L n e =
+    rw (take-at a (drop (length a) L) n e, drop-at a (drop (length a) L) n e, drop-drop (length b) (length a) L, length-append a b, append-assoc)
+
 -- ---- the Y rows: P are the pins, with what was selected in front
 
 mix-pairs : (count : ℕ) (pins selected : List ℕ) → pairRows Kind.Y count (drop count pins) selected 1 ≡ mixRows count pins selected
@@ -148,8 +153,8 @@ mix-rows count P R room =
 -- ---- between the halves: R and P are the table's part and the pins after the block, F the stretch of the Y rows
 
 module _ (p : Parts) (O R₀ P₀ : List ℕ) {R P : List ℕ} (room : MiddleRoom p O (length R₀) (length P₀))
-    (done : (R ≡ over (flat (selectionRows (p .half) (p .pins) (take (p .half) O) (p .«select_next» .0))) R₀)
-    × (P ≡ over (selectionOuts (p .half) (p .pins) (take (p .half) O) (p .«select_next» .0)) P₀)) where
+    (written : (R ≡ selectionWrittenRows (p .half) (p .pins) (take (p .half) O) (p .«select_next» .0) R₀ P₀)
+    × (P ≡ selectionWrittenOutputs (p .half) (p .pins) (take (p .half) O) (p .«select_next» .0) R₀ P₀)) where
   abbrev ins : List ℕ
   ins = take (p .half) O
 
@@ -158,6 +163,9 @@ module _ (p : Parts) (O R₀ P₀ : List ℕ) {R P : List ℕ} (room : MiddleRoo
 
   abbrev selected : List ℕ
   selected = selectionOuts (p .half) (p .pins) ins next
+
+  done : (R ≡ over (flat (selectionRows (p .half) (p .pins) ins next)) R₀) × (P ≡ over selected P₀)
+  done = selection-put (p .half) (p .pins) ins next R₀ P₀ R P (room .select) written
 
   length-selected : length selected ≡ p .pins
   length-selected = length-selectionOuts (p .half) (p .pins) ins next
@@ -196,14 +204,12 @@ module _ (p : Parts) (O R₀ P₀ : List ℕ) {R P : List ℕ} (room : MiddleRoo
       let W = wiresFrom m (p .«mix_next» .0) in
       let wires = room .wires in
       let enough = room .pinRoom in
-      let rest : length (drop m P₀) ≡ length P₀ - m = length-drop m P₀ in
-      let front : take m P ≡ selected = rw (done .1) (take-at selected (drop (length selected) P₀) m length-selected) in
-      let behind : drop m P ≡ drop m P₀ =
-      rw (done .1) (drop-at selected (drop (length selected) P₀) m length-selected ∙ ap (λ k. drop k P₀) length-selected) in
-      let put : wiresPut m (p .«mix_next» .0) 1 (drop m P₀) ≡ over W (drop m P₀) =
-      wires-put m (p .«mix_next» .0) 1 (drop m P₀) (record { room = omega arith; each = λ i l. omega arith })
-      ∙ ap (λ l. over l (drop m P₀)) (listOf-ext m _ _ (λ i l. omega arith)) in
-      e ∙ ap₂ (λ (a b : List ℕ). a ++ wiresPut m (p .«mix_next» .0) 1 b) front behind
-      ∙ ap (λ (l : List ℕ). selected ++ l) (put ∙ ap (λ (l : List ℕ). W ++ l) (drop-drop (length W) m P₀))
-      ∙ sym (append-assoc selected W (drop (m + length W) P₀))
-      ∙ ap (λ k. (selected ++ W) ++ drop k P₀) (ap (λ k. k + length W) (sym length-selected) ∙ sym (length-append selected W))
+      let short : length selected ≤ length P₀ = omega (arith, length-selected) in
+      let rest : length (drop m (over selected P₀)) ≡ length P₀ - m =
+      length-drop m (over selected P₀) ∙ ap (λ k. k - m) (length-over selected P₀ short) in
+      let put : wiresPut m (p .«mix_next» .0) 1 (drop m (over selected P₀)) ≡ over W (drop m (over selected P₀)) =
+      wires-put m (p .«mix_next» .0) 1 (drop m (over selected P₀)) (record { room = omega arith; each = λ i l. omega arith })
+      ∙ ap (λ l. over l (drop m (over selected P₀))) (listOf-ext m _ _ (λ i l. omega arith)) in
+      e ∙ ap (λ (l : List ℕ). take m l ++ wiresPut m (p .«mix_next» .0) 1 (drop m l)) (done .1)
+      ∙ ap (λ (l : List ℕ). take m (over selected P₀) ++ l) put
+      ∙ over-behind selected W P₀ m length-selected

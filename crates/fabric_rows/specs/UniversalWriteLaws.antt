@@ -18,7 +18,7 @@ use Rattle.networks.specs.Selection.{selectionRows, selectionOuts, selectionCou
 use Rattle.networks.specs.SelectionLaws.{length-selectionOuts}
 use Rattle.elements.specs.Wires.{wiresPut}
 use Rattle.elements.specs.Rows.{rowsPut}
-use Rattle.universal_elements.specs.ElementLaws.{part-is}
+use Rattle.elements.specs.ClampLaws.{part-is}
 use Rattle.universal.specs.Selector.{pinCount, selection}
 use Rattle.universal.specs.SelectorLaws.{double, selection-shape}
 use Rattle.universal.specs.Universal.{mixRows, wiresFrom, universalCount, universalWires, selectNext, lowerNext, universalOuts, selectedOuts}

@@ -5,17 +5,15 @@ ghost use Prim.Native.Nat.{_*_};
 ghost use lib.ListN.{length, take, drop};
 ghost use Rattle.fault.specs.Buffers.{over};
 ghost use Rattle.networks.specs.Rows.{flat};
-ghost use Rattle.networks.specs.Selection.{selectionRows, selectionOuts};
-ghost use Rattle.write_checks.specs.WriteChecksLaws.{SelectionWritePasses};
 ghost use Rattle.universal.specs.Selector.{pinCount, selection};
 ghost use Rattle.universal.specs.Universal.{universalOuts, universalRows};
 ghost use Rattle.universal.specs.Fabric.{gateLevel};
 ghost use Rattle.fabric_rows.specs.Block.{middleRows, middlePins, MiddleRoom, UniversalWires, UniversalRoom, PartsAt};
 use elements::FabricWire;
 use elements::row_place;
+use fabric_selections::put_selection;
 use fabric_sizes::pin_counts;
 use fabric_sizes::universal_counts;
-use selection_rows::write_selection;
 use universal_elements::write_gate;
 use universal_elements::write_mix;
 
@@ -100,21 +98,4 @@ fn write_middle(parts: Parts, rows: &mut [u16], pins: &mut [u16], outs: &[u16])
     let mix = parts.mix;
     put_selection(parts.half, parts.pins, outs, parts.select_next, rows, pins);
     write_mix(parts.pins, parts.mix_next, &mut rows[mix..], pins);
-}
-
-// S(m, n) on the first m wires of a list, where its checks pass: its rows to the front of the table's part, its output wires to the front of `to`.
-pub(crate) fn put_selection(
-    m: u16,
-    n: u16,
-    from: &[u16],
-    next: FabricWire,
-    rows: &mut [u16],
-    to: &mut [u16],
-)
-    requires { ⌜ SelectionWritePasses m n (take m (now from)) (next .0) (length (now rows)) (length (now to)) ⌝ }
-    ensures { λ _. ⌜ now (rows .exit) ≡ over (flat (selectionRows m n (take m (now (from .entry))) (next .0))) (now (rows .entry)) ⌝ }
-    ensures { λ _. ⌜ now (to .exit) ≡ over (selectionOuts m n (take m (now (from .entry))) (next .0)) (now (to .entry)) ⌝ }
-{
-    let end = m as usize;
-    write_selection(m as u32, n as u32, &from[..end], next, rows, to);
 }
