@@ -9,5 +9,7 @@ pub mod Checks
 pub mod WiresLaws
 pub mod RowsLaws
 pub mod ChecksLaws
+-- a part of a list whose place is clamped to the list's length
+pub mod ClampLaws
 -- storing bits one after another, in any order, and in a part of the bytes
 pub mod StoreLaws

@@ -1,5 +1,5 @@
 -- What the writer of U requires of its parts.
-use Prim.Native.Nat.{ℕ, suc, _+_, _-_, _*_, _^_, _<_, _≤_}
+use Prim.Native.Nat.{ℕ, suc, _+_, _*_, _^_, _<_, _≤_}
 use mathlib.Core.Path.{_≡_}
 use mathlib.Core.List.{List, _++_}
 use lib.ListN.{take}
@@ -41,23 +41,12 @@ pub record UniversalRoom (gates next rows pins outs : ℕ) : Type 0 where
   pub pinRoom : operands * gates ≤ pins
   pub outRoom : gates ≤ outs
 
--- U(1)
-pub record GateRoom (next rows outs : ℕ) : Type 0 where
-  pub wire : next < maxWires
-  pub rowRoom : stride ≤ rows
-  pub outRoom : 1 ≤ outs
-
--- so many Y rows
-pub record MixRoom (count rows pins : ℕ) : Type 0 where
-  pub rowRoom : stride * count ≤ rows
-  pub pinRoom : 2 * count ≤ pins
-
 -- what stands between the halves
 pub record MiddleRoom (p : Parts) (outs : List ℕ) (rows pins : ℕ) : Type 0 where
   pub select : SelectionWritePasses (p .half) (p .pins) (take (p .half) outs) (p .«select_next» .0) rows pins
   pub mixAt : p .mix ≡ stride * selectionCount (p .half) (p .pins)
-  pub fits : p .mix ≤ rows
-  pub mix : MixRoom (p .pins) (rows - p .mix) pins
+  pub rowRoom : p .mix + stride * p .pins ≤ rows
+  pub pinRoom : 2 * p .pins ≤ pins
   pub wires : p .«mix_next» .0 + p .pins ≤ maxWires
 
 -- ---- where the parts of U begin; the Y rows' place is counted from the selection block's

@@ -1,24 +1,24 @@
 -- The rows and wires that the parts of U write, as their definitions have them.
-use mathlib.Core.Path.{_≡_, refl, sym, ap, ap₂, _∙_}
-use mathlib.Core.List.{List, [], _∷_}
+use mathlib.Core.Path.{_≡_, sym, ap, ap₂, _∙_}
+use mathlib.Core.List.{List, [], _∷_, _++_, append-assoc}
 use Prim.Native.Nat.{ℕ, _+_, _-_, _*_, _%_, _^_, _<_, _≤_}
-use native.Mathlib.Nat.{not-suc-le-zero}
 use native.Mathlib.Omega.{arith}
 use borrow.Rule.Slice.PartMut.{mid-len}
-use lib.ListN.{length, getD, set, take, drop, length-drop, List·getD-append}
-use lib.Seq.{take-all, getD-take, getD-drop, getD-append-add}
-use Rattle.lists.specs.ListsLaws.{length-listOf, listOf-ext}
+use lib.ListN.{length, getD, take, drop, length-append, length-drop, List·getD-append}
+use lib.Seq.{take-at, drop-at, getD-take, getD-drop, getD-append-add, drop-drop}
+use Rattle.lists.specs.Lists.{listOf}
+use Rattle.lists.specs.ListsLaws.{listOf-ext}
 use Rattle.fault.specs.Buffers.{over}
 use Rattle.fault.specs.PartsLaws.{partOf, withPart, length-over, over-part}
-use Rattle.networks.specs.Rows.{Y, stride, entries, flat, rowOf}
+use Rattle.networks.specs.Rows.{Y, Gate, stride, flat, rowOf}
 use Rattle.networks.specs.RowsLaws.{flat-append, length-flat}
 use Rattle.networks.specs.Selection.{selectionRows, selectionOuts, selectionCount, selectionWires}
 use Rattle.networks.specs.SelectionLaws.{length-selectionRows, selection-totals, length-selectionOuts}
 use Rattle.elements.specs.declared.rows.Kind.{Kind}
 use Rattle.elements.specs.Wires.{maxWires, wiresPut}
 use Rattle.elements.specs.WiresLaws.{wires-put, wire-after}
-use Rattle.elements.specs.Rows.{kindNumber, rowPut, pairRows, rowsPut}
-use Rattle.elements.specs.RowsLaws.{row-on, length-pairRows, length-flat-pairs, rows-put}
+use Rattle.elements.specs.Rows.{kindNumber, pairRows, rowsPut}
+use Rattle.elements.specs.RowsLaws.{length-pairRows, length-flat-pairs, rows-put}
 use Rattle.write_checks.specs.WriteChecks.{selectionWriteFault}
 use Rattle.selection_rows.specs.WriteCalls.{selectionWrittenRows, selectionWrittenOutputs}
 use Rattle.write_checks.specs.WriteChecksLaws.{SelectionWritePasses, selection-write-succeeds}
@@ -29,7 +29,7 @@ use Rattle.fabric_sizes.specs.declared.parts.BlockCounts.{BlockCounts}
 use Rattle.fabric_sizes.specs.Parts.{SelectionIs, UniversalIs}
 use Rattle.fabric_sizes.specs.PartsLaws.{Halved}
 use Rattle.fabric_rows.specs.declared.block.Parts.{Parts}
-use Rattle.fabric_rows.specs.Block.{middleRows, middlePins, MixRoom, MiddleRoom, UniversalWires, PartsAt}
+use Rattle.fabric_rows.specs.Block.{middleRows, middlePins, MiddleRoom, UniversalWires, PartsAt}
 
 -- ---- the parts of U
 
@@ -99,20 +99,20 @@ parts-at w h u s at =
       made = omega (arith, at .lowerFrom, wires-fit w h u s);
     }
 
--- ---- U(1)
+-- ---- U(1): R and O are the table's part and the output wires
 
-pub gate-row : (left right next : ℕ) (P R F : List ℕ) → stride ≤ length R → (left ≡ getD P 0 0) × (left < maxWires)
-    → (right ≡ getD P 1 0) × (right < maxWires) → F ≡ rowPut (kindNumber Kind.G) left right R
-    → F ≡ over (flat (universalRows selection 0 (take (pinCount 0) P) next)) R
-unfolding universalRows flat entries kindNumber rowOf
-gate-row left right next P R F room l r e =
-    row-on Kind.G left right (getD P 0 0) (getD P 1 0) R F e room l r
-    ∙ ap₂ (λ a b. over (3 ∷ a ∷ b ∷ []) R) (sym (getD-take 2 P 0 0 (omega arith))) (sym (getD-take 2 P 1 0 (omega arith)))
+pub gate-rows : (next : ℕ) (P R : List ℕ) → stride ≤ length R
+    → rowsPut (Gate (getD P 0 0 ∷ getD P 1 0 ∷ []) ∷ []) R ≡ over (flat (universalRows selection 0 (take (pinCount 0) P) next)) R
+unfolding universalRows
+gate-rows next P R room =
+    rows-put (Gate (getD P 0 0 ∷ getD P 1 0 ∷ []) ∷ []) R room
+    ∙ ap₂ (λ a b. over (flat (Gate (a ∷ b ∷ []) ∷ [])) R) (sym (getD-take 2 P 0 0 (omega arith))) (sym (getD-take 2 P 1 0 (omega arith)))
 
-pub gate-out : (next : ℕ) (O : List ℕ) → 1 ≤ length O → set O 0 next ≡ over (universalOuts selection 0 next) O
-unfolding universalOuts
-gate-out next [] h = absurd (not-suc-le-zero h)
-gate-out next (x ∷ l) h = refl
+pub gate-outs : (next : ℕ) (O : List ℕ) → 1 ≤ length O → next < maxWires → wiresPut 1 next 1 O ≡ over (universalOuts selection 0 next) O
+unfolding universalOuts listOf
+gate-outs next O room few =
+    let same : next + 1 * 0 ≡ next = omega arith in
+    wires-put 1 next 1 O (record { room = room; each = λ i l. omega arith }) ∙ ap (λ w. over (w ∷ []) O) same
 
 -- ---- the selection block: its checks pass
 
@@ -127,9 +127,10 @@ selection-put m n ins next R₀ T₀ R T w e =
 pub length-selection : (m n : ℕ) (ins : List ℕ) (next : ℕ) → length (flat (selectionRows m n ins next)) ≡ stride * selectionCount m n
 length-selection m n ins next = length-flat (selection-totals m n ins next .family) ∙ ap (λ k. stride * k) (length-selectionRows m n ins next)
 
--- the part of a list from p on
-pub part-is : (p : ℕ) (L : List ℕ) → partOf p L ≡ drop p L
-part-is p L = take-all (length L - p) (drop p L) (simp length-drop (omega arith))
+-- what is written behind what was written
+pub over-behind : (a b L : List ℕ) (n : ℕ) → length a ≡ n → take n (over a L) ++ over b (drop n (over a L)) ≡ over (a ++ b) L
+over-behind a b L n e =
+    rw (take-at a (drop (length a) L) n e, drop-at a (drop (length a) L) n e, drop-drop (length b) (length a) L, length-append a b, append-assoc)
 
 -- ---- the Y rows: P are the pins, with what was selected in front
 
@@ -144,18 +145,16 @@ pub length-mix : (count : ℕ) (pins selected : List ℕ) → length (flat (mixR
 length-mix count pins selected =
     ap (λ r. length (flat r)) (sym (mix-pairs count pins selected)) ∙ length-flat-pairs Kind.Y count (drop count pins) selected 1
 
-pub mix-rows : (count : ℕ) (P R F : List ℕ) → MixRoom count (length R) (length P) → F ≡ rowsPut (pairRows Kind.Y count (partOf count P) P 1) R
-    → F ≡ over (flat (mixRows count P P)) R
-mix-rows count P R F room e =
-    e ∙ ap (λ l. rowsPut (pairRows Kind.Y count l P 1) R) (part-is count P)
-    ∙ rows-put (pairRows Kind.Y count (drop count P) P 1) R (rw (length-pairRows Kind.Y count (drop count P) P 1) (room .rowRoom))
+mix-rows : (count : ℕ) (P R : List ℕ) → stride * count ≤ length R → rowsPut (pairRows Kind.Y count (drop count P) P 1) R ≡ over (flat (mixRows count P P)) R
+mix-rows count P R room =
+    rows-put (pairRows Kind.Y count (drop count P) P 1) R (rw (length-pairRows Kind.Y count (drop count P) P 1) room)
     ∙ ap (λ r. over (flat r) R) (mix-pairs count P P)
 
 -- ---- between the halves: R and P are the table's part and the pins after the block, F the stretch of the Y rows
 
 module _ (p : Parts) (O R₀ P₀ : List ℕ) {R P : List ℕ} (room : MiddleRoom p O (length R₀) (length P₀))
-    (done : (R ≡ over (flat (selectionRows (p .half) (p .pins) (take (p .half) O) (p .«select_next» .0))) R₀)
-    × (P ≡ over (selectionOuts (p .half) (p .pins) (take (p .half) O) (p .«select_next» .0)) P₀)) where
+    (written : (R ≡ selectionWrittenRows (p .half) (p .pins) (take (p .half) O) (p .«select_next» .0) R₀ P₀)
+    × (P ≡ selectionWrittenOutputs (p .half) (p .pins) (take (p .half) O) (p .«select_next» .0) R₀ P₀)) where
   abbrev ins : List ℕ
   ins = take (p .half) O
 
@@ -164,6 +163,9 @@ module _ (p : Parts) (O R₀ P₀ : List ℕ) {R P : List ℕ} (room : MiddleRoo
 
   abbrev selected : List ℕ
   selected = selectionOuts (p .half) (p .pins) ins next
+
+  done : (R ≡ over (flat (selectionRows (p .half) (p .pins) ins next)) R₀) × (P ≡ over selected P₀)
+  done = selection-put (p .half) (p .pins) ins next R₀ P₀ R P (room .select) written
 
   length-selected : length selected ≡ p .pins
   length-selected = length-selectionOuts (p .half) (p .pins) ins next
@@ -180,29 +182,34 @@ module _ (p : Parts) (O R₀ P₀ : List ℕ) {R P : List ℕ} (room : MiddleRoo
       ∙ ap (λ c. getD P₀ (c + j) 0) length-selected)
       (ap (λ s. getD s j 0) (done .1) ∙ List·getD-append selected (drop (length selected) P₀) 0 j (rw length-selected l)))
 
-  pub middle-written : {F : List ℕ} → F ≡ over (flat (mixRows (p .pins) P P)) (partOf (p .mix) R)
+  pub middle-written : {F : List ℕ} → F ≡ rowsPut (pairRows Kind.Y (p .pins) (drop (p .pins) P) P 1) (partOf (p .mix) R)
       → withPart (p .mix) R F ≡ over (flat (middleRows p O P₀)) R₀
   unfolding middleRows
   middle-written {F} put =
       let A = selectionRows (p .half) (p .pins) ins next in
       let B = mixRows (p .pins) P₀ selected in
-      over-part (flat A) R₀ R (p .mix) (length-selection (p .half) (p .pins) ins next ∙ sym (room .mixAt)) (room .fits) (done .0) (flat B) F
-      (omega (arith, length-mix (p .pins) P₀ selected, room .mix .rowRoom, room .fits))
-      (put ∙ ap (λ r. over (flat r) (partOf (p .mix) R)) mixed)
+      let enough = room .rowRoom in
+      let a : length (flat A) ≡ p .mix = length-selection (p .half) (p .pins) ins next ∙ sym (room .mixAt) in
+      let long : length R ≡ length R₀ = ap length (done .0) ∙ length-over (flat A) R₀ (omega arith) in
+      let rest : length (partOf (p .mix) R) ≡ length R - p .mix = mid-len (p .mix) (length R) R (omega arith) in
+      over-part (flat A) R₀ R (p .mix) a (omega arith) (done .0) (flat B) F (omega (arith, length-mix (p .pins) P₀ selected))
+      (put ∙ mix-rows (p .pins) P (partOf (p .mix) R) (omega arith) ∙ ap (λ r. over (flat r) (partOf (p .mix) R)) mixed)
       ∙ ap (λ l. over l R₀) (sym (flat-append A B))
 
   -- the Y rows' output wires stand behind what was selected
-  pub middle-fed : {G : List ℕ} → G ≡ wiresPut (p .pins) (p .«mix_next» .0) 1 (partOf (p .pins) P)
-      → withPart (p .pins) P G ≡ over (middlePins p O) P₀
+  pub middle-fed : {Q : List ℕ} → Q ≡ take (p .pins) P ++ wiresPut (p .pins) (p .«mix_next» .0) 1 (drop (p .pins) P) → Q ≡ over (middlePins p O) P₀
   unfolding middlePins wiresFrom
-  middle-fed {G} e =
-      let W = wiresFrom (p .pins) (p .«mix_next» .0) in
+  middle-fed e =
+      let m = p .pins in
+      let W = wiresFrom m (p .«mix_next» .0) in
       let wires = room .wires in
-      let enough = room .mix .pinRoom in
-      let long : length P ≡ length P₀ = ap length (done .1) ∙ length-over selected P₀ (omega (arith, length-selected)) in
-      let rest : length (partOf (p .pins) P) ≡ length P - p .pins = mid-len (p .pins) (length P) P (omega arith) in
-      let put : G ≡ over W (partOf (p .pins) P) =
-      e ∙ wires-put (p .pins) (p .«mix_next» .0) 1 (partOf (p .pins) P) (record { room = omega arith; each = λ i l. omega arith })
-      ∙ ap (λ l. over l (partOf (p .pins) P)) (listOf-ext (p .pins) _ _ (λ i l. omega arith)) in
-      over-part selected P₀ P (p .pins) length-selected (omega arith) (done .1) W G
-      (omega (arith, length-listOf (p .pins) (λ j. p .«mix_next» .0 + j))) put
+      let enough = room .pinRoom in
+      let short : length selected ≤ length P₀ = omega (arith, length-selected) in
+      let rest : length (drop m (over selected P₀)) ≡ length P₀ - m =
+      length-drop m (over selected P₀) ∙ ap (λ k. k - m) (length-over selected P₀ short) in
+      let put : wiresPut m (p .«mix_next» .0) 1 (drop m (over selected P₀)) ≡ over W (drop m (over selected P₀)) =
+      wires-put m (p .«mix_next» .0) 1 (drop m (over selected P₀)) (record { room = omega arith; each = λ i l. omega arith })
+      ∙ ap (λ l. over l (drop m (over selected P₀))) (listOf-ext m _ _ (λ i l. omega arith)) in
+      e ∙ ap (λ (l : List ℕ). take m l ++ wiresPut m (p .«mix_next» .0) 1 (drop m l)) (done .1)
+      ∙ ap (λ (l : List ℕ). take m (over selected P₀) ++ l) put
+      ∙ over-behind selected W P₀ m length-selected

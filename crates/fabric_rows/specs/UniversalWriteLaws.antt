@@ -1,7 +1,7 @@
 -- Writing U, in the code's order: its parts' rows follow each other in the table, the upper half's output wires feed the selection
 -- block, the Y rows' output wires the lower half, and the lower half's output wires stand behind the upper's.
 use mathlib.Core.Path.{_≡_, refl, sym, ap, ap₂, _∙_}
-use mathlib.Core.List.{List, [], _++_, append-assoc, append-nil}
+use mathlib.Core.List.{List, [], _∷_, _++_, append-assoc, append-nil}
 use Prim.Native.Nat.{ℕ, suc, _+_, _-_, _*_, _≤_}
 use native.Mathlib.Omega.{arith}
 use borrow.Rule.Slice.PartMut.{mid-len}
@@ -12,10 +12,13 @@ use Rattle.lists.specs.Lists.{listOf}
 use Rattle.lists.specs.ListsLaws.{length-listOf, listOf-ext}
 use Rattle.fault.specs.Buffers.{over}
 use Rattle.fault.specs.PartsLaws.{partOf, withPart, length-over, over-part}
-use Rattle.networks.specs.Rows.{Y, stride, flat}
+use Rattle.networks.specs.Rows.{Y, Gate, stride, flat}
 use Rattle.networks.specs.RowsLaws.{flat-append, length-flat}
 use Rattle.networks.specs.Selection.{selectionRows, selectionOuts, selectionCount, selectionWires}
 use Rattle.networks.specs.SelectionLaws.{length-selectionOuts}
+use Rattle.elements.specs.Wires.{wiresPut}
+use Rattle.elements.specs.Rows.{rowsPut}
+use Rattle.elements.specs.ClampLaws.{part-is}
 use Rattle.universal.specs.Selector.{pinCount, selection}
 use Rattle.universal.specs.SelectorLaws.{double, selection-shape}
 use Rattle.universal.specs.Universal.{mixRows, wiresFrom, universalCount, universalWires, selectNext, lowerNext, universalOuts, selectedOuts}
@@ -24,8 +27,8 @@ use Rattle.universal.specs.UniversalLaws.{length-universalOuts, universal-below
 use Rattle.universal.specs.Fabric.{gateLevel}
 use Rattle.fabric_sizes.specs.PartsLaws.{one-gate}
 use Rattle.fabric_rows.specs.declared.block.Parts.{Parts}
-use Rattle.fabric_rows.specs.Block.{middleRows, middlePins, GateRoom, MiddleRoom, UniversalRoom, PartsAt}
-use Rattle.fabric_rows.specs.BlockLaws.{length-selection, part-is, length-mix}
+use Rattle.fabric_rows.specs.Block.{middleRows, middlePins, MiddleRoom, UniversalRoom, PartsAt}
+use Rattle.fabric_rows.specs.BlockLaws.{gate-rows, gate-outs, length-selection, length-mix}
 
 -- three entries a row
 pub length-universal : (n : ℕ) (pins : List ℕ) (next : ℕ) → length (flat (universalRows selection n pins next)) ≡ stride * universalCount selection n
@@ -170,8 +173,8 @@ module _ {gates next : ℕ} {p : Parts} {R₀ P₀ O₀ : List ℕ} (begun : Beg
             outputRoom = omega (arith, upper .kept, pins-fit);
           };
           mixAt = mixAt;
-          fits = omega (arith, length-rest);
-          mix = record { rowRoom = omega (arith, length-rest); pinRoom = omega (arith, upper .kept, pins-fit) };
+          rowRoom = omega (arith, length-rest);
+          pinRoom = omega (arith, upper .kept, pins-fit);
           wires = omega (arith, at .mixFrom, at .lowerFrom, at .made, pins-are);
         }
 
@@ -364,18 +367,15 @@ module _ {gates next : ℕ} {p : Parts} {R₀ P₀ O₀ : List ℕ} (begun : Beg
         }
 
 -- U(1)
-pub gate-room : {gates next rows pins outs : ℕ} → gates ≤ 1 → UniversalRoom gates next rows pins outs → GateRoom next rows outs
-unfolding universalCount universalWires
-gate-room {gates} h r =
-    let z = one-gate h in
-    record {
-      wire = omega (arith, r .wires, ap (universalWires selection) z);
-      rowRoom = omega (arith, r .rowRoom, ap (universalCount selection) z);
-      outRoom = omega (arith, r .outRoom, r .power, pow-pos (gateLevel gates));
-    }
-
-pub gate-written : (gates next : ℕ) (R₀ P O₀ R O : List ℕ) → gates ≤ 1
-    → (R ≡ over (flat (universalRows selection 0 (take (pinCount 0) P) next)) R₀) × (O ≡ over (universalOuts selection 0 next) O₀)
+pub gate-written : {gates next : ℕ} (R₀ P O₀ : List ℕ) {R O : List ℕ} → gates ≤ 1 → UniversalRoom gates next (length R₀) (length P) (length O₀)
+    → (R ≡ rowsPut (Gate (getD P 0 0 ∷ getD P 1 0 ∷ []) ∷ []) R₀) × (O ≡ wiresPut 1 next 1 O₀)
     → (R ≡ over (flat (universalRows selection (gateLevel gates) (take (pinCount (gateLevel gates)) P) next)) R₀)
     × (O ≡ over (universalOuts selection (gateLevel gates) next) O₀)
-gate-written gates next R₀ P O₀ R O h w = rw (one-gate h) w
+unfolding universalCount universalWires
+gate-written {gates} {next} R₀ P O₀ h r w =
+    let z = one-gate h in
+    rw z (
+      w .0 ∙ gate-rows next P R₀ (omega (arith, r .rowRoom, ap (universalCount selection) z)),
+      w .1 ∙ gate-outs next O₀ (omega (arith, r .outRoom, r .power, pow-pos (gateLevel gates)))
+          (omega (arith, r .wires, ap (universalWires selection) z)),
+    )

@@ -4,7 +4,6 @@ use mathlib.Core.Path.{_≡_}
 use mathlib.Core.List.{List, _++_}
 use lib.ListN.{take}
 use Rattle.plan.specs.Record.{maxInputs, maxGates, maxOutputs}
-use Rattle.plan.specs.FaultsLaws.{CountsWithin}
 use Rattle.networks.specs.Rows.{stride, flat}
 use Rattle.networks.specs.Selection.{selectionRows, selectionOuts, selectionCount, selectionWires}
 use Rattle.elements.specs.Wires.{maxWires}

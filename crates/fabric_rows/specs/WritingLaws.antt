@@ -6,13 +6,13 @@ use Prim.Native.Nat.{ℕ, suc, _+_, _-_, _*_, _^_, _≤_}
 use native.Mathlib.Numerals.{add-one}
 use native.Mathlib.Omega.{arith}
 use borrow.Rule.Slice.PartMut.{mid-len}
-use lib.ListN.{length, set, take, drop, length-append}
+use lib.ListN.{length, set, replicate, take, drop, length-append, length-drop}
 use lib.Seq.{take-at, take-all}
 use Rattle.lists.specs.Lists.{listOf}
 use Rattle.lists.specs.ListsLaws.{listOf-ext}
 use Rattle.fault.specs.Buffers.{over}
 use Rattle.fault.specs.PartsLaws.{partOf, withPart, length-over, over-part}
-use Rattle.plan.specs.Record.{maxInputs, maxGates}
+use Rattle.plan.specs.Record.{maxInputs, maxGates, maxOutputs}
 use Rattle.plan.specs.FaultsLaws.{CountsWithin}
 use Rattle.networks.specs.Rows.{stride, flat}
 use Rattle.networks.specs.RowsLaws.{flat-append}
@@ -20,7 +20,8 @@ use Rattle.networks.specs.Selection.{selectionRows, selectionOuts, selectionCou
 use Rattle.networks.specs.SelectionLaws.{length-selectionOuts}
 use Rattle.elements.specs.Wires.{wiresPut}
 use Rattle.elements.specs.WiresLaws.{wires-put}
-use Rattle.write_checks.specs.WriteChecksLaws.{SelectionWritePasses}
+use Rattle.selection_rows.specs.WriteCalls.{selectionWrittenRows, selectionWrittenOutputs}
+use Rattle.fabric_selections.specs.Copied.{copiedAt}
 use Rattle.universal.specs.Selector.{pinCount, selection}
 use Rattle.universal.specs.Universal.{universalCount, universalWires, universalOuts, universalRows}
 use Rattle.universal.specs.UniversalLaws.{length-universalOuts}
@@ -36,7 +37,7 @@ use Rattle.fabric_rows.specs.declared.writing.Layout.{Layout}
 use Rattle.fabric_checks.specs.FabricChecksLaws.{FabricPasses}
 use Rattle.fabric_rows.specs.Writing.{LayoutIs, PinRoom, outputEntries, OutputRoom}
 use Rattle.fabric_rows.specs.Block.{UniversalRoom}
-use Rattle.fabric_rows.specs.BlockLaws.{length-selection}
+use Rattle.fabric_rows.specs.BlockLaws.{selection-put, length-selection, over-behind}
 use Rattle.fabric_rows.specs.UniversalWriteLaws.{length-universal}
 
 -- ---- where the parts begin
@@ -87,7 +88,8 @@ header-put u v rows (a ∷ b ∷ c ∷ T) h = refl
 
 -- ---- the pins: the wires 1 to u stand in the front of the list A
 
-module _ {u gates rows pins : ℕ} {A : List ℕ} (I : List ℕ) (room : PinRoom u gates rows pins) (long : length I ≡ maxInputs) (put : A ≡ wiresPut u 1 1 I) where
+module _ {u gates : ℕ} {A : List ℕ} (I R₀ P₀ : List ℕ) (room : PinRoom u gates (length R₀) (length P₀)) (long : length I ≡ maxInputs)
+    (put : A ≡ wiresPut u 1 1 I) where
   inputs-put : take u A ≡ inputWires u
   unfolding inputWires
   inputs-put =
@@ -96,33 +98,35 @@ module _ {u gates rows pins : ℕ} {A : List ℕ} (I : List ℕ) (room : PinRoom
       let e = put ∙ wires-put u 1 1 I (record { room = omega arith; each = λ i l. omega arith }) ∙ ap (λ l. over l I) same in
       rw e (take-at (inputWires u) (drop (length (inputWires u)) I) u (length-inputWires u))
 
-  pub pins-pass : SelectionWritePasses u (2 * gates) (take u A) (u + 1) rows pins
-  pins-pass = rw (inputs-put, add-one u) (room .passes)
-
-  pub pins-put : (R₀ R P₀ P : List ℕ)
-      → (R ≡ over (flat (selectionRows u (2 * gates) (take u A) (u + 1))) R₀) × (P ≡ over (selectionOuts u (2 * gates) (take u A) (u + 1)) P₀)
+  pub pins-put : {R P : List ℕ}
+      → (R ≡ selectionWrittenRows u (2 * gates) (take u A) (u + 1) R₀ P₀) × (P ≡ selectionWrittenOutputs u (2 * gates) (take u A) (u + 1) R₀ P₀)
       → (R ≡ over (flat (selectionRows u (2 * gates) (inputWires u) (suc u))) R₀) × (P ≡ over (selectionOuts u (2 * gates) (inputWires u) (suc u)) P₀)
-  pins-put R₀ R P₀ P w = rw (inputs-put, add-one u) at w
+  pins-put {R} {P} w = selection-put u (2 * gates) (inputWires u) (suc u) R₀ P₀ R P (room .passes) (rw (inputs-put, add-one u) at w)
 
--- ---- the outputs: R is the table's part after the rows of S(K, v), L its list of output wires, F the stretch behind the rows
+-- ---- the outputs: F is the table's part from the rows of S(K, v) on
 
-pub outputs-put : {gates v end next : ℕ} {outs : List ℕ} (R₀ R L₀ L F : List ℕ) → OutputRoom gates v end next outs (length R₀)
-    → (R ≡ over (flat (selectionRows gates v (take gates outs) next)) R₀) × (L ≡ over (selectionOuts gates v (take gates outs) next) L₀)
-    → F ≡ over (take (length (partOf end R)) (take v L)) (partOf end R)
-    → withPart end R F ≡ over (outputEntries gates v outs next) R₀
-unfolding outputEntries
-outputs-put {gates} {v} {end} {next} {outs} R₀ R L₀ L F room done copied =
+-- the list that the output wires are selected into
+abbrev noOutputs : List ℕ
+noOutputs = replicate maxOutputs 0
+
+outputs-put : {gates v end next : ℕ} {outs : List ℕ} (R₀ : List ℕ) {F : List ℕ} → OutputRoom gates v end next outs (length R₀)
+    → F ≡ copiedAt end (take v (selectionWrittenOutputs gates v (take gates outs) next R₀ noOutputs))
+    (selectionWrittenRows gates v (take gates outs) next R₀ noOutputs)
+    → F ≡ over (outputEntries gates v outs next) R₀
+unfolding outputEntries copiedAt
+outputs-put {gates} {v} {end} {next} {outs} R₀ room e =
     let ins = take gates outs in
     let A = flat (selectionRows gates v ins next) in
     let O = selectionOuts gates v ins next in
+    let done = selection-put gates v ins next R₀ noOutputs _ _ (room .passes) (refl, refl) in
     let a : length A ≡ end = length-selection gates v ins next ∙ sym (room .endAt) in
     let o : length O ≡ v = length-selectionOuts gates v ins next in
     let enough = room .enough in
-    let long : length R ≡ length R₀ = ap length (done .0) ∙ length-over A R₀ (omega arith) in
-    let rest : length (partOf end R) ≡ length R₀ - end = mid-len end (length R) R (omega arith) ∙ ap (λ n. n - end) long in
-    let front : take v L ≡ O = rw (done .1) (take-at O (drop (length O) L₀) v o) in
-    let all : take (length (partOf end R)) (take v L) ≡ O = ap (take (length (partOf end R))) front ∙ take-all (length (partOf end R)) O (omega arith) in
-    over-part A R₀ R end a (omega arith) (done .0) O F (omega arith) (copied ∙ ap (λ l. over l (partOf end R)) all)
+    let rest : length (drop end (over A R₀)) ≡ length R₀ - end = length-drop end (over A R₀) ∙ ap (λ n. n - end) (length-over A R₀ (omega arith)) in
+    e ∙ ap₂ (λ t l. copiedAt end (take v l) t) (done .0) (done .1)
+    ∙ ap (λ l. copiedAt end l (over A R₀)) (take-at O (drop (length O) noOutputs) v o)
+    ∙ ap (λ l. take end (over A R₀) ++ over l (drop end (over A R₀))) (take-all (length (drop end (over A R₀))) O (omega arith))
+    ∙ over-behind A O R₀ end a
 
 -- ---- the steps. T is the table, with a number for each step, F what a callee was lent of it; P and O the lists of pins and of the gates' wires
 
@@ -272,7 +276,7 @@ module _ {u k v : ℕ} {l : Layout} {T₀ T₁ : List ℕ} (begun : Begun u k v 
           rw (gated .outs) (take-at outs (drop (length outs) O₀) (l .gates) long)
           ∙ ap₂ (universalOuts selection) level-is (at .universalFrom)
 
-      pub output-room : OutputRoom (l .gates) v (l .end) (l .«output_next» .0) O₃ (length (partOf (l .outputs) T₃))
+      output-room : OutputRoom (l .gates) v (l .end) (l .«output_next» .0) O₃ (length (partOf (l .outputs) T₃))
       output-room =
           let counts = begun .passes .counts in
           let endIs : l .end ≡ stride * selectionCount (l .gates) v =
@@ -298,14 +302,16 @@ module _ {u k v : ℕ} {l : Layout} {T₀ T₁ : List ℕ} (begun : Begun u k v 
           }
 
       -- after S(K, v)
-      module _ {F₄ : List ℕ} (out : F₄ ≡ over (outputEntries (l .gates) v O₃ (l .«output_next» .0)) (partOf (l .outputs) T₃)) where
+      module _ {F₄ : List ℕ} (out : F₄ ≡ copiedAt (l .end)
+          (take v (selectionWrittenOutputs (l .gates) v (take (l .gates) O₃) (l .«output_next» .0) (partOf (l .outputs) T₃) noOutputs))
+          (selectionWrittenRows (l .gates) v (take (l .gates) O₃) (l .«output_next» .0) (partOf (l .outputs) T₃) noOutputs)) where
         abbrev C : List ℕ
         C = flat (selectionRows (2 ^ n) v (gateOuts u k) (outputNext u k)) ++ fabricOuts u k v
 
         output-rows : F₄ ≡ over C (partOf (l .outputs) T₃)
         unfolding fabricOuts outputEntries
         output-rows =
-            out
+            outputs-put (partOf (l .outputs) T₃) output-room out
             ∙ ap (λ (gs : List ℕ). over (flat (selectionRows (l .gates) v gs (l .«output_next» .0))
             ++ selectionOuts (l .gates) v gs (l .«output_next» .0)) (partOf (l .outputs) T₃)) gates-are
             ∙ ap₂ (λ m k′. over (flat (selectionRows m v (gateOuts u k) k′) ++ selectionOuts m v (gateOuts u k) k′) (partOf (l .outputs) T₃))

@@ -5,22 +5,17 @@ ghost use Prim.Native.Nat.{_*_};
 ghost use lib.ListN.{length, take, drop};
 ghost use Rattle.fault.specs.Buffers.{over};
 ghost use Rattle.networks.specs.Rows.{flat};
-ghost use Rattle.networks.specs.Selection.{selectionRows, selectionOuts};
-ghost use Rattle.write_checks.specs.WriteChecksLaws.{SelectionWritePasses};
 ghost use Rattle.universal.specs.Selector.{pinCount, selection};
-ghost use Rattle.universal.specs.Universal.{mixRows, universalOuts, universalRows};
+ghost use Rattle.universal.specs.Universal.{universalOuts, universalRows};
 ghost use Rattle.universal.specs.Fabric.{gateLevel};
-ghost use Rattle.fabric_rows.specs.Block.{middleRows, middlePins, GateRoom, MixRoom, MiddleRoom, UniversalWires, UniversalRoom, PartsAt};
+ghost use Rattle.fabric_rows.specs.Block.{middleRows, middlePins, MiddleRoom, UniversalWires, UniversalRoom, PartsAt};
 use elements::FabricWire;
-use elements::Kind;
-use elements::put_pairs;
-use elements::put_row;
-use elements::put_wires;
 use elements::row_place;
-use elements::wire_at;
+use fabric_selections::put_selection;
 use fabric_sizes::pin_counts;
 use fabric_sizes::universal_counts;
-use selection_rows::write_selection;
+use universal_elements::write_gate;
+use universal_elements::write_mix;
 
 // The gates and the pins of a half; where the parts of U begin in its stretch of the table, the Y rows counted from the selection block's
 // place; and the first wires that they make.
@@ -93,16 +88,6 @@ fn parts_of(gates: u16, next: FabricWire) -> Parts
     }
 }
 
-// U(1), which is G: its row, and its output wire.
-fn write_gate(next: FabricWire, rows: &mut [u16], pins: &[u16], outs: &mut [u16])
-    requires { ⌜ GateRoom (next .0) (length (now rows)) (length (now outs)) ⌝ }
-    ensures { λ _. ⌜ now (rows .exit) ≡ over (flat (universalRows selection 0 (take (pinCount 0) (now (pins .entry))) (next .0))) (now (rows .entry)) ⌝ }
-    ensures { λ _. ⌜ now (outs .exit) ≡ over (universalOuts selection 0 (next .0)) (now (outs .entry)) ⌝ }
-{
-    put_row(rows, Kind::G, wire_at(pins, 0), wire_at(pins, 1));
-    outs[0] = next.0 as u16;
-}
-
 // Between the halves: the selection block, whose output wires go over the upper half's pins, and the Y rows, whose output wires go over the
 // lower half's.
 fn write_middle(parts: Parts, rows: &mut [u16], pins: &mut [u16], outs: &[u16])
@@ -111,34 +96,6 @@ fn write_middle(parts: Parts, rows: &mut [u16], pins: &mut [u16], outs: &[u16])
     ensures pins { λ _. ⌜ now (pins .exit) ≡ over (middlePins parts (now (outs .entry))) (now (pins .entry)) ⌝ }
 {
     let mix = parts.mix;
-    let middle = parts.pins as usize;
     put_selection(parts.half, parts.pins, outs, parts.select_next, rows, pins);
-    write_mix(parts.pins, &mut rows[mix..], pins);
-    put_wires(&mut pins[middle..], middle, parts.mix_next, 1);
-}
-
-// S(m, n) on the first m wires of a list, where its checks pass: its rows to the front of the table's part, its output wires to the front of `to`.
-pub(crate) fn put_selection(
-    m: u16,
-    n: u16,
-    from: &[u16],
-    next: FabricWire,
-    rows: &mut [u16],
-    to: &mut [u16],
-)
-    requires { ⌜ SelectionWritePasses m n (take m (now from)) (next .0) (length (now rows)) (length (now to)) ⌝ }
-    ensures { λ _. ⌜ now (rows .exit) ≡ over (flat (selectionRows m n (take m (now (from .entry))) (next .0))) (now (rows .entry)) ⌝ }
-    ensures { λ _. ⌜ now (to .exit) ≡ over (selectionOuts m n (take m (now (from .entry))) (next .0)) (now (to .entry)) ⌝ }
-{
-    let end = m as usize;
-    write_selection(m as u32, n as u32, &from[..end], next, rows, to);
-}
-
-// The Y rows on so many pins and on what was selected, which stands before them.
-fn write_mix(count: u16, rows: &mut [u16], pins: &[u16])
-    requires { ⌜ MixRoom count (length (now rows)) (length (now pins)) ⌝ }
-    ensures { λ _. ⌜ now (rows .exit) ≡ over (flat (mixRows count (now (pins .entry)) (now (pins .entry)))) (now (rows .entry)) ⌝ }
-{
-    let middle = count as usize;
-    put_pairs(rows, Kind::Y, count as u32, &pins[middle..], pins, 1);
+    write_mix(parts.pins, parts.mix_next, &mut rows[mix..], pins);
 }

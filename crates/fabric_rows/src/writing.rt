@@ -1,5 +1,5 @@
 // Writing the fabric's table: u, v and the number of rows, then the rows of S(u, 2K), U(K), S(K, v), each straight into its own stretch, then
-// the output wires. Checks come first and touch no buffer. The calls' own lists of wires take 1,792 bytes; none is inside the recursion.
+// the output wires. Checks come first and touch no buffer. The calls' own lists of wires take 1,664 bytes; none is inside the recursion.
 ghost use mathlib.Core.Path.{_≡_};
 ghost use mathlib.Core.List.{[], _∷_};
 ghost use Prim.Native.Nat.{suc, _*_};
@@ -13,15 +13,15 @@ ghost use Rattle.universal.specs.Fabric.{inputWires, fabricTable};
 ghost use Rattle.fabric_checks.specs.FabricChecks.{fabricFault};
 ghost use Rattle.fabric_checks.specs.FabricChecksLaws.{FabricPasses};
 ghost use Rattle.fabric_rows.specs.FabricCalls.{fabricResult};
-ghost use Rattle.fabric_rows.specs.Writing.{LayoutIs, HeaderRoom, PinRoom, outputEntries, OutputRoom};
-use crate::block::put_selection;
+ghost use Rattle.fabric_rows.specs.Writing.{LayoutIs, HeaderRoom, PinRoom};
 use crate::block::write_universal;
 use elements::FabricWire;
 use elements::HEADER;
-use elements::copy_wires;
 use elements::put_wires;
 use elements::row_place;
 use fabric_checks::check_fabric;
+use fabric_selections::put_outputs;
+use fabric_selections::put_selection;
 use fabric_sizes::MAX_PINS;
 use fabric_sizes::gate_places;
 use fabric_sizes::output_counts;
@@ -127,15 +127,4 @@ fn put_pins(u: u16, gates: u16, rows: &mut [u16], pins: &mut [u16])
     put_wires(&mut inputs, u as usize, FabricWire(1), 1);
     let next = FabricWire(u as u32 + 1);
     put_selection(u, 2 * gates, &inputs, next, rows, pins);
-}
-
-// S(K, v) on the gates' wires: its rows to the front of the table's part, and behind them its output wires.
-fn put_outputs(gates: u16, v: u16, end: usize, next: FabricWire, rows: &mut [u16], outs: &[u16])
-    requires { ⌜ OutputRoom gates v end (next .0) (now outs) (length (now rows)) ⌝ }
-    ensures { λ _. ⌜ now (rows .exit) ≡ over (outputEntries gates v (now (outs .entry)) (next .0)) (now (rows .entry)) ⌝ }
-{
-    let mut outputs = [0u16; Plan::MAX_OUTPUTS];
-    let count = v as usize;
-    put_selection(gates, v, outs, next, rows, &mut outputs);
-    copy_wires(&outputs[..count], &mut rows[end..]);
 }

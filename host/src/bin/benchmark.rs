@@ -91,8 +91,10 @@ type Arrays = (usize, &'static str);
 
 /// A bit for each wire.
 const EVALUATION: Arrays = (320, "crates/evaluation/src/evaluation.rt");
-/// Wires: the inputs, the pins, the gates, the outputs.
-const FABRIC: Arrays = (1_792, "crates/fabric_rows/src/writing.rt");
+/// Wires: the inputs, the pins, the gates.
+const FABRIC: Arrays = (1_664, "crates/fabric_rows/src/writing.rt");
+/// Wires: the outputs.
+const OUTPUTS: Arrays = (128, "crates/fabric_selections/src/lib.rt");
 /// What feeds a network of S, and what it gave.
 const SELECTION: Arrays = (2_048, "crates/selection_rows/src/writing.rt");
 /// Operands and tables of the gates, and wanted inputs.
@@ -127,7 +129,7 @@ impl Call {
         match self {
             Call::Read | Call::Run => &[],
             Call::Evaluate => &[EVALUATION],
-            Call::WriteFabric => &[FABRIC, SELECTION],
+            Call::WriteFabric => &[FABRIC, OUTPUTS, SELECTION],
             Call::ProgramPlan => &[GATES, POSITIONS, MAPPING],
             Call::ProgramP => &[MAPPING],
         }

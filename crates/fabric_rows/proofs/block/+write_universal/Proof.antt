@@ -11,12 +11,12 @@ use lib.ListN.{length}
 use Rattle.fault.specs.PartsLaws.{withPart, length-with}
 use Rattle.fabric_rows.specs.declared.block.Parts.{Parts}
 use Rattle.fabric_rows.specs.UniversalWriteLaws.{UniversalWritten, Begun, UpperDone, MiddleDone, LowerDone}
-use Rattle.fabric_rows.specs.UniversalWriteLaws.{upper-room, middle-room, select-start, outs-start, lower-start, pins-start, lower-room, universal-written, gate-room, gate-written}
+use Rattle.fabric_rows.specs.UniversalWriteLaws.{upper-room, middle-room, select-start, outs-start, lower-start, pins-start, lower-room, universal-written, gate-written}
 use Rattle.fabric_rows.proofs.block.write_universal.Reads as write-universal
 use Rattle.fabric_rows.proofs.block.write_universal.Kinds as write-universal-kinds
 use Rattle.fabric_rows.proofs.block.+write_universal.Lts-write_universal as write-universal-lts
 use Rattle.fabric_rows.proofs.block.parts_of.Reads as parts-of-reads
-use Rattle.fabric_rows.proofs.block.write_gate.Reads as write-gate-reads
+use Rattle.universal_elements.proofs.write_gate.Reads as write-gate-reads
 use Rattle.fabric_rows.proofs.block.write_middle.Reads as write-middle-reads
 use Rattle.fabric_rows.proofs.block.+write_universal.{statement}
 use Rattle.fabric_rows.proofs.block.+write_universal.Tie.{close}
@@ -202,7 +202,7 @@ pub +write-universal-spec : {M : Type 1} → statement M
     let b = begun t p in
     (omega (arith, started t p .pre .0), lower-room b (upper-done t (upper t m)) (middle-done t m)))
     -- U(1)
-    (λ c κs. gate-room (c .before .before .before .if1 .left) (c .before .before .before .before .before .before .before .pre .1))
+    (λ c κs. search needs)
     -- what is written
     (λ c. done t (lower t c) .rowsLength) (λ c. pins-kept t (lower t c)) (λ c. done t (lower t c) .outsLength)
     (λ c. let w = done t (lower t c) in (w .rows, (w .pins, w .outs)))
@@ -210,5 +210,8 @@ pub +write-universal-spec : {M : Type 1} → statement M
     (λ c. search needs) (λ c. search needs) (λ c. search needs)
     (λ c.
     let gate = c .before .before .before .before in
-    let w = gate-written _ _ _ _ _ _ _ (gate .before .before .before .before .if1 .left) (gate .write-gate .ensures) in
+    let test = gate .before .before .before .before in
+    let start = test .before .before .before .before in
+    let a = start .args in
+    let w = gate-written (a .rows .now) (a .pins .now) (a .outs .now) (test .if1 .left) (start .pre .1) (gate .write-gate .ensures) in
     (w .0, (refl, w .1)))

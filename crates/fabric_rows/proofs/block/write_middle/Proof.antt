@@ -7,22 +7,21 @@ use Rattle.fabric_rows.proofs.block.write_middle.Tie as tie
 
 written : tie.Need-returns
 written c =
-    let fed = c .before .before in
-    let mixed = fed .before .before .before .before in
+    let mixed = c .before .before .before .before in
     let select = mixed .before .before .before .before .before .before .before in
-    let start = select .before .before .before .before .before .before .before in
-    let a = start .args in (
-      middle-written (a .parts) (a .outs .now) (a .rows .now) (a .pins .now) (start .pre) (select .put-selection .ensures) (mixed .write-mix .ensures),
-      middle-fed (a .parts) (a .outs .now) (a .rows .now) (a .pins .now) (start .pre) (select .put-selection .ensures) (fed .put-wires .ensures),
+    let start = select .before .before .before .before .before .before in
+    let a = start .args in
+    let laid = select .put-selection .ensures in
+    let e = mixed .write-mix .ensures in (
+      middle-written (a .parts) (a .outs .now) (a .rows .now) (a .pins .now) (start .pre) laid (e .0),
+      middle-fed (a .parts) (a .outs .now) (a .rows .now) (a .pins .now) (start .pre) laid (e .1),
     )
 
 pub write-middle-spec : {M : Type 1} → statement M
 write-middle-spec =
     tie.close
     (tie.spec
-    (λ c. search needs) (λ c κs. search needs)
+    (λ c κs. search needs)
     -- the Y rows and their stretch
-    (λ c. search needs) (λ c. search needs) (λ c. search needs) (λ c. search needs) (λ c κs. search needs)
-    -- their output wires in the pins' place
     (λ c. search needs) (λ c. search needs) (λ c. search needs) (λ c. search needs) (λ c κs. search needs)
     (λ c. search needs) (λ c. search needs) written)

@@ -8,7 +8,7 @@ use Rattle.plan.specs.Record.{maxGates}
 use Rattle.universal.specs.Tables.{header}
 use Rattle.fabric_sizes.specs.Parts.{maxPins}
 use Rattle.fabric_rows.specs.declared.writing.Layout.{Layout}
-use Rattle.fabric_rows.specs.WritingLaws.{Begun, PinsDone, GatesDone, pin-room, gates-room, output-room, table-written}
+use Rattle.fabric_rows.specs.WritingLaws.{Begun, PinsDone, GatesDone, pin-room, gates-room, table-written}
 use Rattle.fabric_rows.proofs.writing.put_fabric.Statement.{statement}
 use Rattle.fabric_rows.proofs.writing.put_fabric.Tie as tie
 
@@ -61,11 +61,6 @@ for-gates c κs =
     let kept = p .put-pins .kept .1 .1 .1 .0 in
     rw kept (gates-room (begun (headed p)) (pins-done p))
 
-for-outputs : tie.Need-put-outputs-requires
-for-outputs c κs =
-    let g = c .before .before .before .before .before .before in
-    output-room (begun (headed (pins g))) (pins-done (pins g)) (gates-done g)
-
 written : tie.Need-returns
 written c =
     let o = c .before .before in
@@ -82,5 +77,5 @@ put-fabric-spec =
     -- U(K) and its stretch
     (λ c. search needs) (λ c. search needs) (λ c. search needs) (λ c. search needs) (λ c. search needs) (λ c. search needs) for-gates
     -- S(K, v) and its stretch
-    (λ c. search needs) (λ c. search needs) (λ c. search needs) (λ c. search needs) (λ c. search needs) for-outputs
+    (λ c. search needs) (λ c. search needs) (λ c. search needs) (λ c. search needs) (λ c. search needs) (λ c κs. search needs)
     (λ c. search needs) written)

@@ -1,0 +1,3 @@
+-- The elements of U besides its selection block.
+-- Laws of the definitions that the calls cite.
+pub mod ElementLaws
