@@ -20,5 +20,6 @@ pub use wires::FabricWire;
 pub use wires::MAX_WIRES;
 pub use wires::copy_wires;
 pub use wires::put_wires;
+pub use wires::smaller;
 pub use wires::wide;
 pub use wires::wire_at;

@@ -64,7 +64,8 @@ pub fn wide(x: u16) -> usize
     x as usize
 }
 
-pub(crate) fn smaller(a: usize, b: usize) -> usize
+// The smaller of two numbers.
+pub fn smaller(a: usize, b: usize) -> usize
     ensures { λ r. ⌜ r ≡ min a b ⌝ }
 {
     if a < b {
