@@ -13,12 +13,12 @@ use Rattle.lists.specs.ListsLaws.{length-listOf, getD-listOf}
 use Rattle.fault.specs.Buffers.{over}
 use Rattle.fault.specs.BuffersLaws.{listOf-over}
 use Rattle.plan.specs.declared.record.Plan.{Plan}
-use Rattle.plan.specs.Record.{gateAt}
+use Rattle.plan.specs.Record.{maxOutputs, gateAt}
 use Rattle.networks.specs.Rows.{operands}
-use Rattle.universal.specs.Universal.{Gates, isOf, wantedGate}
-use Rattle.universal.specs.Fabric.{planGates}
+use Rattle.universal.specs.Universal.{Gates, isOf, wantedGate, wantedGates}
+use Rattle.universal.specs.Fabric.{planGates, wantedOutputs}
 use Rattle.universal.specs.PlanValues.{padded-own, first-operand, second-operand}
-use Rattle.gate_lists.specs.GateLists.{isAmong, wantedAmong}
+use Rattle.gate_lists.specs.GateLists.{inputsWanted, isAmong, wantedAmong}
 
 -- ---- filling
 
@@ -42,9 +42,27 @@ pub list-ended : (n places i : ℕ) (f : ℕ → ℕ) (old : List ℕ) {l : List
 list-ended n places i f old e at = e ∙ ap (λ t. over t old) (ap (λ k. listOf k f) at ∙ sym (taken n places f))
 
 -- where there are places for all they are at the front
-pub front-is : (new old : List ℕ) (n places : ℕ) {l : List ℕ} → l ≡ over (take places new) old → length new ≡ n → n ≤ places → take n l ≡ new
+front-is : (new old : List ℕ) (n places : ℕ) {l : List ℕ} → l ≡ over (take places new) old → length new ≡ n → n ≤ places → take n l ≡ new
 front-is new old n places e all room =
     rw (e, take-all places new (omega arith)) (take-at new (drop (length new) old) n all)
+
+-- ---- what is wanted, where the lists have places for all
+
+module _ (old : List ℕ) {l : List ℕ} where
+  pub inputs-listed : (u : ℕ) (pins : List ℕ) (count : ℕ) → l ≡ over (take (length old) (inputsWanted u pins count)) old → count ≤ length old
+      → take count l ≡ inputsWanted u pins count
+  unfolding inputsWanted
+  inputs-listed u pins count e room = front-is _ old count (length old) e (length-listOf count _) room
+
+  pub gates-listed : (G : Gates) (base h : ℕ) → l ≡ over (take (length old) (wantedGates G base h)) old → operands * h ≤ length old
+      → take (operands * h) l ≡ wantedGates G base h
+  unfolding wantedGates
+  gates-listed G base h e room = front-is _ old (operands * h) (length old) e (length-listOf (operands * h) _) room
+
+  pub outputs-listed : (p : Plan) → l ≡ over (take (min maxOutputs (length old)) (wantedOutputs p)) old → p .«output_count» ≤ maxOutputs
+      → p .«output_count» ≤ length old → take (p .«output_count») l ≡ wantedOutputs p
+  unfolding wantedOutputs
+  outputs-listed p e few room = front-is _ old (p .«output_count») (min maxOutputs (length old)) e (length-listOf (p .«output_count») _) (omega arith)
 
 -- ---- the plan's gates
 

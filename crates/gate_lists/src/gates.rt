@@ -12,13 +12,19 @@ use elements::smaller;
 use elements::store_bit;
 use plan::Plan;
 
+// The program bits of a gate, which are its table.
+pub const GATE_BITS: u32 = 4;
+
 // The operands of the plan's gates, and their tables, from the front of two lists, as far as the record and the lists have places. What stands
 // behind them stays.
 pub fn load_gates(plan: Plan, pins: &mut [u16], tables: &mut [u8])
     ensures operands { λ _. ⌜ now (pins .exit) ≡ over (listOf (operands * loadedGates plan (now (pins .entry)) (now (tables .entry))) (planGates plan .operand)) (now (pins .entry)) ⌝ }
     ensures tables { λ _. ⌜ now (tables .exit) ≡ over (listOf (loadedGates plan (now (pins .entry)) (now (tables .entry))) (planGates plan .table)) (now (tables .entry)) ⌝ }
 {
-    let count = smaller(plan.gate_count as usize, gate_room(pins.len(), tables.len()));
+    let count = smaller(
+        plan.gate_count as usize,
+        gate_room(pins.len(), tables.len()),
+    );
     let mut i: usize = 0;
     while i < count {
         let gate = plan.gates[i];
@@ -36,13 +42,13 @@ fn gate_room(pins: usize, tables: usize) -> usize
     smaller(Plan::MAX_GATES, smaller(pins / 2, tables))
 }
 
-// A gate's table, the lowest bit first, from bit `start` on. What is past the program's end is not stored.
+// A gate's table, the lowest bit first, stored from bit `start` on as far as the program goes.
 pub fn store_table(table: u8, program: &mut [u8], start: u32)
     ensures { λ _. ⌜ now (program .exit) ≡ storeBits (now (program .entry)) start (tableProgram table) ⌝ }
 {
-    let mut i: usize = 0;
-    while i < 4 {
-        store_bit(program, start as usize + i, (table >> i) & 1);
+    let mut i: u32 = 0;
+    while i < GATE_BITS {
+        store_bit(program, start as usize + i as usize, (table >> i) & 1);
         i += 1;
     }
 }

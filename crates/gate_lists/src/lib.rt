@@ -3,9 +3,10 @@
 mod gates;
 mod wanted;
 
+pub use gates::GATE_BITS;
 pub use gates::load_gates;
 pub use gates::store_table;
-pub use wanted::choice_bit;
 pub use wanted::list_gates;
 pub use wanted::list_inputs;
 pub use wanted::list_outputs;
+pub use wanted::store_choices;

@@ -5,19 +5,21 @@ ghost use Prim.Native.Nat.{_-_, min};
 ghost use lib.ListN.{length, getD, take};
 ghost use Rattle.fault.specs.Buffers.{over};
 ghost use Rattle.plan.specs.Record.{maxOutputs};
+ghost use Rattle.networks.specs.Bits.{storeBits};
 ghost use Rattle.networks.specs.Counting.{oneIf};
-ghost use Rattle.universal.specs.Universal.{wantedGates};
+ghost use Rattle.universal.specs.Universal.{wantedGates, mixBits};
 ghost use Rattle.universal.specs.Fabric.{wantedInput, wantedOutputs};
 ghost use Rattle.gate_lists.specs.GateLists.{pinsIn, isAmong, wantedAmong, inputsWanted};
 use elements::smaller;
+use elements::store_bit;
 use plan::Plan;
 use plan::PlanWire;
 
 // The inputs that the first `count` pins want, at the front of `wanted`, as far as it has places.
-pub fn list_inputs(inputs: u16, count: usize, pins: &[u16], wanted: &mut [u16])
+pub fn list_inputs(inputs: u16, count: u32, pins: &[u16], wanted: &mut [u16])
     ensures { λ _. ⌜ now (wanted .exit) ≡ over (take (length (now (wanted .entry))) (inputsWanted inputs (now (pins .entry)) count)) (now (wanted .entry)) ⌝ }
 {
-    let end = smaller(count, wanted.len());
+    let end = smaller(count as usize, wanted.len());
     let mut q: usize = 0;
     while q < end {
         wanted[q] = wanted_input(inputs, operand_at(pins, q));
@@ -57,7 +59,7 @@ fn gate_number(inputs: u16, wire: PlanWire) -> u16
 
 // The gates of an upper half that the pins of its lower half want, at the front of `wanted`, as far as it has places. The upper half has `half`
 // gates from `base` on, whose wires follow `before` others.
-pub fn list_gates(before: u16, base: u16, half: u16, pins: &[u16], wanted: &mut [u16])
+pub fn list_gates(before: u32, base: u32, half: u32, pins: &[u16], wanted: &mut [u16])
     ensures { λ _. ⌜ now (wanted .exit) ≡ over (take (length (now (wanted .entry))) (wantedGates (pinsIn before (now (pins .entry))) base half)) (now (wanted .entry)) ⌝ }
 {
     let first = before as usize + base as usize;
@@ -81,8 +83,30 @@ fn wanted_gate(before: usize, half: usize, operand: PlanWire) -> u16
     1
 }
 
+// The bits of the Y rows before the lower half, stored from bit `start` on as far as the program goes.
+pub fn store_choices(
+    before: u32,
+    base: u32,
+    half: u32,
+    pins: &[u16],
+    program: &mut [u8],
+    start: u32,
+)
+    ensures { λ _. ⌜ now (program .exit) ≡ storeBits (now (program .entry)) start (mixBits (pinsIn before (now (pins .entry))) base half) ⌝ }
+{
+    let first = before as usize + base as usize;
+    let half = half as usize;
+    let place = 2 * (base as usize + half);
+    let mut j: usize = 0;
+    while j < 2 * half {
+        let bit = choice_bit(first, half, operand_at(pins, place + j));
+        store_bit(program, start as usize + j, bit);
+        j += 1;
+    }
+}
+
 // The bit of a Y row: 1 if the operand is one of the `half` gates behind so many wires.
-pub fn choice_bit(before: usize, half: usize, operand: PlanWire) -> u8
+fn choice_bit(before: usize, half: usize, operand: PlanWire) -> u8
     ensures { λ r. ⌜ r ≡ oneIf (isAmong before half (operand .0)) ⌝ }
 {
     if is_among(before, half, operand) {
