@@ -64,7 +64,7 @@ pub fn wide(x: u16) -> usize
     x as usize
 }
 
-// The smaller of two places.
+// The smaller of two numbers.
 pub fn smaller(a: usize, b: usize) -> usize
     ensures { λ r. ⌜ r ≡ min a b ⌝ }
 {

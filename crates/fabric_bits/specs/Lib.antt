@@ -2,10 +2,10 @@
 -- what the call gives
 pub mod ProgramCalls
 pub mod PlanProgramLaws
--- the lists that it works on, and what its parts store
-pub mod GateLists
-pub mod GateListsLaws
+-- what its parts store, and what they are lent
+pub mod ProgramParts
 -- U by its levels
 pub mod UniversalBitsLaws
 -- the plan by its parts
+pub mod LoadedLaws
 pub mod PlanBitsLaws

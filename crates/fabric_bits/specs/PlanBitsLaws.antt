@@ -25,7 +25,8 @@ use Rattle.universal.specs.FabricLaws.{fabric-within}
 use Rattle.universal.specs.FabricRun.{inputs-selected, outputs-selected}
 use Rattle.fabric_sizes.specs.PartsLaws.{few-places, same-level}
 use Rattle.fabric_sizes.specs.Parts.{maxPins}
-use Rattle.fabric_bits.specs.GateLists.{gatesIn, inputsWanted, gatesProgram, UniversalRoom, GatesRoom, Loaded}
+use Rattle.gate_lists.specs.GateLists.{gatesIn, inputsWanted}
+use Rattle.fabric_bits.specs.ProgramParts.{bitLimit, gatesProgram, UniversalRoom, GatesRoom, Loaded}
 use Rattle.fabric_bits.specs.UniversalBitsLaws.{SameGates, universal-same}
 
 -- ---- how many bits
@@ -42,9 +43,9 @@ length-gates u k pins tables =
 -- ---- S(u, 2K), then U(K)
 
 -- what U(K) is lent after S(u, 2K)'s bits are stored
-pub room-behind : {gates base before pins tables wanted start room gates′ wanted′ start′ room′ : ℕ}
-    → UniversalRoom gates base before pins tables wanted start room → gates′ ≡ gates → wanted′ ≡ wanted → start′ ≡ start → room′ ≡ room
-    → UniversalRoom gates′ base before pins tables wanted′ start′ room′
+pub room-behind : {gates base tables wanted start room gates′ wanted′ start′ room′ : ℕ}
+    → UniversalRoom gates base tables wanted start room → gates′ ≡ gates → wanted′ ≡ wanted → start′ ≡ start → room′ ≡ room
+    → UniversalRoom gates′ base tables wanted′ start′ room′
 room-behind R el ew es er = rw (el, ew, es, er) R
 
 pub gates-stored : (u k : ℕ) (pins tables s₀ : List ℕ) {places count next : ℕ} {s₁ s₂ : List ℕ} → places ≡ 2 ^ gateLevel k → count ≡ 2 * places
@@ -113,9 +114,7 @@ module _ (p : Plan) {pins tables : List ℕ} (L : Loaded p pins tables) where
           };
           gates = record {
             power = ap (λ m. 2 ^ m) (sym same);
-            inputs = c .inputs;
             all = omega (arith, few-gates);
-            pinRoom = ap length (L .operandsAre) ∙ length-listOf maxPins _;
             tableRoom = ap length (L .tablesAre) ∙ length-listOf maxGates _;
             wantedRoom = ew;
             few = omega (arith, takes);
@@ -139,11 +138,16 @@ module _ (p : Plan) {pins tables : List ℕ} (L : Loaded p pins tables) where
         ∙ ap (storeBits s₀ 0) (append-assoc (selectionBits (p .inputs) (pinCount n) (wantedInputs p)) (universalBits selection (planGates p) n 0) O)
 
 -- what is left of the plan's bits has room behind theirs
-pub outputs-fit : (p : Plan) (pins tables : List ℕ) {next : ℕ} (room : ℕ) → fabricTakes (p .inputs) (p .«gate_count») (p .«output_count») ≤ 8 * room
+pub outputs-fit : (p : Plan) → Accepted p → (pins tables : List ℕ) {next : ℕ} (room : ℕ)
+    → fabricTakes (p .inputs) (p .«gate_count») (p .«output_count») ≤ 8 * room
     → next ≡ length (gatesProgram (p .inputs) (p .«gate_count») pins tables)
-    → next + selectionCount (2 ^ gateLevel (p .«gate_count»)) (p .«output_count») ≤ 8 * room
+    → (next + selectionCount (2 ^ gateLevel (p .«gate_count»)) (p .«output_count») ≤ 8 * room)
+    × (next + selectionCount (2 ^ gateLevel (p .«gate_count»)) (p .«output_count») ≤ bitLimit)
 unfolding fabricTakes
-outputs-fit p pins tables room fits en = omega (arith, length-gates (p .inputs) (p .«gate_count») pins tables)
+outputs-fit p accepted pins tables room fits en =
+    let few = fabric-within _ _ _ (accepted-counts p accepted) .bits in
+    let size = length-gates (p .inputs) (p .«gate_count») pins tables in
+    (omega arith, omega arith)
 
 -- S(K, v)'s call has nothing to refuse
 pub outputs-pass : (p : Plan) → Accepted p → (wanted : List ℕ) {m start room : ℕ} → m ≡ 2 ^ gateLevel (p .«gate_count»)

@@ -7,7 +7,7 @@ use native.Mathlib.Omega.{arith}
 use lib.ListN.{length, take, length-append}
 use Rattle.lists.specs.ListsLaws.{listOf-ext}
 use Rattle.plan.specs.Record.{maxGates}
-use Rattle.networks.specs.Rows.{operands}
+use Rattle.networks.specs.Rows.{operands, gateBits}
 use Rattle.networks.specs.Bits.{storeBits}
 use Rattle.networks.specs.BitsLaws.{storeBits-append}
 use Rattle.networks.specs.Counting.{oneIf}
@@ -23,18 +23,18 @@ use Rattle.universal.specs.UniversalLaws.{length-universalBits}
 use Rattle.universal.specs.UniversalProgram.{wanted-selected, length-mixBits}
 use Rattle.universal.specs.Fabric.{gateLevel}
 use Rattle.fabric_sizes.specs.PartsLaws.{one-gate, Halved}
-use Rattle.fabric_bits.specs.GateLists.{gatesIn, pinsIn, isAmong, wantedAmong, betweenBits, BetweenRoom, BetweenFits, UniversalRoom}
-use Rattle.fabric_bits.specs.GateListsLaws.{among-gates, wanted-among}
+use Rattle.gate_lists.specs.GateLists.{gatesIn, pinsIn, isAmong, wantedAmong}
+use Rattle.gate_lists.specs.GateListsLaws.{among-gates, wanted-among}
+use Rattle.fabric_bits.specs.ProgramParts.{betweenBits, BetweenRoom, UniversalRoom}
 
 -- ---- U by its halves
 
 -- what its parts are lent
-module _ {gates base before pins tables wanted start room half : ℕ} (R : UniversalRoom gates base before pins tables wanted start room)
-    (H : Halved gates half) where
+module _ {gates base tables wanted start room half : ℕ} (R : UniversalRoom gates base tables wanted start room) (H : Halved gates half) where
   abbrev n : ℕ
   n = gateLevel half
 
-  takes-half : universalTakes selection (gateLevel gates)
+  pub takes-half : universalTakes selection (gateLevel gates)
       ≡ universalTakes selection n + (selectionCount half (operands * half) + (operands * half + universalTakes selection n))
   unfolding universalTakes
   takes-half =
@@ -44,37 +44,30 @@ module _ {gates base before pins tables wanted start room half : ℕ} (R : Unive
   all-gates : base + (half + half) ≤ maxGates
   all-gates = omega (arith, H .twice, R .all)
 
-  pub upper-room : UniversalRoom half base before pins tables wanted start room
+  pub upper-room : UniversalRoom half base tables wanted start room
   upper-room = record {
     power = H .power;
-    inputs = R .inputs;
     all = omega (arith, all-gates);
-    pinRoom = R .pinRoom;
     tableRoom = R .tableRoom;
     wantedRoom = R .wantedRoom;
     few = omega (arith, takes-half, R .few);
     fits = omega (arith, takes-half, R .fits);
   }
 
-  pub between-room : {w : ℕ} → w ≡ wanted → BetweenRoom before base half pins w
-  between-room e = record {
-    inputs = R .inputs;
+  pub between-room : {between w r : ℕ} → between ≡ start + universalTakes selection n → w ≡ wanted → r ≡ room → BetweenRoom half w between r
+  between-room eb ew er = record {
     some = H .some;
     gates = omega (arith, all-gates);
-    pinRoom = R .pinRoom;
     wantedRoom = omega (arith, all-gates, R .wantedRoom);
+    few = omega (arith, takes-half, R .few);
+    fits = omega (arith, takes-half, R .fits);
   }
 
-  pub between-fits : {between r : ℕ} → between ≡ start + universalTakes selection n → r ≡ room → BetweenFits half between r
-  between-fits eb er = record { few = omega (arith, takes-half, R .few); fits = omega (arith, takes-half, R .fits) }
-
   pub lower-room : {lower w r : ℕ} → lower ≡ start + universalTakes selection n + (selectionCount half (operands * half) + operands * half)
-      → w ≡ wanted → r ≡ room → UniversalRoom half (base + half) before pins tables w lower r
+      → w ≡ wanted → r ≡ room → UniversalRoom half (base + half) tables w lower r
   lower-room el ew er = record {
     power = H .power;
-    inputs = R .inputs;
     all = omega (arith, all-gates);
-    pinRoom = R .pinRoom;
     tableRoom = R .tableRoom;
     wantedRoom = ew ∙ R .wantedRoom;
     few = omega (arith, takes-half, R .few);
@@ -98,12 +91,12 @@ length-between G base h =
     length-append (selectionBits h (operands * h) (wantedGates G base h)) _
     ∙ ap₂ (λ a b. a + b) (length-selectionBits h (operands * h) (wantedGates G base h)) (length-mixBits G base h)
 
-pub between-passes : {before base h pins room₀ : ℕ} (G : Gates) (wanted : List ℕ) {start room : ℕ} → BetweenRoom before base h pins room₀
-    → BetweenFits h start room → take (2 * h) wanted ≡ wantedGates G base h → SelectionPasses h (2 * h) (take (2 * h) wanted) start room
-between-passes {h} G wanted R F e = record {
+pub between-passes : {h w start room : ℕ} (G : Gates) (base : ℕ) (wanted : List ℕ) → BetweenRoom h w start room → take (2 * h) wanted ≡ wantedGates G base h
+    → SelectionPasses h (2 * h) (take (2 * h) wanted) start room
+between-passes {h} G base wanted R e = record {
   sides = record { someInputs = R .some; inputs = omega arith; someOutputs = omega arith; outputs = omega arith };
-  selected = rw e (wanted-selected G _ h (R .some));
-  fits = omega (arith, F .fits);
+  selected = rw e (wanted-selected G base h (R .some));
+  fits = omega (arith, R .fits);
 }
 
 pub between-stored : (G : Gates) (base h start : ℕ) (s₀ : List ℕ) {choices : ℕ} {wanted s₁ s₂ : List ℕ} → wanted ≡ wantedGates G base h
@@ -125,6 +118,10 @@ between-pins before pins tables base h = refl
 -- ---- the whole
 
 -- U(1)
+pub gate-takes : {gates : ℕ} → gates ≤ 1 → universalTakes selection (gateLevel gates) ≡ gateBits
+unfolding universalTakes
+gate-takes l = rw (one-gate l)
+
 pub gate-stored : (G : Gates) (gates base start : ℕ) (s₀ : List ℕ) → gates ≤ 1
     → storeBits s₀ start (tableProgram (G .table base)) ≡ storeBits s₀ start (universalBits selection G (gateLevel gates) base)
 unfolding universalBits

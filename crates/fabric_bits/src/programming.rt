@@ -12,21 +12,20 @@ ghost use Rattle.universal.specs.Fabric.{gateLevel, fabricTakes, wantedOutputs,
 ghost use Rattle.fabric_checks.specs.FabricChecks.{planProgramFault};
 ghost use Rattle.fabric_bits.specs.ProgramCalls.{planProgramResult};
 ghost use Rattle.fabric_sizes.specs.Parts.{maxPins};
-ghost use Rattle.fabric_bits.specs.GateLists.{inputsWanted, gatesProgram, GatesRoom};
+ghost use Rattle.gate_lists.specs.GateLists.{inputsWanted};
+ghost use Rattle.fabric_bits.specs.ProgramParts.{bitLimit, gatesProgram, GatesRoom};
 use crate::block::program_universal;
 use crate::block::store_selection;
-use crate::gates::list_inputs;
-use crate::gates::list_outputs;
-use crate::gates::load_gates;
 use elements::fill_bytes;
 use fabric_checks::check_program;
 use fabric_sizes::MAX_PINS;
 use fabric_sizes::gate_places;
 use fabric_sizes::program_length;
-use fabric_sizes::universal_counts;
 use fault::Answer;
+use gate_lists::list_inputs;
+use gate_lists::list_outputs;
+use gate_lists::load_gates;
 use plan::Plan;
-use sizes::selection_count;
 
 // The program of the plan, from the front of `program`. Spare bits of its last byte are 0.
 pub fn program_plan(plan: Plan, program: &mut [u8]) -> Answer
@@ -73,53 +72,51 @@ fn store_gates(
     tables: &[u8],
     wanted: &mut [u16],
     program: &mut [u8],
-) -> usize
+) -> u32
     requires { ⌜ GatesRoom inputs gates (now pins) (now tables) (length (now wanted)) (length (now program)) ⌝ }
     ensures behind { λ r. ⌜ r ≡ length (gatesProgram inputs gates (now (pins .entry)) (now (tables .entry))) ⌝ }
     ensures stored { λ _. ⌜ now (program .exit) ≡ storeBits (now (program .entry)) 0 (gatesProgram inputs gates (now (pins .entry)) (now (tables .entry))) ⌝ }
 {
     let places = gate_places(gates);
-    let universal = universal_counts(gates);
-    let next = store_inputs(inputs, 2 * places as usize, pins, wanted, program);
+    let next = store_inputs(inputs, 2 * places, pins, wanted, program);
     program_universal(
-        places as u16,
+        places,
         0,
-        inputs as usize,
+        inputs as u32,
         pins,
         tables,
         wanted,
         program,
         next,
-    );
-    next + universal.bits as usize
+    )
 }
 
 // The bits of S(u, 2K) for the inputs that the pins want, stored from bit 0 on. Gives the bit behind them.
 fn store_inputs(
     inputs: u16,
-    count: usize,
+    count: u32,
     pins: &[u16],
     wanted: &mut [u16],
     program: &mut [u8],
-) -> usize
+) -> u32
     requires { ⌜ SelectionPasses inputs count (inputsWanted inputs (now pins) count) 0 (length (now program)) ⌝ }
-    requires { ⌜ (count ≤ length (now pins)) × (count ≤ length (now wanted)) ⌝ }
+    requires { ⌜ (count ≤ length (now wanted)) × (selectionCount inputs count ≤ bitLimit) ⌝ }
     ensures behind { λ r. ⌜ r ≡ selectionCount inputs count ⌝ }
     ensures stored { λ _. ⌜ now (program .exit) ≡ storeBits (now (program .entry)) 0 (selectionBits inputs count (inputsWanted inputs (now (pins .entry)) count)) ⌝ }
 {
     list_inputs(inputs, count, pins, wanted);
-    store_selection(inputs as usize, count, wanted, program, 0);
-    selection_count(inputs as u32, count as u32)
+    store_selection(inputs as u32, count, wanted, program, 0)
 }
 
 // The bits of S(K, v) for the gates that the outputs name, stored from bit `start` on.
-fn store_outputs(plan: Plan, wanted: &mut [u16], program: &mut [u8], start: usize)
+fn store_outputs(plan: Plan, wanted: &mut [u16], program: &mut [u8], start: u32)
     requires { ⌜ Accepted plan ⌝ }
     requires { ⌜ length (now wanted) ≡ maxPins ⌝ }
     requires { ⌜ start + selectionCount (2 ^ gateLevel (plan .«gate_count»)) (plan .«output_count») ≤ 8 * length (now program) ⌝ }
+    requires { ⌜ start + selectionCount (2 ^ gateLevel (plan .«gate_count»)) (plan .«output_count») ≤ bitLimit ⌝ }
     ensures { λ _. ⌜ now (program .exit) ≡ storeBits (now (program .entry)) start (selectionBits (2 ^ gateLevel (plan .«gate_count»)) (plan .«output_count») (wantedOutputs plan)) ⌝ }
 {
     list_outputs(plan, wanted);
-    let places = gate_places(plan.gate_count) as usize;
-    store_selection(places, plan.output_count as usize, wanted, program, start);
+    let places = gate_places(plan.gate_count);
+    store_selection(places, plan.output_count as u32, wanted, program, start);
 }

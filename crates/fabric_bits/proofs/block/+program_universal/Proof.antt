@@ -12,14 +12,13 @@ use lib.Pow.{pow-pos}
 use Rattle.networks.specs.Bits.{storeBits}
 use Rattle.universal.specs.Fabric.{gateLevel}
 use Rattle.fabric_sizes.specs.PartsLaws.{halved}
-use Rattle.fabric_bits.specs.GateLists.{gatesIn, pinsIn}
-use Rattle.fabric_bits.specs.UniversalBitsLaws.{upper-room, between-room, between-fits, lower-room, length-between, between-pins, gate-stored, halves-stored}
+use Rattle.gate_lists.specs.GateLists.{gatesIn, pinsIn}
+use Rattle.fabric_bits.specs.UniversalBitsLaws.{takes-half, upper-room, between-room, lower-room, length-between, between-pins, gate-takes, gate-stored, halves-stored}
 use Rattle.fabric_bits.proofs.block.program_universal.Reads as program-universal
 use Rattle.fabric_bits.proofs.block.program_universal.Kinds as program-universal-kinds
 use Rattle.fabric_bits.proofs.block.+program_universal.Lts-program_universal as program-universal-lts
 use Rattle.fabric_bits.proofs.block.program_between.Reads as program-between-reads
-use Rattle.fabric_bits.proofs.block.store_table.Reads as store-table-reads
-use Rattle.fabric_sizes.proofs.universal_counts.Reads as universal-counts-reads
+use Rattle.gate_lists.proofs.store_table.Reads as store-table-reads
 use Rattle.fabric_bits.proofs.block.+program_universal.{statement}
 use Rattle.fabric_bits.proofs.block.+program_universal.Tie.{close}
 
@@ -32,69 +31,13 @@ universal-at t = and 4 program-universal-kinds.ps (is 4 program-universal-kinds.
 -- what is known of the calls
 abbrev calls : ℕ → program-universal-lts.Claims
 calls t = (
-  universal-counts-reads.Asked,
-  universal-counts-reads.Learnt,
+  store-table-reads.Asked,
+  store-table-reads.Learnt,
   and 4 program-universal-kinds.ps (falls 4 program-universal-kinds.ps _<_ μ-program-universal t) program-universal.Pre,
   program-universal.Post,
   program-between-reads.Asked,
   program-between-reads.Learnt,
-  store-table-reads.Asked,
-  store-table-reads.Learnt,
 )
-
-for-upper : (t : ℕ) → program-universal-lts.Need-program-universal-requires (calls t) (universal-at t) program-universal.Post
-for-upper t c κs =
-    let if1 = c .before .before .before .before in
-    let s = if1 .before .before .before .before .before in
-    let h = halved (s .pre .1 .power) (if1 .if1 .taken) in
-    (omega (arith, s .pre .0), upper-room (s .pre .1) h)
-
-for-between : (t : ℕ) → program-universal-lts.Need-program-between-requires (calls t) (universal-at t) program-universal.Post
-for-between t c κs =
-    let upper = c .before .before .before .before .before .before in
-    let counted = upper .before .before .before .before in
-    let if1 = counted .before in
-    let s = if1 .before .before .before .before .before in
-    let h = halved (s .pre .1 .power) (if1 .if1 .taken) in
-    let kept = upper .program-universal .kept in (
-      between-room (s .pre .1) h (kept .1 .1 .1 .1 .1 .0),
-      between-fits (s .pre .1) h (ap (λ n. s .args .start + n) (counted .universal-counts .ensures .isBits)) (kept .1 .1 .1 .1 .1 .1 .0),
-    )
-
-for-lower : (t : ℕ) → program-universal-lts.Need-program-universal-requires-2 (calls t) (universal-at t) program-universal.Post
-for-lower t c κs =
-    let between = c .before .before .before .before .before .before in
-    let upper = between .before .before .before .before .before .before .before in
-    let counted = upper .before .before .before .before in
-    let if1 = counted .before in
-    let s = if1 .before .before .before .before .before in
-    let a = s .args in
-    let h = halved (s .pre .1 .power) (if1 .if1 .taken) in
-    let size = length-between (pinsIn (a .before) (a .pins .now)) (a .base) (a .gates / 2) in (
-      omega (arith, s .pre .0),
-      lower-room (s .pre .1) h (omega (arith, between .program-between .ensures .0, counted .universal-counts .ensures .isBits, size))
-          (between .program-between .kept .1 .1 .1 .1 .0 ∙ upper .program-universal .kept .1 .1 .1 .1 .1 .0)
-          (between .program-between .kept .1 .1 .1 .1 .1 .0 ∙ upper .program-universal .kept .1 .1 .1 .1 .1 .1 .0),
-    )
-
-stored : (t : ℕ) → program-universal-lts.Need-returns (calls t) (universal-at t) program-universal.Post
-stored t c =
-    let lower = c .before .before .before .before in
-    let between = lower .before .before .before .before .before .before .before in
-    let upper = between .before .before .before .before .before .before .before in
-    let counted = upper .before .before .before .before in
-    let if1 = counted .before in
-    let s = if1 .before .before .before .before .before in
-    let a = s .args in
-    let pins = a .pins .now in
-    let G = gatesIn (a .before) pins (a .tables .now) in
-    let h = halved (s .pre .1 .power) (if1 .if1 .taken) in
-    let same = between-pins (a .before) pins (a .tables .now) (a .base) (a .gates / 2) in
-    halves-stored G (a .gates) (a .base) (a .start) (a .program .now) h
-    (upper .program-universal .ensures) (ap (λ n. a .start + n) (counted .universal-counts .ensures .isBits))
-    (between .program-between .ensures .1 ∙ ap (storeBits (upper .program-universal .last .1 .1 .1 .1 .1 .1 .0) _) same)
-    (between .program-between .ensures .0 ∙ ap (λ (bits : List ℕ). a .start + counted .universal-counts .result .bits + length bits) same)
-    (lower .program-universal2 .ensures)
 
 gate-there : (t : ℕ) → program-universal-lts.Need-shared-slice-read-store-table (calls t) (universal-at t) program-universal.Post
 gate-there t c =
@@ -102,15 +45,86 @@ gate-there t c =
     let r = s .pre .1 in
     omega (arith, pow-pos (gateLevel (s .args .gates)), r .power, r .all, r .tableRoom)
 
-table : (t : ℕ) → program-universal-lts.Need-returns-2 (calls t) (universal-at t) program-universal.Post
+behind-gate : (t : ℕ) → program-universal-lts.Need-add-result (calls t) (universal-at t) program-universal.Post
+behind-gate t c =
+    let s = c .before .before .before .before .before .before .before .before .before .before in
+    omega (arith, s .pre .1 .few)
+
+table : (t : ℕ) → program-universal-lts.Need-returns (calls t) (universal-at t) program-universal.Post
 table t c =
     let if1 = c .before .before .before .before .before in
-    let a = if1 .before .before .before .before .before .args in
-    c .before .before .store-table .ensures
-    ∙ gate-stored (gatesIn (a .before) (a .pins .now) (a .tables .now)) (a .gates) (a .base) (a .start) (a .program .now) (if1 .if1 .left)
+    let a = if1 .before .before .before .before .before .args in (
+      omega (arith, gate-takes (if1 .if1 .taken)),
+      c .before .before .store-table .ensures
+          ∙ gate-stored (gatesIn (a .before) (a .pins .now) (a .tables .now)) (a .gates) (a .base) (a .start) (a .program .now) (if1 .if1 .taken),
+    )
+
+for-upper : (t : ℕ) → program-universal-lts.Need-program-universal-requires (calls t) (universal-at t) program-universal.Post
+for-upper t c κs =
+    let if1 = c .before .before in
+    let s = if1 .before .before .before .before .before in
+    let h = halved (s .pre .1 .power) (if1 .if1 .left) in
+    (omega (arith, s .pre .0), upper-room (s .pre .1) h)
+
+for-between : (t : ℕ) → program-universal-lts.Need-program-between-requires (calls t) (universal-at t) program-universal.Post
+for-between t c κs =
+    let upper = c .before .before .before .before .before .before in
+    let if1 = upper .before .before .before in
+    let s = if1 .before .before .before .before .before in
+    let h = halved (s .pre .1 .power) (if1 .if1 .left) in
+    let kept = upper .program-universal .kept in
+    between-room (s .pre .1) h (upper .program-universal .ensures .0) (kept .1 .1 .1 .1 .1 .0) (kept .1 .1 .1 .1 .1 .1 .0)
+
+lower-base : (t : ℕ) → program-universal-lts.Need-add-program-universal (calls t) (universal-at t) program-universal.Post
+lower-base t c =
+    let s = c .before .before .before .before .before .before .before .before .before .before .before .before .before .before .before .before .before .before .before in
+    omega (arith, s .pre .1 .all)
+
+for-lower : (t : ℕ) → program-universal-lts.Need-program-universal-requires-2 (calls t) (universal-at t) program-universal.Post
+for-lower t c κs =
+    let between = c .before .before .before .before .before .before in
+    let upper = between .before .before .before .before .before .before .before in
+    let if1 = upper .before .before .before in
+    let s = if1 .before .before .before .before .before in
+    let a = s .args in
+    let h = halved (s .pre .1 .power) (if1 .if1 .left) in
+    let size = length-between (pinsIn (a .before) (a .pins .now)) (a .base) (a .gates / 2) in (
+      omega (arith, s .pre .0),
+      lower-room (s .pre .1) h (omega (arith, between .program-between .ensures .0, upper .program-universal .ensures .0, size))
+          (between .program-between .kept .1 .1 .1 .1 .0 ∙ upper .program-universal .kept .1 .1 .1 .1 .1 .0)
+          (between .program-between .kept .1 .1 .1 .1 .1 .0 ∙ upper .program-universal .kept .1 .1 .1 .1 .1 .1 .0),
+    )
+
+stored : (t : ℕ) → program-universal-lts.Need-returns-2 (calls t) (universal-at t) program-universal.Post
+stored t c =
+    let lower = c .before .before .before .before in
+    let between = lower .before .before .before .before .before .before .before in
+    let upper = between .before .before .before .before .before .before .before in
+    let if1 = upper .before .before .before in
+    let s = if1 .before .before .before .before .before in
+    let a = s .args in
+    let pins = a .pins .now in
+    let G = gatesIn (a .before) pins (a .tables .now) in
+    let h = halved (s .pre .1 .power) (if1 .if1 .left) in
+    let same = between-pins (a .before) pins (a .tables .now) (a .base) (a .gates / 2) in
+    let size = length-between (pinsIn (a .before) pins) (a .base) (a .gates / 2) in (
+      omega (
+        arith,
+        lower .program-universal2 .ensures .0,
+        between .program-between .ensures .0,
+        upper .program-universal .ensures .0,
+        size,
+        takes-half (s .pre .1) h,
+      ),
+      halves-stored G (a .gates) (a .base) (a .start) (a .program .now) h
+          (upper .program-universal .ensures .1) (upper .program-universal .ensures .0)
+          (between .program-between .ensures .1 ∙ ap (storeBits (upper .program-universal .last .1 .1 .1 .1 .1 .1 .0) _) same)
+          (between .program-between .ensures .0 ∙ ap (λ (bits : List ℕ). upper .program-universal .result + length bits) same)
+          (lower .program-universal2 .ensures .1),
+    )
 
 pub +program-universal-spec : {M : Type 1} → statement M
 +program-universal-spec =
     close μ-program-universal λ t. program-universal-lts.spec (calls t) (universal-at t) program-universal.Post
-    (λ c. search needs) (λ c κs. search needs) (λ c. search needs) (λ c. search needs) (for-upper t) (for-between t) (λ c. search needs)
-    (for-lower t) (gate-there t) (λ c κs. search needs) (λ c. search needs) (λ c. search needs) (stored t) (λ c. search needs) (table t)
+    (gate-there t) (λ c κs. search needs) (behind-gate t) (λ c. search needs) (table t) (for-upper t) (for-between t) (lower-base t)
+    (for-lower t) (λ c. search needs) (λ c. search needs) (stored t)

@@ -4,8 +4,10 @@ use Prim.Native.Nat.{_*_}
 use native.Mathlib.Omega.{arith}
 use borrow.Author.Needs.{needs}
 use Rattle.networks.specs.Selection.{selectionCount}
-use Rattle.universal.specs.Selector.{pinCount}
+use Rattle.universal.specs.Selector.{pinCount, selection}
+use Rattle.universal.specs.Universal.{universalTakes}
 use Rattle.universal.specs.Fabric.{gateLevel}
+use Rattle.fabric_sizes.specs.PartsLaws.{same-level}
 use Rattle.fabric_bits.specs.PlanBitsLaws.{length-gates, room-behind, gates-stored}
 use Rattle.fabric_bits.proofs.programming.store_gates.Statement.{statement}
 use Rattle.fabric_bits.proofs.programming.store_gates.Tie as tie
@@ -16,52 +18,39 @@ pins c = ap (λ n. 2 * n) (c .gate-places .ensures .isPlaces)
 
 for-inputs : tie.Need-store-inputs-requires
 for-inputs c κs =
-    let placed = c .before .before .before in
+    let placed = c .before .before in
     let s = placed .before .before .before .before .before in
-    let few = s .pre .gates .all in
+    let R = s .pre .gates in
     let e = pins placed in
-    (rw e (s .pre .inputs), (omega (arith, s .pre .gates .pinRoom), omega (arith, s .pre .gates .wantedRoom)))
-
--- K is of 16 bits
-few-places : tie.Need-cast-program-universal
-few-places c =
-    let placed = c .before .before .before .before .before .before .before .before in
-    omega (arith, placed .gate-places .ensures .isPlaces, placed .before .before .before .before .before .pre .gates .all)
+    (rw e (s .pre .inputs), (omega (arith, R .wantedRoom, R .all), rw e (omega (arith, R .few))))
 
 -- where U(K)'s bits begin
-next : (c : tie.After-store-inputs) → let a = c .before .before .before .before .before .before .before .before .before .args in
+next : (c : tie.After-store-inputs) → let a = c .before .before .before .before .before .before .before .before .args in
     c .store-inputs .result ≡ selectionCount (a .inputs) (pinCount (gateLevel (a .gates)))
 next c =
-    c .store-inputs .ensures .0 ∙ ap (selectionCount (c .before .before .before .before .before .before .before .before .before .args .inputs)) (pins (c .before .before .before .before))
+    c .store-inputs .ensures .0 ∙ ap (selectionCount (c .before .before .before .before .before .before .before .before .args .inputs)) (pins (c .before .before .before))
 
 for-universal : tie.Need-program-universal-requires
 for-universal c κs =
     let first = c .before .before .before .before .before .before in
-    let placed = first .before .before .before .before in
+    let placed = first .before .before .before in
     room-behind (placed .before .before .before .before .before .pre .gates) (placed .gate-places .ensures .isPlaces) (first .store-inputs .kept .1 .1 .1 .0) (next first)
     (first .store-inputs .kept .1 .1 .1 .1 .0)
 
-behind-fits : tie.Need-add-result
-behind-fits c =
-    let first = c .before .before .before .before .before .before .before .before .before .before .before .before in
-    let counted = first .before .before .before in
-    let s = counted .before .before .before .before .before .before in
-    omega (arith, next first, counted .universal-counts .ensures .fewBits, s .pre .gates .few)
-
 stored : tie.Need-returns
 stored c =
-    let first = c .before .before .before .before .before .before .before .before .before .before .before .before in
-    let counted = first .before .before .before in
-    let placed = counted .before in
-    let a = placed .before .before .before .before .before .args in (
-      omega (arith, next first, counted .universal-counts .ensures .isBits, length-gates (a .inputs) (a .gates) (a .pins .now) (a .tables .now)),
-      gates-stored (a .inputs) (a .gates) (a .pins .now) (a .tables .now) (a .program .now) (placed .gate-places .ensures .isPlaces) refl
-          (first .store-inputs .ensures .1) (first .store-inputs .ensures .0) (c .before .before .before .before .before .program-universal .ensures),
+    let universal = c .before .before .before .before in
+    let first = universal .before .before .before .before .before .before .before in
+    let placed = first .before .before .before in
+    let a = placed .before .before .before .before .before .args in
+    let e = placed .gate-places .ensures .isPlaces in
+    let takes = ap (universalTakes selection) (ap gateLevel e ∙ same-level (a .gates)) in (
+      omega (arith, next first, universal .program-universal .ensures .0, takes, length-gates (a .inputs) (a .gates) (a .pins .now) (a .tables .now)),
+      gates-stored (a .inputs) (a .gates) (a .pins .now) (a .tables .now) (a .program .now) e refl
+          (first .store-inputs .ensures .1) (first .store-inputs .ensures .0) (universal .program-universal .ensures .1),
     )
 
 pub store-gates-spec : {M : Type 1} → statement M
 store-gates-spec =
     tie.close
-    (tie.spec
-    (λ c κs. search needs) (λ c κs. search needs) (λ c. search needs) (λ c. search needs) for-inputs few-places for-universal (λ c. search needs)
-    behind-fits (λ c. search needs) (λ c. search needs) stored)
+    (tie.spec (λ c κs. search needs) (λ c. search needs) for-inputs for-universal (λ c. search needs) (λ c. search needs) stored)

@@ -1,21 +1,13 @@
 -- `fabric_bits::programming::store_plan` meets its contract: the lists hold the plan's gates, and the parts, stored one behind the other, are the
 -- whole. Assumes nothing.
 use mathlib.Core.Path.{refl}
-use native.Mathlib.Omega.{arith}
 use borrow.Author.Needs.{needs}
 use lib.ListN.{length}
-use Rattle.plan.specs.FaultsLaws.{accepted-counts}
-use Rattle.fabric_bits.specs.GateLists.{Loaded}
-use Rattle.fabric_bits.specs.GateListsLaws.{loaded}
+use Rattle.fabric_bits.specs.ProgramParts.{Loaded}
+use Rattle.fabric_bits.specs.LoadedLaws.{loaded}
 use Rattle.fabric_bits.specs.PlanBitsLaws.{gates-room, plan-stored, outputs-fit}
 use Rattle.fabric_bits.proofs.programming.store_plan.Statement.{statement}
 use Rattle.fabric_bits.proofs.programming.store_plan.Tie as tie
-
-for-load : tie.Need-load-gates-requires
-for-load c κs =
-    let s = c .before .before .before in
-    let counts = accepted-counts (s .args .plan) (s .pre .0) in
-    (s .pre .0, (omega arith, omega arith))
 
 lists : (c : tie.After-load-gates) → Loaded (c .before .before .before .before .args .plan) (c .load-gates .last .1 .0) (c .load-gates .last .1 .1 .0)
 lists c = let s = c .before .before .before .before in loaded (s .args .plan) (s .pre .0) (c .load-gates .ensures .0) (c .load-gates .ensures .1)
@@ -32,7 +24,9 @@ for-outputs c κs =
     let load = gates .before .before .before .before .before .before .before .load-gates in
     let s = gates .before .before .before .before .before .before .before .before .before .before .before in
     let kept = gates .store-gates .kept .1 .1 .1 .1 .1 .0 in
-    (s .pre .0, (gates .store-gates .kept .1 .1 .1 .1 .0, rw kept (outputs-fit (s .args .plan) (load .last .1 .0) (load .last .1 .1 .0) (length (s .args .program .now)) (s .pre .1) (gates .store-gates .ensures .0))))
+    let room = length (s .args .program .now) in
+    let fit = outputs-fit (s .args .plan) (s .pre .0) (load .last .1 .0) (load .last .1 .1 .0) room (s .pre .1) (gates .store-gates .ensures .0) in
+    (s .pre .0, (gates .store-gates .kept .1 .1 .1 .1 .0, (rw kept (fit .0), fit .1)))
 
 stored : tie.Need-returns
 stored c =
@@ -46,5 +40,5 @@ pub store-plan-spec : {M : Type 1} → statement M
 store-plan-spec =
     tie.close
     (tie.spec
-    (λ c. search needs) (λ c. search needs) for-load (λ c. search needs) (λ c. search needs) (λ c. search needs) for-gates (λ c. search needs)
+    (λ c. search needs) (λ c. search needs) (λ c κs. search needs) (λ c. search needs) (λ c. search needs) (λ c. search needs) for-gates (λ c. search needs)
     for-outputs (λ c. search needs) stored)

@@ -1,4 +1,4 @@
--- `fabric_bits::block::store_table` meets its contract. The loop's invariant: the first i bits are stored. Assumes nothing.
+-- `gate_lists::gates::store_table` meets its contract. The loop's invariant: the first i bits are stored. Assumes nothing.
 use mathlib.Core.Path.{_≡_, refl, ap, _∙_}
 use Prim.Native.Nat.{_-_, _≤_}
 use native.Mathlib.Omega.{arith}
@@ -6,18 +6,19 @@ use borrow.Author.Needs.{needs}
 use lib.ListN.{length}
 use Rattle.lists.specs.Lists.{listOf}
 use Rattle.networks.specs.Bits.{bitOf, storeBits}
+use Rattle.networks.specs.Rows.{gateBits}
 use Rattle.networks.specs.BitsLaws.{bitOf-mask}
 use Rattle.elements.specs.StoreLaws.{store-none, store-step}
 use Rattle.universal.specs.Universal.{tableProgram}
-use Rattle.fabric_bits.proofs.block.store_table.Statement.{statement}
-use Rattle.fabric_bits.proofs.block.store_table.Tie as tie
+use Rattle.gate_lists.proofs.gates.store_table.Statement.{statement}
+use Rattle.gate_lists.proofs.gates.store_table.Tie as tie
 
 abbrev Inv-loop : tie.InvT-loop
 Inv-loop table program₀ start i₀ program i =
-    (i ≤ 4) × (length program ≡ length program₀) × (program ≡ storeBits program₀ start (listOf i (λ k. bitOf k table)))
+    (i ≤ gateBits) × (length program ≡ length program₀) × (program ≡ storeBits program₀ start (listOf i (λ k. bitOf k table)))
 
 abbrev μ-loop : tie.MeasureT-loop
-μ-loop table program₀ start i₀ program i = 4 - i
+μ-loop table program₀ start i₀ program i = gateBits - i
 
 holds : tie.Need-loop-holds Inv-loop μ-loop
 holds c = let a = c .before .args in (omega arith, refl, store-none (a .program .now) (a .start) _)
@@ -34,12 +35,12 @@ all : tie.Need-returns Inv-loop μ-loop
 unfolding tableProgram
 all c =
     let a = c .before .before .before .args in
-    let e : c .before .loop .i ≡ 4 = omega arith in
+    let e : c .before .loop .i ≡ gateBits = omega arith in
     c .before .loop .inv .2 ∙ ap (λ n. storeBits (a .program .now) (a .start) (listOf n (λ k. bitOf k (a .table)))) e
 
 pub store-table-spec : {M : Type 1} → statement M
 store-table-spec =
     tie.close
     (tie.spec Inv-loop μ-loop
-    holds (λ c. search needs) (λ c. search needs) (λ c. search needs) (λ c κs. search needs) (λ c. search needs) (λ c. search needs) again
+    holds (λ c. search needs) (λ c. search needs) (λ c. search needs) (λ c. search needs) (λ c κs. search needs) (λ c. search needs) (λ c. search needs) again
     (λ c. search needs) all)

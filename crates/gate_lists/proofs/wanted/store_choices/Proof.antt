@@ -1,4 +1,4 @@
--- `fabric_bits::block::store_choices` meets its contract. The loop's invariant: the first j bits are stored. Assumes nothing.
+-- `gate_lists::wanted::store_choices` meets its contract. The loop's invariant: the first j bits are stored. Assumes nothing.
 use mathlib.Core.Path.{_≡_, refl, ap, _∙_}
 use mathlib.Core.List.{List}
 use Prim.Native.Nat.{ℕ, _+_, _-_, _*_, _<_, _≤_}
@@ -11,21 +11,21 @@ use Rattle.networks.specs.Counting.{oneIf}
 use Rattle.networks.specs.CountingLaws.{one-lt}
 use Rattle.elements.specs.StoreLaws.{store-none, store-step}
 use Rattle.universal.specs.Universal.{isOf, mixBits}
-use Rattle.fabric_bits.specs.GateLists.{pinsIn, isAmong}
-use Rattle.fabric_bits.specs.GateListsLaws.{among-gates}
-use Rattle.fabric_bits.proofs.block.store_choices.Statement.{statement}
-use Rattle.fabric_bits.proofs.block.store_choices.Tie as tie
+use Rattle.gate_lists.specs.GateLists.{pinsIn}
+use Rattle.gate_lists.specs.GateListsLaws.{among-gates}
+use Rattle.gate_lists.proofs.wanted.store_choices.Statement.{statement}
+use Rattle.gate_lists.proofs.wanted.store_choices.Tie as tie
 
 -- the bit of the Y row at place j
 abbrev choice : ℕ → ℕ → ℕ → List ℕ → ℕ → ℕ
 choice before base half pins j = oneIf (isOf (pinsIn before pins) base half (getD pins (2 * (base + half) + j) 0))
 
 abbrev Inv-loop : tie.InvT-loop
-Inv-loop before base half pins program₀ start place count j₀ program j =
-    (j ≤ count) × (length program ≡ length program₀) × (program ≡ storeBits program₀ start (listOf j (choice before base half pins)))
+Inv-loop before base half pins program₀ start first half' place j₀ program j =
+    (j ≤ 2 * half) × (length program ≡ length program₀) × (program ≡ storeBits program₀ start (listOf j (choice before base half pins)))
 
 abbrev μ-loop : tie.MeasureT-loop
-μ-loop before base half pins program₀ start place count j₀ program j = count - j
+μ-loop before base half pins program₀ start first half' place j₀ program j = 2 * half - j
 
 holds : tie.Need-loop-holds Inv-loop μ-loop
 holds c = let a = c .before .before .args in (omega arith, refl, store-none (a .program .now) (a .start) _)
@@ -34,11 +34,12 @@ again : tie.Need-loop-again Inv-loop μ-loop
 again c =
     let store = c .before .before .store-bit in
     let bit = c .before .before .before .before .choice-bit in
+    let operand = c .before .before .before .before .before .operand-at in
     let at = c .before .before .before .before .before .before .before in
     let a = at .before .before .before .args in
-    let w = getD (a .pins .now) (2 * (a .base + a .half) + at .loop .j) 0 in
-    let small : bit .result < 2 = rw (bit .ensures) (one-lt (isAmong (a .before + a .base) (a .half) w)) in
-    let is = bit .ensures ∙ ap oneIf (among-gates (pinsIn (a .before) (a .pins .now)) (a .base) (a .half) w) in
+    let G = pinsIn (a .before) (a .pins .now) in
+    let is = bit .ensures ∙ ap oneIf (among-gates G (a .base) (a .half) _) ∙ ap (λ w. oneIf (isOf G (a .base) (a .half) w)) (operand .ensures) in
+    let small : bit .result < 2 = rw is (one-lt (isOf G (a .base) (a .half) (getD (a .pins .now) (2 * (a .base + a .half) + at .loop .j) 0))) in
     (omega arith, store .kept .0 ∙ at .loop .inv .1, store .ensures ∙ store-step (a .program .now) (a .start) (at .loop .j) _ (at .loop .inv .2) small is)
 
 all : tie.Need-returns Inv-loop μ-loop
@@ -52,6 +53,6 @@ pub store-choices-spec : {M : Type 1} → statement M
 store-choices-spec =
     tie.close
     (tie.spec Inv-loop μ-loop
-    (λ c. search needs) (λ c. search needs) (λ c. search needs) holds (λ c. search needs) (λ c. search needs) (λ c. search needs)
-    (λ c. search needs) (λ c κs. search needs) (λ c. search needs) (λ c κs. search needs) (λ c. search needs) (λ c. search needs) again
+    (λ c. search needs) (λ c. search needs) (λ c. search needs) holds (λ c. search needs) (λ c. search needs) (λ c κs. search needs)
+    (λ c κs. search needs) (λ c. search needs) (λ c κs. search needs) (λ c. search needs) (λ c. search needs) again
     (λ c. search needs) all)

@@ -1,8 +1,8 @@
--- `fabric_bits::gates::wanted_input` meets its contract. Assumes nothing.
+-- `gate_lists::wanted::wanted_input` meets its contract. Assumes nothing.
 use borrow.Author.Tests.{le-leb, lt-leb}
 use Rattle.universal.specs.Fabric.{wantedInput}
-use Rattle.fabric_bits.proofs.gates.wanted_input.Statement.{statement}
-use Rattle.fabric_bits.proofs.gates.wanted_input.Tie as tie
+use Rattle.gate_lists.proofs.wanted.wanted_input.Statement.{statement}
+use Rattle.gate_lists.proofs.wanted.wanted_input.Tie as tie
 
 own : tie.Need-returns
 unfolding wantedInput

@@ -1,11 +1,11 @@
--- `fabric_bits::gates::wanted_gate` meets its contract. Assumes nothing.
+-- `gate_lists::wanted::wanted_gate` meets its contract. Assumes nothing.
 use mathlib.Core.Path.{sym, _∙_}
 use native.Mathlib.Omega.{arith}
 use borrow.Author.Needs.{needs}
-use Rattle.fabric_bits.specs.GateLists.{wantedAmong}
-use Rattle.fabric_bits.specs.GateListsLaws.{among-above}
-use Rattle.fabric_bits.proofs.gates.wanted_gate.Statement.{statement}
-use Rattle.fabric_bits.proofs.gates.wanted_gate.Tie as tie
+use Rattle.gate_lists.specs.GateLists.{wantedAmong}
+use Rattle.gate_lists.specs.GateListsLaws.{among-above}
+use Rattle.gate_lists.proofs.wanted.wanted_gate.Statement.{statement}
+use Rattle.gate_lists.proofs.wanted.wanted_gate.Tie as tie
 
 above : tie.Need-sub-result
 above c =
@@ -21,4 +21,4 @@ unfolding wantedAmong
 first c = rw (sym (c .before .is-among .ensures) ∙ c .if1 .left)
 
 pub wanted-gate-spec : {M : Type 1} → statement M
-wanted-gate-spec = tie.close (tie.spec (λ c κs. search needs) (λ c. search needs) above which first)
+wanted-gate-spec = tie.close (tie.spec (λ c κs. search needs) (λ c. search needs) above (λ c. search needs) which first)
