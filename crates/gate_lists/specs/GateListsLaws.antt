@@ -6,7 +6,7 @@ use Prim.Native.Nat.{ℕ, _+_, _*_, _≤_, _<_, min}
 use native.Mathlib.Omega.{arith}
 use borrow.Author.Tests.{ltb-true}
 use lib.Dec.{leb, ltb}
-use lib.ListN.{length, getD, set, take, drop, length-take}
+use lib.ListN.{length, set, take, drop, length-take}
 use lib.Seq.{take-at, take-all, ext-getD, getD-take}
 use Rattle.lists.specs.Lists.{listOf}
 use Rattle.lists.specs.ListsLaws.{length-listOf, getD-listOf}
