@@ -18,6 +18,7 @@ use Rattle.universal.specs.Fabric.{planGates}
 use Rattle.universal.specs.PlanValues.{padded-spare}
 use Rattle.fabric_sizes.specs.Parts.{maxPins}
 use Rattle.gate_lists.specs.GateLists.{loadedGates}
+use Rattle.gate_lists.specs.GateListsLaws.{all-loaded}
 use Rattle.fabric_bits.specs.ProgramParts.{Loaded}
 
 -- entries that are there already need not be written
@@ -48,10 +49,10 @@ choose-same zero a = refl
 choose-same (suc c) a = refl
 
 -- pins on input 1 and tables 0
-abbrev pub sparePins : List ℕ
+abbrev sparePins : List ℕ
 sparePins = replicate maxPins 1
 
-abbrev pub spareTables : List ℕ
+abbrev spareTables : List ℕ
 spareTables = replicate maxGates 0
 
 module _ (p : Plan) where
@@ -59,13 +60,14 @@ module _ (p : Plan) where
   spare-pin q h = rw (padded-spare p (q / operands) (omega arith)) (choose-same (q % operands) 1)
 
   -- the plan's gates written over them
-  pub loaded : Accepted p → {pins tables : List ℕ}
-      → pins ≡ over (listOf (operands * loadedGates p sparePins spareTables) (planGates p .operand)) sparePins
-      → tables ≡ over (listOf (loadedGates p sparePins spareTables) (planGates p .table)) spareTables → Loaded p pins tables
-  loaded accepted ep et =
+  pub loaded : Accepted p → {pins tables : List ℕ} {n : ℕ} → n ≡ loadedGates (p .«gate_count») (length sparePins) (length spareTables)
+      → pins ≡ over (listOf (operands * n) (planGates p .operand)) sparePins → tables ≡ over (listOf n (planGates p .table)) spareTables
+      → Loaded p pins tables
+  loaded accepted en ep et =
       let k = p .«gate_count» in
       let c = accepted-counts p accepted in
-      let all : loadedGates p sparePins spareTables ≡ k = omega (arith, length-replicate {A = ℕ} maxPins 1, length-replicate {A = ℕ} maxGates 0) in
+      let all = en ∙ all-loaded k (length sparePins) (length spareTables) (omega arith)
+      (omega (arith, length-replicate {A = ℕ} maxPins 1)) (omega (arith, length-replicate {A = ℕ} maxGates 0)) in
       record {
         operandsAre =
             ep ∙ ap (λ n. over (listOf (operands * n) (planGates p .operand)) sparePins) all

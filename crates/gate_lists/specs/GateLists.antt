@@ -1,12 +1,12 @@
 -- The lists that a plan's programming works on: the operands of the pins, the tables of the gates, and what a selection block is asked for. Gates
 -- and pins count from 0.
-use Prim.Native.Nat.{ℕ, _+_, _-_, _/_, min}
+use Prim.Native.Nat.{ℕ, _+_, _-_, _*_, _/_, _≤_, min}
+use mathlib.Core.Path.{_≡_}
 use mathlib.Core.Bool.{Bool, cond, _&&_}
 use mathlib.Core.List.{List, []}
 use lib.Dec.{leb, ltb}
-use lib.ListN.{length, getD}
+use lib.ListN.{getD}
 use Rattle.lists.specs.Lists.{listOf}
-use Rattle.plan.specs.declared.record.Plan.{Plan}
 use Rattle.plan.specs.Record.{maxGates}
 use Rattle.networks.specs.Rows.{operands}
 use Rattle.universal.specs.Universal.{Gates}
@@ -22,13 +22,17 @@ pinsIn before pins = gatesIn before pins []
 
 -- ---- what is loaded
 
--- for how many gates the record and lists of so many pins and tables have places
-abbrev pub gateRoom : ℕ → ℕ → ℕ
-gateRoom pins tables = min maxGates (min (pins / operands) tables)
+-- how many of k gates the record and lists of so many pins and tables have places for
+unfoldable pub loadedGates : ℕ → ℕ → ℕ → ℕ
+loadedGates k pins tables = min k (min maxGates (min (pins / operands) tables))
 
--- how many gates of the plan
-abbrev pub loadedGates : Plan → List ℕ → List ℕ → ℕ
-loadedGates p pins tables = min (p .«gate_count») (gateRoom (length pins) (length tables))
+-- their count, with its bounds
+pub record LoadedCount (k pins tables count : ℕ) : Type 0 where
+  pub isCount : count ≡ loadedGates k pins tables
+  pub own : count ≤ k
+  pub recordRoom : count ≤ maxGates
+  pub pinRoom : operands * count ≤ pins
+  pub tableRoom : count ≤ tables
 
 -- ---- what is wanted
 

@@ -6,19 +6,19 @@ use Prim.Native.Nat.{ℕ, _+_, _*_, _≤_, _<_, min}
 use native.Mathlib.Omega.{arith}
 use borrow.Author.Tests.{ltb-true}
 use lib.Dec.{leb, ltb}
-use lib.ListN.{length, getD, set, take, drop, length-take}
+use lib.ListN.{length, set, take, drop, length-take}
 use lib.Seq.{take-at, take-all, ext-getD, getD-take}
 use Rattle.lists.specs.Lists.{listOf}
 use Rattle.lists.specs.ListsLaws.{length-listOf, getD-listOf}
 use Rattle.fault.specs.Buffers.{over}
 use Rattle.fault.specs.BuffersLaws.{listOf-over}
 use Rattle.plan.specs.declared.record.Plan.{Plan}
-use Rattle.plan.specs.Record.{maxOutputs, gateAt}
+use Rattle.plan.specs.Record.{maxGates, maxOutputs, gateAt}
 use Rattle.networks.specs.Rows.{operands}
 use Rattle.universal.specs.Universal.{Gates, isOf, wantedGate, wantedGates}
 use Rattle.universal.specs.Fabric.{planGates, wantedOutputs}
 use Rattle.universal.specs.PlanValues.{padded-own, first-operand, second-operand}
-use Rattle.gate_lists.specs.GateLists.{inputsWanted, isAmong, wantedAmong}
+use Rattle.gate_lists.specs.GateLists.{loadedGates, inputsWanted, isAmong, wantedAmong}
 
 -- ---- filling
 
@@ -65,6 +65,11 @@ module _ (old : List ℕ) {l : List ℕ} where
   outputs-listed p e few room = front-is _ old (p .«output_count») (min maxOutputs (length old)) e (length-listOf (p .«output_count») _) (omega arith)
 
 -- ---- the plan's gates
+
+-- where there are places for all, all are loaded
+pub all-loaded : (k pins tables : ℕ) → k ≤ maxGates → operands * k ≤ pins → k ≤ tables → loadedGates k pins tables ≡ k
+unfolding loadedGates
+all-loaded k pins tables few pinRoom tableRoom = omega arith
 
 module _ (p : Plan) where
   -- a gate's operands on its two pins

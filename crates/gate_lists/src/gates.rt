@@ -1,13 +1,14 @@
 // The plan's gates as a list of operands, pin by pin, and a list of tables; and the bits of a table. Gates and pins count from 0.
 ghost use mathlib.Core.Path.{_≡_};
 ghost use Prim.Native.Nat.{_*_};
+ghost use lib.ListN.{length};
 ghost use Rattle.lists.specs.Lists.{listOf};
 ghost use Rattle.fault.specs.Buffers.{over};
 ghost use Rattle.networks.specs.Bits.{storeBits};
 ghost use Rattle.networks.specs.Rows.{operands};
 ghost use Rattle.universal.specs.Universal.{tableProgram};
 ghost use Rattle.universal.specs.Fabric.{planGates};
-ghost use Rattle.gate_lists.specs.GateLists.{gateRoom, loadedGates};
+ghost use Rattle.gate_lists.specs.GateLists.{loadedGates, LoadedCount};
 use elements::smaller;
 use elements::store_bit;
 use plan::Plan;
@@ -18,13 +19,10 @@ pub const GATE_BITS: u32 = 4;
 // The operands of the plan's gates, and their tables, from the front of two lists, as far as the record and the lists have places. What stands
 // behind them stays.
 pub fn load_gates(plan: Plan, pins: &mut [u16], tables: &mut [u8])
-    ensures operands { λ _. ⌜ now (pins .exit) ≡ over (listOf (operands * loadedGates plan (now (pins .entry)) (now (tables .entry))) (planGates plan .operand)) (now (pins .entry)) ⌝ }
-    ensures tables { λ _. ⌜ now (tables .exit) ≡ over (listOf (loadedGates plan (now (pins .entry)) (now (tables .entry))) (planGates plan .table)) (now (tables .entry)) ⌝ }
+    ensures operands { λ _. ⌜ now (pins .exit) ≡ over (listOf (operands * loadedGates (plan .«gate_count») (length (now (pins .entry))) (length (now (tables .entry)))) (planGates plan .operand)) (now (pins .entry)) ⌝ }
+    ensures tables { λ _. ⌜ now (tables .exit) ≡ over (listOf (loadedGates (plan .«gate_count») (length (now (pins .entry))) (length (now (tables .entry)))) (planGates plan .table)) (now (tables .entry)) ⌝ }
 {
-    let count = smaller(
-        plan.gate_count as usize,
-        gate_room(pins.len(), tables.len()),
-    );
+    let count = loaded_gates(plan.gate_count, pins.len(), tables.len());
     let mut i: usize = 0;
     while i < count {
         let gate = plan.gates[i];
@@ -35,11 +33,14 @@ pub fn load_gates(plan: Plan, pins: &mut [u16], tables: &mut [u8])
     }
 }
 
-// For how many gates the record and two lists of so many entries have places.
-fn gate_room(pins: usize, tables: usize) -> usize
-    ensures { λ r. ⌜ r ≡ gateRoom pins tables ⌝ }
+// How many of so many gates the record and two lists of so many entries have places for.
+fn loaded_gates(gates: u16, pins: usize, tables: usize) -> usize
+    ensures { λ r. ⌜ LoadedCount gates pins tables r ⌝ }
 {
-    smaller(Plan::MAX_GATES, smaller(pins / 2, tables))
+    smaller(
+        gates as usize,
+        smaller(Plan::MAX_GATES, smaller(pins / 2, tables)),
+    )
 }
 
 // A gate's table, the lowest bit first, stored from bit `start` on as far as the program goes.

@@ -10,7 +10,7 @@ use Rattle.fabric_bits.proofs.programming.store_plan.Statement.{stateme
 use Rattle.fabric_bits.proofs.programming.store_plan.Tie as tie
 
 lists : (c : tie.After-load-gates) → Loaded (c .before .before .before .before .args .plan) (c .load-gates .last .1 .0) (c .load-gates .last .1 .1 .0)
-lists c = let s = c .before .before .before .before in loaded (s .args .plan) (s .pre .0) (c .load-gates .ensures .0) (c .load-gates .ensures .1)
+lists c = let s = c .before .before .before .before in loaded (s .args .plan) (s .pre .0) refl (c .load-gates .ensures .0) (c .load-gates .ensures .1)
 
 for-gates : tie.Need-store-gates-requires
 for-gates c κs =

@@ -31,7 +31,7 @@ second-fits c = simp length-set (omega arith)
 again : tie.Need-loop-again Inv-loop μ-loop
 again c =
     let loop = c .before .before .loop in
-    let a = c .before .before .before .before .before .before .before .args in (
+    let a = c .before .before .before .before .before .before .args in (
       omega arith,
       simp length-set (loop .inv .1),
       simp length-set (loop .inv .2),
@@ -42,8 +42,8 @@ again c =
 all : tie.Need-returns Inv-loop μ-loop
 all c =
     let loop = c .before .loop in
-    let a = c .before .before .before .before .before .before .args in
-    let e : loop .i ≡ loadedGates (a .t1) (a .pins .now) (a .tables .now) = omega arith in (
+    let a = c .before .before .before .before .before .args in
+    let e : loop .i ≡ loadedGates (a .t1 .«gate_count») (length (a .pins .now)) (length (a .tables .now)) = omega arith in (
       loop .inv .3 ∙ ap (λ n. over (listOf (operands * n) (planGates (a .t1) .operand)) (a .pins .now)) e,
       loop .inv .4 ∙ ap (λ n. over (listOf n (planGates (a .t1) .table)) (a .tables .now)) e,
     )
@@ -52,6 +52,6 @@ pub load-gates-spec : {M : Type 1} → statement M
 load-gates-spec =
     tie.close
     (tie.spec Inv-loop μ-loop
-    (λ c. search needs) (λ c κs. search needs) (λ c κs. search needs) holds (λ c. search needs) (λ c. search needs) (λ c. search needs)
+    (λ c κs. search needs) holds (λ c. search needs) (λ c. search needs) (λ c. search needs)
     (λ c. search needs) (λ c. search needs) (λ c. search needs) (λ c. search needs) (λ c. search needs) second-fits (λ c. search needs)
     (λ c. search needs) (λ c. search needs) again (λ c. search needs) (λ c. search needs) all)
