@@ -1,10 +1,9 @@
 // The fabric's selection blocks, written by S's call: on the first wires of a list, and with the output wires behind the rows. Every call
 // takes all inputs: what does not fit is not stored.
 ghost use mathlib.Core.Path.{_≡_};
-ghost use lib.ListN.{take, replicate};
+ghost use lib.ListN.{take};
 ghost use Rattle.selection_rows.specs.WriteCalls.{selectionWrittenRows, selectionWrittenOutputs};
-ghost use Rattle.plan.specs.Record.{maxOutputs};
-ghost use Rattle.fabric_selections.specs.Copied.{copiedAt};
+ghost use Rattle.fabric_selections.specs.Copied.{outputsPut};
 use elements::FabricWire;
 use elements::copy_wires;
 use elements::smaller;
@@ -29,7 +28,7 @@ pub fn put_selection(
 
 // S(K, v) on the gates' wires: its rows to the front of the table's part, and its output wires from the entry `end` on.
 pub fn put_outputs(gates: u16, v: u16, end: usize, next: FabricWire, rows: &mut [u16], outs: &[u16])
-    ensures { λ _. ⌜ now (rows .exit) ≡ copiedAt end (take v (selectionWrittenOutputs gates v (take gates (now (outs .entry))) (next .0) (now (rows .entry)) (replicate maxOutputs 0))) (selectionWrittenRows gates v (take gates (now (outs .entry))) (next .0) (now (rows .entry)) (replicate maxOutputs 0)) ⌝ }
+    ensures { λ _. ⌜ now (rows .exit) ≡ outputsPut gates v end (next .0) (now (outs .entry)) (now (rows .entry)) ⌝ }
 {
     let mut outputs = [0u16; Plan::MAX_OUTPUTS];
     let count = smaller(v as usize, Plan::MAX_OUTPUTS);

@@ -5,12 +5,14 @@ use mathlib.Core.Path.{_≡_}
 use mathlib.Core.Bool.{Bool, cond, _&&_}
 use mathlib.Core.List.{List, []}
 use lib.Dec.{leb, ltb}
-use lib.ListN.{getD}
+use lib.ListN.{length, getD}
 use Rattle.lists.specs.Lists.{listOf}
+use Rattle.fault.specs.Buffers.{over}
+use Rattle.plan.specs.declared.record.Plan.{Plan}
 use Rattle.plan.specs.Record.{maxGates}
 use Rattle.networks.specs.Rows.{operands}
 use Rattle.universal.specs.Universal.{Gates}
-use Rattle.universal.specs.Fabric.{wantedInput}
+use Rattle.universal.specs.Fabric.{planGates, wantedInput}
 
 -- the gates of which the lists have the operands, pin by pin, and the tables; their wires follow `before` others
 abbrev pub gatesIn : ℕ → List ℕ → List ℕ → Gates
@@ -33,6 +35,13 @@ pub record LoadedCount (k pins tables count : ℕ) : Type 0 where
   pub recordRoom : count ≤ maxGates
   pub pinRoom : operands * count ≤ pins
   pub tableRoom : count ≤ tables
+
+-- the lists after loading
+abbrev pub loadedPins : Plan → List ℕ → List ℕ → List ℕ
+loadedPins p pins tables = over (listOf (operands * loadedGates (p .«gate_count») (length pins) (length tables)) (planGates p .operand)) pins
+
+abbrev pub loadedTables : Plan → List ℕ → List ℕ → List ℕ
+loadedTables p pins tables = over (listOf (loadedGates (p .«gate_count») (length pins) (length tables)) (planGates p .table)) tables
 
 -- ---- what is wanted
 

@@ -1,14 +1,8 @@
 // The plan's gates as a list of operands, pin by pin, and a list of tables; and the bits of a table. Gates and pins count from 0.
 ghost use mathlib.Core.Path.{_≡_};
-ghost use Prim.Native.Nat.{_*_};
-ghost use lib.ListN.{length};
-ghost use Rattle.lists.specs.Lists.{listOf};
-ghost use Rattle.fault.specs.Buffers.{over};
 ghost use Rattle.networks.specs.Bits.{storeBits};
-ghost use Rattle.networks.specs.Rows.{operands};
 ghost use Rattle.universal.specs.Universal.{tableProgram};
-ghost use Rattle.universal.specs.Fabric.{planGates};
-ghost use Rattle.gate_lists.specs.GateLists.{loadedGates, LoadedCount};
+ghost use Rattle.gate_lists.specs.GateLists.{LoadedCount, loadedPins, loadedTables};
 use elements::smaller;
 use elements::store_bit;
 use plan::Plan;
@@ -19,8 +13,8 @@ pub const GATE_BITS: u32 = 4;
 // The operands of the plan's gates, and their tables, from the front of two lists, as far as the record and the lists have places. What stands
 // behind them stays.
 pub fn load_gates(plan: Plan, pins: &mut [u16], tables: &mut [u8])
-    ensures operands { λ _. ⌜ now (pins .exit) ≡ over (listOf (operands * loadedGates (plan .«gate_count») (length (now (pins .entry))) (length (now (tables .entry)))) (planGates plan .operand)) (now (pins .entry)) ⌝ }
-    ensures tables { λ _. ⌜ now (tables .exit) ≡ over (listOf (loadedGates (plan .«gate_count») (length (now (pins .entry))) (length (now (tables .entry)))) (planGates plan .table)) (now (tables .entry)) ⌝ }
+    ensures operands { λ _. ⌜ now (pins .exit) ≡ loadedPins plan (now (pins .entry)) (now (tables .entry)) ⌝ }
+    ensures tables { λ _. ⌜ now (tables .exit) ≡ loadedTables plan (now (pins .entry)) (now (tables .entry)) ⌝ }
 {
     let count = loaded_gates(plan.gate_count, pins.len(), tables.len());
     let mut i: usize = 0;

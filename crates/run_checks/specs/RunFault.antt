@@ -3,7 +3,7 @@ use Prim.Native.Nat.{ℕ}
 use mathlib.Core.List.{List}
 use Rattle.fault.specs.Checks.{andThen, roomFault}
 use Rattle.evaluation_checks.specs.EvaluationChecks.{contactFault}
-use Rattle.universal.specs.Tables.{inputsIn, outputsIn, wiresIn, bitsIn, tableFault, programFault}
+use Rattle.universal.specs.Tables.{inputsIn, outputsIn, wiresIn, bitsIn, tableFault, givenProgramFault}
 
 -- 11: a work buffer and a result of so many entries, where there are so many wires and outputs
 abbrev pub roomsFault : ℕ → ℕ → ℕ → ℕ → ℕ
@@ -13,5 +13,5 @@ roomsFault wires outputs work result = andThen (roomFault wires work) (roomFault
 unfoldable pub runFault : List ℕ → List ℕ → List ℕ → ℕ → ℕ → ℕ
 runFault table program row work result =
     andThen (tableFault table)
-    (andThen (programFault (bitsIn table) program)
+    (andThen (givenProgramFault (bitsIn table) program)
     (andThen (contactFault (inputsIn table) row) (roomsFault (wiresIn table) (outputsIn table) work result)))

@@ -3,7 +3,7 @@
 ghost use mathlib.Core.Path.{_≡_};
 ghost use Prim.Native.Nat.{_≤_};
 ghost use Rattle.fault.specs.Number.{answerNumber};
-ghost use Rattle.universal.specs.Tables.{programFault};
+ghost use Rattle.universal.specs.Tables.{givenProgramFault};
 ghost use Rattle.table_checks.specs.Counting.{maxBits};
 ghost use Rattle.run_checks.specs.RunFault.{roomsFault, runFault};
 use elements::read_bit;
@@ -35,7 +35,7 @@ pub fn check_run(table: &[u16], program: &[u8], row: &[u8], work: usize, result:
 // 14: a program of another length than that of so many bits; a spare bit set.
 fn check_program(bits: usize, program: &[u8]) -> Answer
     requires { ⌜ bits ≤ maxBits ⌝ }
-    ensures { λ r. ⌜ answerNumber r ≡ programFault bits (now (program .entry)) ⌝ }
+    ensures { λ r. ⌜ answerNumber r ≡ givenProgramFault bits (now (program .entry)) ⌝ }
 {
     let bytes = (bits + 7) / 8;
     if program.len() != bytes {

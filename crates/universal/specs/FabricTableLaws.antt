@@ -22,7 +22,7 @@ use Rattle.networks.specs.BitsLaws.{length-pack, unpack-pack}
 use Rattle.universal.specs.Universal.{tableProgram}
 use Rattle.universal.specs.Fabric.{fabricRows, fabricOuts, fabricCount, fabricWires, fabricTakes, fabricTable, planBits, planProgram}
 use Rattle.universal.specs.Tables.{inputsIn, outputsIn, rowsIn, outputWireAt, tableRows, wiresIn, bitsIn, maxFabricWires, tableFault}
-use Rattle.universal.specs.Tables.{programFault, runWires, runOutputs}
+use Rattle.universal.specs.Tables.{givenProgramFault, runWires, runOutputs}
 use Rattle.universal.specs.TablesLaws.{table-faultless, pack-exact}
 use Rattle.universal.specs.WrittenTables.{tableOf, tableRows-of, output-of, below-cons, flat-below, wiresIn-of, bitsIn-of, well-formed-of}
 use Rattle.universal.specs.PlanValues.{actOf}
@@ -123,7 +123,7 @@ module _ (p : Plan) where
   bits-given = fabric-bitsIn u k v ∙ sym (length-planBits p)
 
   -- the program is exact for it
-  pub program-exact : programFault (bitsIn planTable) (planProgram p) ≡ 0
+  pub program-exact : givenProgramFault (bitsIn planTable) (planProgram p) ≡ 0
   unfolding planProgram
   program-exact = rw bits-given (pack-exact (planBits p) (planBits-bits p))
 

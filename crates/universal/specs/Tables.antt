@@ -109,8 +109,8 @@ abbrev pub spareBits : ℕ → ℕ
 spareBits n = 8 * bytesFor n - n
 
 -- another length than that of n bits; a spare bit set
-unfoldable pub programFault : ℕ → List ℕ → ℕ
-programFault n program =
+unfoldable pub givenProgramFault : ℕ → List ℕ → ℕ
+givenProgramFault n program =
     andThen (unless (eqb (length program) (bytesFor n)) Fault.Program)
     (firstOf (λ i. unless (eqb (bitAt program (n + i)) 0) Fault.Program) (spareBits n))
 

@@ -23,7 +23,7 @@ use Rattle.networks.specs.BitsLaws.{bits-append, length-pack, bitAt-pack, unpac
 use Rattle.universal.specs.Tables.{header, inputsIn, outputsIn, rowsIn, kindAt, leftAt, rightAt, rowAt, outputWireAt, rowsTo, tableRows}
 use Rattle.universal.specs.Tables.{wiresBefore, bitsBefore, wiresIn, bitsIn, maxFabricWires}
 use Rattle.universal.specs.Tables.{kindAllowed, headerFault, rowFault, outputWireFault, tableFault}
-use Rattle.universal.specs.Tables.{programFault, runStart, runWires}
+use Rattle.universal.specs.Tables.{givenProgramFault, runStart, runWires}
 
 -- ---- well-formed tables
 
@@ -141,8 +141,8 @@ runWires-bits table program row h =
 -- ---- programs
 
 -- packed bits are an exact program
-pub pack-exact : (bs : List ℕ) → AreBits bs → programFault (length bs) (pack bs) ≡ 0
-unfolding programFault
+pub pack-exact : (bs : List ℕ) → AreBits bs → givenProgramFault (length bs) (pack bs) ≡ 0
+unfolding givenProgramFault
 pack-exact bs bits =
     let spare : (i : ℕ) → bitAt (pack bs) (length bs + i) ≡ 0
     = λ i. bitAt-pack bs bits (length bs + i) ∙ List·getD-eq-default bs 0 {n = length bs + i} (omega arith) in

@@ -11,7 +11,7 @@ use Rattle.fault.specs.declared.Fault.{Fault}
 use Rattle.fault.specs.Checks.{unless, firstOf}
 use Rattle.fault.specs.ChecksLaws.{first-passes, first-fails}
 use Rattle.networks.specs.Bits.{bytesFor, bitAt}
-use Rattle.universal.specs.Tables.{spareBits, programFault}
+use Rattle.universal.specs.Tables.{spareBits, givenProgramFault}
 use Rattle.run_checks.proofs.check_program.Statement.{statement}
 use Rattle.run_checks.proofs.check_program.Tie as tie
 
@@ -24,7 +24,7 @@ abbrev μ-loop : tie.MeasureT-loop
 μ-loop bits program bytes spare i₀ i = spare - i
 
 length-fails : tie.Need-returns Inv-loop μ-loop
-unfolding programFault
+unfolding givenProgramFault
 length-fails c = rw (ne-eqb _ _ (c .if1 .taken))
 
 holds : tie.Need-loop-holds Inv-loop μ-loop
@@ -32,7 +32,7 @@ unfolding firstOf
 holds c = (c .if1 .left, refl, omega arith, refl)
 
 bit-fails : tie.Need-returns-2 Inv-loop μ-loop
-unfolding programFault
+unfolding givenProgramFault
 bit-fails c =
     let bit = c .before .read-bit in
     let loop = c .before .before .before .loop in
@@ -47,7 +47,7 @@ again c =
     (loop .inv .0, loop .inv .1, omega arith, rw (add-one (loop .i)) (first-passes _ (loop .i) (loop .inv .3) e))
 
 passes : tie.Need-returns-3 Inv-loop μ-loop
-unfolding programFault
+unfolding givenProgramFault
 passes c =
     let loop = c .before .loop in
     let all : loop .i ≡ spareBits (c .before .before .before .before .args .bits) = omega arith in

@@ -7,7 +7,7 @@ use borrow.Author.Needs.{needs}
 use Rattle.fault.specs.Number.{answerNumber}
 use Rattle.fault.specs.ChecksLaws.{first-refuses, second-answers}
 use Rattle.evaluation_checks.specs.EvaluationChecks.{contactFault}
-use Rattle.universal.specs.Tables.{inputsIn, bitsIn, tableFault, programFault}
+use Rattle.universal.specs.Tables.{inputsIn, bitsIn, tableFault, givenProgramFault}
 use Rattle.universal.specs.TablesLaws.{WellFormed, table-faultless}
 use Rattle.table_checks.specs.Counting.{maxBits}
 use Rattle.table_checks.specs.Checking.{checkOutcome}
@@ -36,14 +36,14 @@ module _ (c : tie.After-c) where
 
 -- what 14 and 12 answer, and where they pass
 module _ (c : tie.After-check-program) where
-  program-asked : answerNumber (c .check-program .result) ≡ programFault (bitsIn (table (c .before .before))) (start (c .before .before) .args .program .now)
+  program-asked : answerNumber (c .check-program .result) ≡ givenProgramFault (bitsIn (table (c .before .before))) (start (c .before .before) .args .program .now)
   program-asked =
       c .check-program .ensures
-      ∙ ap (λ n. programFault n (start (c .before .before) .args .program .now)) (counted (c .before .before) .counted .bits)
+      ∙ ap (λ n. givenProgramFault n (start (c .before .before) .args .program .now)) (counted (c .before .before) .counted .bits)
 
 program-passes : (c : tie.After-enum-told) → (
     let p = c .before .before .before .before in
-    0 ≡ programFault (bitsIn (table p)) (start p .args .program .now))
+    0 ≡ givenProgramFault (bitsIn (table p)) (start p .args .program .now))
 program-passes c = ap answerNumber (sym (c .enum-told .given .1)) ∙ program-asked (c .before .before)
 
 -- from behind 12 to where the table passes

@@ -41,8 +41,11 @@ faulty c =
     let asked = c .before .before .before in
     let loop = asked .before .before .loop in
     let table = asked .before .before .before .before .before .before .before .args .table .now in
-    let e = ap answerNumber (sym (f .1)) ∙ asked .check-row .ensures in
-    (refused-table (f .0 .0) (firstOf (rowFault table) (rowsIn table)) table (first-fails _ _ (loop .i) _ (omega arith) (loop .inv .1) e (number-positive (f .0 .0))), omega arith)
+    let e = ap answerNumber (sym (f .1)) ∙ asked .check-row .ensures in (
+      refused-table (f .0 .0) (firstOf (rowFault table) (rowsIn table)) table
+          (first-fails _ _ (loop .i) _ (omega arith) (loop .inv .1) e (number-positive (f .0 .0))),
+      omega arith,
+    )
 
 -- few wires and bits are counted before row i
 few : (c : tie.In-loop Inv-loop μ-loop) → Countable (c .before .loop .wires) (c .before .loop .bits)
@@ -75,7 +78,8 @@ none c =
     let s = c .before .before .before .before .before .before in
     let table = s .args .table .now in
     let all : loop .i ≡ rowsIn table = omega arith in (
-      counted-table (firstOf (rowFault table) (rowsIn table)) table (record { wires = loop .wires; bits = loop .bits }) (rw (← all) (sym (loop .inv .1))) (subst (λ n. Counted table n (loop .wires) (loop .bits)) all (loop .inv .2)),
+      counted-table (firstOf (rowFault table) (rowsIn table)) table (record { wires = loop .wires; bits = loop .bits })
+          (rw (← all) (sym (loop .inv .1))) (subst (λ n. Counted table n (loop .wires) (loop .bits)) all (loop .inv .2)),
       counted-few (s .pre .inputs) (omega arith) (loop .inv .2) .bits,
     )
 
