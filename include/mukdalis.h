@@ -132,7 +132,7 @@ enum mkd_fault {
 struct mkd_gate {
     uint16_t first;  /* first operand */
     uint16_t second; /* second operand */
-    uint8_t table;   /* 0 to 15: AND is 8, XOR 6, OR 14 */
+    uint16_t table;  /* 0 to 15: AND is 8, XOR 6, OR 14 */
 };
 
 /*

@@ -14,7 +14,7 @@ pub struct Gate {
     /// The second operand.
     pub second: u16,
     /// 0 to 15: AND is 8, XOR 6, OR 14.
-    pub table: u8,
+    pub table: u16,
 }
 
 /// A plan in memory. Wires 1 to u are its inputs, wire u + g is gate g.

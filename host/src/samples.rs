@@ -15,7 +15,7 @@ use crate::random::Random;
 pub const LONGEST_FILE: usize = 1670;
 
 /// The table of AND, which an absent table means.
-const AND: u8 = 8;
+const AND: u16 = 8;
 
 /// Counts at and beside their limits, and some whose low byte alone would be in range.
 pub const LIMIT_COUNTS: [u16; 13] = [
@@ -74,7 +74,7 @@ fn accepted_gate(random: &mut Random, own: u16) -> Gate {
     let first = random.choose(&[first, first, own - 1]);
     let second = random.between(1, own - 1);
     let second = random.choose(&[second, second, first]);
-    let table = random.byte() % 16;
+    let table = random.between(0, 15);
     let table = random.choose(&[table, table, AND]);
     Gate {
         first,
@@ -88,7 +88,7 @@ pub fn fill_unused(random: &mut Random, plan: &mut Plan) {
     for gate in &mut plan.gates[usize::from(plan.gate_count)..] {
         gate.first = random.word() as u16;
         gate.second = random.word() as u16;
-        gate.table = random.byte();
+        gate.table = random.word() as u16;
     }
     for output in &mut plan.outputs[usize::from(plan.output_count)..] {
         *output = random.word() as u16;

@@ -35,7 +35,7 @@ pub enum OperandStep {
 }
 
 pub enum TableStep {
-    Table(u8, Cursor),
+    Table(u16, Cursor),
     Refused(Refusal),
 }
 
@@ -52,6 +52,13 @@ fn left_of(file: &[u8], at: usize) -> usize
         return file.len() - at;
     }
     0
+}
+
+// A byte as a number of 16 bits.
+fn wide(byte: u8) -> u16
+    ensures { λ r. ⌜ r ≡ byte ⌝ }
+{
+    byte as u16
 }
 
 // The two-byte number whose low byte comes first.
@@ -144,7 +151,7 @@ impl Cursor {
                 at: at,
             });
         }
-        let table = file[at];
+        let table = wide(file[at]);
         if table_allowed(table) {
             return TableStep::Table(table, Cursor { at: at + 1 });
         }

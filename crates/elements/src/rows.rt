@@ -14,6 +14,16 @@ pub const HEADER: usize = 3;
 // The entries of a row: its kind, its left wire, its right wire.
 const STRIDE: usize = 3;
 
+// Document 01's numbers of the kinds.
+pub const KIND_X: u16 = 1;
+
+pub const KIND_Y: u16 = 2;
+
+pub const KIND_G: u16 = 3;
+
+// The program bits of a gate: its table.
+pub const GATE_BITS: u32 = 4;
+
 // The kinds of elements.
 pub enum Kind {
     X,
@@ -21,14 +31,14 @@ pub enum Kind {
     G,
 }
 
-// Document 01's number of a kind.
+// The number of a kind.
 fn kind_number(kind: Kind) -> u16
     ensures { λ r. ⌜ r ≡ kindNumber kind ⌝ }
 {
     match kind {
-        Kind::X => 1,
-        Kind::Y => 2,
-        Kind::G => 3,
+        Kind::X => KIND_X,
+        Kind::Y => KIND_Y,
+        Kind::G => KIND_G,
     }
 }
 

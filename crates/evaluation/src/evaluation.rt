@@ -33,11 +33,11 @@ pub fn evaluate(plan: Plan, row: &[u8], result: &mut [u8]) -> Answer
 }
 
 // The bit that a gate's table gives for its operands' bits.
-fn gate_bit(table: u8, a: u8, b: u8) -> u8
+fn gate_bit(table: u16, a: u8, b: u8) -> u8
     requires { ⌜ (a ≤ 1) × (b ≤ 1) ⌝ }
     ensures { λ r. ⌜ (r ≡ tableBit table a b) × (r ≤ 1) ⌝ }
 {
-    (table >> (2 * a + b)) & 1
+    ((table >> (2 * a + b)) & 1) as u8
 }
 
 // The inputs' bits on their wires, the other wires 0. Wire w stands at place w - 1.

@@ -10,7 +10,7 @@ ghost use Rattle.universal.specs.Universal.{universalTakes, universalBits};
 ghost use Rattle.universal.specs.Fabric.{gateLevel};
 ghost use Rattle.gate_lists.specs.GateLists.{gatesIn, pinsIn};
 ghost use Rattle.fabric_bits.specs.ProgramParts.{bitLimit, betweenBits, BetweenRoom, UniversalRoom};
-use gate_lists::GATE_BITS;
+use elements::GATE_BITS;
 use gate_lists::list_gates;
 use gate_lists::store_choices;
 use gate_lists::store_table;
@@ -24,7 +24,7 @@ pub(crate) fn program_universal(
     base: u32,
     before: u32,
     pins: &[u16],
-    tables: &[u8],
+    tables: &[u16],
     wanted: &mut [u16],
     program: &mut [u8],
     start: u32,

@@ -1,4 +1,4 @@
-// The program bits of a plan. Checks come first and touch no buffer. The call holds three arrays, 2,304 bytes, and lends them to all that
+// The program bits of a plan. Checks come first and touch no buffer. The call holds three arrays, 2,560 bytes, and lends them to all that
 // works under it.
 ghost use mathlib.Core.Path.{_≡_};
 ghost use Prim.Native.Nat.{_+_, _*_, _^_, _≤_};
@@ -50,7 +50,7 @@ fn store_plan(plan: Plan, program: &mut [u8])
     ensures { λ _. ⌜ now (program .exit) ≡ storeBits (now (program .entry)) 0 (planBits plan) ⌝ }
 {
     let mut pins = [1u16; MAX_PINS];
-    let mut tables = [0u8; Plan::MAX_GATES];
+    let mut tables = [0u16; Plan::MAX_GATES];
     let mut wanted = [0u16; MAX_PINS];
     load_gates(plan, &mut pins, &mut tables);
     let next = store_gates(
@@ -69,7 +69,7 @@ fn store_gates(
     inputs: u16,
     gates: u16,
     pins: &[u16],
-    tables: &[u8],
+    tables: &[u16],
     wanted: &mut [u16],
     program: &mut [u8],
 ) -> u32

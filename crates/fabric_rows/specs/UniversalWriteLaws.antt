@@ -23,7 +23,7 @@ use Rattle.universal.specs.Selector.{pinCount, selection}
 use Rattle.universal.specs.SelectorLaws.{double, selection-shape}
 use Rattle.universal.specs.Universal.{mixRows, wiresFrom, universalCount, universalWires, selectNext, lowerNext, universalOuts, selectedOuts}
 use Rattle.universal.specs.Universal.{lowerPins, universalRows}
-use Rattle.universal.specs.UniversalLaws.{length-universalOuts, universal-below, length-universalRows, universal-sums}
+use Rattle.universal.specs.UniversalLaws.{length-universalOuts, universal-below, length-universalRows, universal-totals}
 use Rattle.universal.specs.Fabric.{gateLevel}
 use Rattle.fabric_sizes.specs.PartsLaws.{one-gate}
 use Rattle.fabric_rows.specs.declared.block.Parts.{Parts}
@@ -33,7 +33,7 @@ use Rattle.fabric_rows.specs.BlockLaws.{gate-rows, gate-outs, length-sel
 -- three entries a row
 pub length-universal : (n : ℕ) (pins : List ℕ) (next : ℕ) → length (flat (universalRows selection n pins next)) ≡ stride * universalCount selection n
 length-universal n pins next =
-    length-flat (universal-sums selection selection-shape n pins next .family)
+    length-flat (universal-totals selection selection-shape n pins next .family)
     ∙ ap (λ k. stride * k) (length-universalRows selection selection-shape n pins next)
 
 -- what U of so many gates writes, and that no list changes its length

@@ -3,16 +3,14 @@ ghost use mathlib.Core.Path.{_≡_};
 ghost use Rattle.networks.specs.Bits.{storeBits};
 ghost use Rattle.universal.specs.Universal.{tableProgram};
 ghost use Rattle.gate_lists.specs.GateLists.{LoadedCount, loadedPins, loadedTables};
+use elements::GATE_BITS;
 use elements::smaller;
 use elements::store_bit;
 use plan::Plan;
 
-// The program bits of a gate, which are its table.
-pub const GATE_BITS: u32 = 4;
-
 // The operands of the plan's gates, and their tables, from the front of two lists, as far as the record and the lists have places. What stands
 // behind them stays.
-pub fn load_gates(plan: Plan, pins: &mut [u16], tables: &mut [u8])
+pub fn load_gates(plan: Plan, pins: &mut [u16], tables: &mut [u16])
     ensures operands { λ _. ⌜ now (pins .exit) ≡ loadedPins plan (now (pins .entry)) (now (tables .entry)) ⌝ }
     ensures tables { λ _. ⌜ now (tables .exit) ≡ loadedTables plan (now (pins .entry)) (now (tables .entry)) ⌝ }
 {
@@ -38,12 +36,12 @@ fn loaded_gates(gates: u16, pins: usize, tables: usize) -> usize
 }
 
 // A gate's table, the lowest bit first, stored from bit `start` on as far as the program goes.
-pub fn store_table(table: u8, program: &mut [u8], start: u32)
+pub fn store_table(table: u16, program: &mut [u8], start: u32)
     ensures { λ _. ⌜ now (program .exit) ≡ storeBits (now (program .entry)) start (tableProgram table) ⌝ }
 {
     let mut i: u32 = 0;
     while i < GATE_BITS {
-        store_bit(program, start as usize + i as usize, (table >> i) & 1);
+        store_bit(program, start as usize + i as usize, ((table >> i) & 1) as u8);
         i += 1;
     }
 }

@@ -3,7 +3,6 @@
 mod gates;
 mod wanted;
 
-pub use gates::GATE_BITS;
 pub use gates::load_gates;
 pub use gates::store_table;
 pub use wanted::list_gates;

@@ -1,7 +1,7 @@
 -- The length of `listOf n f`, its elements, and when two such lists are equal.
-use mathlib.Core.Path.{_≡_, refl, sym, _∙_}
+use mathlib.Core.Path.{_≡_, refl, sym, ap, _∙_}
 use mathlib.Core.Logic.{_⊎_, inl, inr}
-use mathlib.Core.List.{List, [], _∷_, _++_}
+use mathlib.Core.List.{List, [], _∷_, _++_, append-assoc, append-nil}
 use Prim.Native.Nat.{ℕ, zero, suc, _+_, _-_, _<_, _≤_}
 use native.Mathlib.Nat.{le-refl, le-step, eq-or-lt-of-le, le-of-suc-le-suc, not-suc-le-zero}
 use native.Mathlib.Omega.{arith}
@@ -43,6 +43,22 @@ module _ {A : Type 0} where
   unfolding listOf
   listOf-ext zero f g e = refl
   listOf-ext (suc n) f g e = rw (listOf-ext n f g (λ i h. e i (le-step h)), e n (le-refl (suc n)))
+
+  -- a shorter such list is the front of a longer one
+  pub listOf-front : (f : ℕ → A) {j : ℕ} (k : ℕ) → j ≤ k → (rest : List A) × (listOf k f ≡ listOf j f ++ rest)
+  unfolding listOf
+  listOf-front f {j} zero l = let e : j ≡ 0 = omega arith in ([], rw e)
+  listOf-front f {j} (suc k) l = go (listOf-front f {j = j} k) (eq-or-lt-of-le l)
+    where
+      last : List A
+      last = f k ∷ []
+
+      go : (j ≤ k → (rest : List A) × (listOf k f ≡ listOf j f ++ rest)) → (j ≡ suc k) ⊎ (j < suc k)
+          → (rest : List A) × (listOf k f ++ last ≡ listOf j f ++ rest)
+      go rec (inl e) = ([], rw e (sym (append-nil _)))
+      go rec (inr m) =
+          let t = rec (le-of-suc-le-suc m) in
+          (t .0 ++ last, ap (λ (x : List A). x ++ last) (t .1) ∙ append-assoc (listOf j f) (t .0) last)
 
   -- a list is the list of its elements
   pub listOf-getD : (l : List A) (d : A) → listOf (length l) (λ i. getD l i d) ≡ l

@@ -30,10 +30,10 @@ pub mod Loops
 pub mod Halves
 -- which input reaches which output: one to one for any bits, and as programmed
 pub mod Routing
+-- X rows: their counts, and what a run of them does
+pub mod XRun
 -- P's counts: rows, wires, bits
 pub mod PermutationLaws
--- what a run of X rows does
-pub mod XRun
 -- P's promises: what its run delivers
 pub mod PermutationRun
 -- the side of a programmed P follows the rule for the loops, and nothing else does
@@ -46,6 +46,8 @@ pub mod Mappings
 pub mod CountingLaws
 -- a completed partial injection is one to one, and the rule fixes it
 pub mod CompletionLaws
+-- Y rows: their counts, and what a run of them does
+pub mod YRun
 -- S's counts: rows, wires, bits
 pub mod SelectionLaws
 -- S's heads, and the mappings of its two networks

@@ -10,7 +10,8 @@ use lib.Pow.{pow-pos}
 use Rattle.lists.specs.Lists.{listOf, Below, Every, every-none}
 use Rattle.lists.specs.ListsLaws.{length-listOf, below-listOf, below-append, below-pair, below-more, every-append, every-listOf}
 use Rattle.networks.specs.Rows.{Row, X, IsX, is-X, MadeBefore, made-none}
-use Rattle.networks.specs.RowsLaws.{XTotals, x-totals, madeBefore-append, madeBefore-listOf}
+use Rattle.networks.specs.RowsLaws.{Totals, madeBefore-append}
+use Rattle.networks.specs.XRun.{x-totals, x-madeBefore}
 use Rattle.networks.specs.Permutation.{permutationCount, inputRows, outputRows, firsts, seconds, upperNext, lowerNext, outputNext}
 use Rattle.networks.specs.Permutation.{permutationOuts, upperOuts, lowerOuts, permutationRows}
 
@@ -58,13 +59,13 @@ permutation-x (suc n) ins next =
     (every-append (permutation-x n (seconds (2 ^ n) next) (lowerNext n next)) (output-rows (2 ^ n - 1) _ _ .every)))
 
 -- two wires and one bit a row, no gate
-totals-of : {rows : List Row} {n : ℕ} → XRows rows n → XTotals rows n
+totals-of : {rows : List Row} {n : ℕ} → XRows rows n → Totals rows (2 * n) n 0
 totals-of r =
     let t = x-totals (r .every) in
     let e = r .count in
     record { wires = omega arith; bits = omega arith; gates = t .gates; family = t .family }
 
-pub permutation-totals : (n : ℕ) (ins : List ℕ) (next : ℕ) → XTotals (permutationRows n ins next) (permutationCount n)
+pub permutation-totals : (n : ℕ) (ins : List ℕ) (next : ℕ) → Totals (permutationRows n ins next) (2 * permutationCount n) (permutationCount n) 0
 permutation-totals n ins next = totals-of (record { count = length-permutationRows n ins next; every = permutation-x n ins next })
 
 -- ---- wires
@@ -130,13 +131,13 @@ half-wires n next =
 input-madeBefore : (h : ℕ) (ins : List ℕ) (next : ℕ) → length ins ≡ 2 * h → Below next ins → MadeBefore next (inputRows h ins)
 unfolding inputRows
 input-madeBefore h ins next e b =
-    madeBefore-listOf next h _ _ (λ i l. b .each (2 * i) (omega arith)) (λ i l. b .each (2 * i + 1) (omega arith))
+    x-madeBefore next h _ _ (λ i l. b .each (2 * i) (omega arith)) (λ i l. b .each (2 * i + 1) (omega arith))
 
 output-madeBefore : (n next : ℕ) → MadeBefore (outputNext n next) (outputRows (2 ^ n - 1) (upperOuts n next) (lowerOuts n next))
 unfolding outputRows
 output-madeBefore n next =
     let w = half-wires n next in
-    madeBefore-listOf _ (2 ^ n - 1) _ _ (λ i l. omega (arith, w .upper-given i (omega arith))) (λ i l. w .lower-given i (omega arith))
+    x-madeBefore _ (2 ^ n - 1) _ _ (λ i l. omega (arith, w .upper-given i (omega arith))) (λ i l. w .lower-given i (omega arith))
 
 pub permutation-madeBefore : (n : ℕ) (ins : List ℕ) (next : ℕ) → length ins ≡ 2 ^ n → Below next ins → MadeBefore next (permutationRows n ins next)
 unfolding permutationRows

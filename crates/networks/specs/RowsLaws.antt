@@ -1,16 +1,16 @@
 -- Two laws carry the rest: running r ++ s is running r, then s; and a run keeps the wires that are there.
--- Then what a run leaves (wires, bits, gate number), and that decoding undoes `flat`.
+-- Then what rows add up to, what a run leaves (wires, bits, gate number), and that decoding undoes `flat`.
 use mathlib.Core.Path.{_≡_, refl, sym, ap, _∙_}
 use mathlib.Core.List.{List, [], _∷_, _++_, append-assoc, append-nil}
-use Prim.Native.Nat.{ℕ, zero, suc, _+_, _*_, _<_}
+use Prim.Native.Nat.{ℕ, zero, suc, _+_, _*_, _≤_, _<_}
 use native.Mathlib.Nat.{le-refl, le-step, add-zero, add-assoc, zero-add, le-of-suc-le-suc, not-suc-le-zero}
 use native.Mathlib.Omega.{arith}
 use lib.ListN.{length, getD, drop, length-append, List·getD-append}
 use lib.Seq.{drop-drop}
-use Rattle.lists.specs.Lists.{listOf, Every, every-none, every-more}
-use Rattle.lists.specs.ListsLaws.{length-listOf, every-listOf, below-pair}
-use Rattle.networks.specs.Rows.{Row, X, Y, Gate, inputsOf, makes, takes, gatesIn, total, IsX, is-X, MadeBefore, made-none, made-more}
-use Rattle.networks.specs.Rows.{stride, entries, flat, rowOf, decode, InFamily, State, outputs, step, run}
+use Rattle.lists.specs.Lists.{listOf, Below, Every, every-none, every-more}
+use Rattle.lists.specs.ListsLaws.{listOf-front, every-append}
+use Rattle.networks.specs.Rows.{Row, X, Y, Gate, inputsOf, makes, takes, gatesIn, total, gateBits, MadeBefore, made-none, made-more}
+use Rattle.networks.specs.Rows.{stride, entries, flat, rowOf, decode, InFamily, State, on, outputs, step, run}
 
 -- ---- lists of rows
 
@@ -30,34 +30,34 @@ unfolding total
 madeBefore-append {next} {s = s} made-none e g = rw (sym e ∙ add-zero next) at g
 madeBefore-append (made-more f fs) e g = made-more f (madeBefore-append fs (add-assoc _ _ _ ∙ e) g)
 
--- ---- X rows: two wires and one bit each
+-- each row of a list has its wires from before the list, or from the list's rows before it
+pub madeBefore-listOf : (next n : ℕ) (row : ℕ → Row) → ((i : ℕ) → i < n → Below (next + total makes (listOf i row)) (inputsOf (row i)))
+    → MadeBefore next (listOf n row)
+unfolding listOf
+madeBefore-listOf next zero row h = made-none
+madeBefore-listOf next (suc n) row h =
+    madeBefore-append (madeBefore-listOf next n row (λ i l. h i (le-step l))) refl (made-more (h n (le-refl (suc n))) made-none)
 
-pub record XTotals (rows : List Row) (n : ℕ) : Type 0 where
-  pub wires : total makes rows ≡ 2 * n
-  pub bits : total takes rows ≡ n
-  pub gates : total gatesIn rows ≡ 0
+-- ---- what rows add up to
+
+-- rows of this family that make so many wires, take so many bits and are so many gates
+pub record Totals (rows : List Row) (made taken count : ℕ) : Type 0 where
+  pub wires : total makes rows ≡ made
+  pub bits : total takes rows ≡ taken
+  pub gates : total gatesIn rows ≡ count
   pub family : Every InFamily rows
 
-pub x-totals : {rows : List Row} → Every IsX rows → XTotals rows (length rows)
+pub totals-append : {r s : List Row} {a b c a′ b′ c′ : ℕ} → Totals r a b c → Totals s a′ b′ c′ → Totals (r ++ s) (a + a′) (b + b′) (c + c′)
+totals-append {r} {s} t u = record {
+  wires = omega (arith, total-append makes r s, t .wires, u .wires);
+  bits = omega (arith, total-append takes r s, t .bits, u .bits);
+  gates = omega (arith, total-append gatesIn r s, t .gates, u .gates);
+  family = every-append (t .family) (u .family);
+}
+
+pub gate-totals : (l r : ℕ) → Totals (Gate (l ∷ r ∷ []) ∷ []) 1 gateBits 1
 unfolding total makes takes gatesIn inputsOf
-x-totals every-none = record { wires = refl; bits = refl; gates = refl; family = every-none }
-x-totals (every-more is-X f) =
-    let t = x-totals f in
-    record { wires = omega arith; bits = omega arith; gates = omega arith; family = every-more refl (t .family) }
-
-pub x-list : (n : ℕ) (f g : ℕ → ℕ) → XTotals (listOf n (λ i. X (f i) (g i))) n
-x-list n f g =
-    let t = x-totals (every-listOf n (λ i. X (f i) (g i)) (λ i l. is-X)) in
-    let e = length-listOf n (λ i. X (f i) (g i)) in
-    record { wires = omega arith; bits = omega arith; gates = t .gates; family = t .family }
-
-pub madeBefore-listOf : (next n : ℕ) (f g : ℕ → ℕ) → ((i : ℕ) → i < n → f i < next) → ((i : ℕ) → i < n → g i < next)
-    → MadeBefore next (listOf n (λ i. X (f i) (g i)))
-unfolding listOf inputsOf
-madeBefore-listOf next zero f g hf hg = made-none
-madeBefore-listOf next (suc n) f g hf hg =
-    madeBefore-append (madeBefore-listOf next n f g (λ i l. hf i (le-step l)) (λ i l. hg i (le-step l))) refl
-    (made-more (below-pair (omega (arith, hf n (le-refl (suc n)))) (omega (arith, hg n (le-refl (suc n))))) made-none)
+gate-totals l r = record { wires = refl; bits = refl; gates = refl; family = every-more refl every-none }
 
 -- ---- the table's entries
 
@@ -145,6 +145,13 @@ module _ {A : Type 0} (none : A) (gate : ℕ → List ℕ → List A → A) wher
   unfolding run step total
   run-bits [] st = refl
   run-bits (row ∷ rows) st = run-bits rows (step none gate row st) ∙ drop-drop (total takes rows) (takes row) (st .bits)
+
+  -- the wires of a list's first rows keep their values as well
+  pub run-first : (row : ℕ → Row) {j : ℕ} (k : ℕ) (st : State A) → j ≤ k → (w : ℕ) → w < length (run none gate (listOf j row) st .wires)
+      → on none (run none gate (listOf k row) st) w ≡ on none (run none gate (listOf j row) st) w
+  run-first row {j} k st l w h =
+      let t = listOf-front row k l in
+      ap (λ r. on none (run none gate r st) w) (t .1) ∙ ap (λ (x : State A). on none x w) (run-append (listOf j row) (t .0) st) ∙ run-keeps (t .0) _ w none h
 
   pub run-gates : (rows : List Row) (st : State A) → run none gate rows st .gates ≡ st .gates + total gatesIn rows
   unfolding run step total

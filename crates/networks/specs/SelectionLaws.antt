@@ -1,20 +1,21 @@
 -- What S(m, n) consists of: 2N log N - N + 1 rows, none of them a gate; two wires a row of P and one a row of the chain, one bit a row;
 -- n output wires, each made, an input wire or wire 0; and each row's wires are made before it. By its parts: P, the chain, P.
 use mathlib.Core.Path.{_≡_, refl, ap, _∙_}
-use mathlib.Core.List.{List, [], _∷_, _++_}
+use mathlib.Core.List.{List, [], _∷_}
 use Prim.Native.Nat.{ℕ, zero, suc, _+_, _-_, _*_, _^_, _≤_, _<_, max}
-use native.Mathlib.Nat.{le-refl, le-step, max-le, max-eq-right, min-eq-left}
+use native.Mathlib.Nat.{max-le, max-eq-right, min-eq-left}
 use native.Mathlib.Decide.{decLt}
 use native.Mathlib.Omega.{arith}
 use lib.ListN.{length, getD, length-append, length-take, List·getD-eq-default}
 use lib.Pow.{pow-pos}
 use lib.Seq.{getD-take}
-use Rattle.lists.specs.Lists.{listOf, Below, Every, every-none, every-more}
-use Rattle.lists.specs.ListsLaws.{length-listOf, getD-listOf, every-append, below-listOf, below-more, below-pair}
+use Rattle.lists.specs.Lists.{listOf, Below}
+use Rattle.lists.specs.ListsLaws.{length-listOf, getD-listOf, below-listOf, below-more}
 use Rattle.powers.specs.Powers.{ceilLog, firstFit}
 use Rattle.powers.specs.PowersLaws.{ceilLog-fits, ceilLog-least, ceilLog-power}
-use Rattle.networks.specs.Rows.{Row, Y, inputsOf, makes, takes, gatesIn, total, InFamily, MadeBefore, made-none, made-more}
-use Rattle.networks.specs.RowsLaws.{total-append, madeBefore-append, XTotals}
+use Rattle.networks.specs.Rows.{MadeBefore}
+use Rattle.networks.specs.RowsLaws.{madeBefore-append, Totals, totals-append}
+use Rattle.networks.specs.YRun.{y-list, y-madeBefore}
 use Rattle.networks.specs.Permutation.{permutationOuts, permutationRows}
 use Rattle.networks.specs.PermutationLaws.{permutation-count, length-permutationRows, permutation-totals, length-permutationOuts}
 use Rattle.networks.specs.PermutationLaws.{permutation-below, permutation-madeBefore}
@@ -40,30 +41,6 @@ pub level-power : (m k : ℕ) → m ≤ 2 ^ k → selectionLevel m (2 ^ k) ≡ k
 unfolding selectionLevel
 level-power m k h = ap ceilLog (max-eq-right h) ∙ ceilLog-power k
 
--- ---- rows without gates
-
--- rows that make so many wires, take so many bits and are no gates
-pub record Totals (rows : List Row) (made taken : ℕ) : Type 0 where
-  pub wires : total makes rows ≡ made
-  pub bits : total takes rows ≡ taken
-  pub gates : total gatesIn rows ≡ 0
-  pub family : Every InFamily rows
-
-totals-x : {rows : List Row} {k : ℕ} → XTotals rows k → Totals rows (2 * k) k
-totals-x t = record { wires = t .wires; bits = t .bits; gates = t .gates; family = t .family }
-
-totals-y : (l r : ℕ) → Totals (Y l r ∷ []) 1 1
-unfolding total makes takes gatesIn inputsOf
-totals-y l r = record { wires = refl; bits = refl; gates = refl; family = every-more refl every-none }
-
-totals-append : {r s : List Row} {a b c d : ℕ} → Totals r a c → Totals s b d → Totals (r ++ s) (a + b) (c + d)
-totals-append {r} {s} t u = record {
-  wires = omega (arith, total-append makes r s, t .wires, u .wires);
-  bits = omega (arith, total-append takes r s, t .bits, u .bits);
-  gates = omega (arith, total-append gatesIn r s, t .gates, u .gates);
-  family = every-append (t .family) (u .family);
-}
-
 -- ---- the inputs
 
 pub length-padded : (N : ℕ) (ins : List ℕ) → length (padded N ins) ≡ N
@@ -88,12 +65,9 @@ pub length-chainRows : (k : ℕ) (s : List ℕ) (next : ℕ) → length (chainRo
 unfolding chainRows
 length-chainRows k s next = length-listOf k _
 
-pub chain-totals : (k : ℕ) (s : List ℕ) (next : ℕ) → Totals (chainRows k s next) k k
-unfolding chainRows listOf total makes takes gatesIn inputsOf
-chain-totals zero s next = record { wires = refl; bits = refl; gates = refl; family = every-none }
-chain-totals (suc k) s next =
-    let t = totals-append (chain-totals k s next) (totals-y (chainWire s next k) (getD s (suc k) 0)) in
-    record { wires = omega (arith, t .wires); bits = omega (arith, t .bits); gates = t .gates; family = t .family }
+pub chain-totals : (k : ℕ) (s : List ℕ) (next : ℕ) → Totals (chainRows k s next) k k 0
+unfolding chainRows
+chain-totals k s next = y-list k _ _
 
 pub length-chainOuts : (N : ℕ) (s : List ℕ) (next : ℕ) → length (chainOuts N s next) ≡ N
 unfolding chainOuts
@@ -114,12 +88,9 @@ unfolding chainOuts
 below-chain N s next z h = below-listOf _ N _ (λ i l. omega (arith, chainWire-lt s next i h))
 
 chain-madeBefore : (k : ℕ) (s : List ℕ) (next : ℕ) → ((i : ℕ) → i ≤ k → getD s i 0 < next) → MadeBefore next (chainRows k s next)
-unfolding chainRows listOf inputsOf
-chain-madeBefore zero s next h = made-none
-chain-madeBefore (suc k) s next h =
-    let wire = chainWire-lt s next k (h 0 (omega arith)) in
-    madeBefore-append (chain-madeBefore k s next (λ i l. h i (le-step l))) (ap (λ w. next + w) (chain-totals k s next .wires))
-    (made-more (below-pair wire (omega (arith, h (suc k) (le-refl (suc k))))) made-none)
+unfolding chainRows
+chain-madeBefore k s next h =
+    y-madeBefore next k _ _ (λ i l. chainWire-lt s next i (h 0 (omega arith))) (λ i l. omega (arith, h (suc i) l))
 
 -- ---- the whole block of a level
 
@@ -161,10 +132,10 @@ module _ (level : ℕ) (ins : List ℕ) (next : ℕ) where
   unfolding wholeRows wholeCount
   length-wholeRows = simp (length-append, length-permutationRows, length-chainRows)
 
-  pub whole-totals : Totals (wholeRows level ins next) (wholeWires level) (wholeCount level)
+  pub whole-totals : Totals (wholeRows level ins next) (wholeWires level) (wholeCount level) 0
   unfolding wholeRows wholeWires wholeCount
-  whole-totals = totals-append (totals-x (permutation-totals level _ _))
-      (totals-append (chain-totals (2 ^ level - 1) _ _) (totals-x (permutation-totals level _ _)))
+  whole-totals = totals-append (permutation-totals level _ _)
+      (totals-append (chain-totals (2 ^ level - 1) _ _) (permutation-totals level _ _))
 
   pub length-wholeOuts : length (wholeOuts level ins next) ≡ 2 ^ level
   unfolding wholeOuts
@@ -204,7 +175,7 @@ module _ (m n : ℕ) (ins : List ℕ) (next : ℕ) where
   selection-rows = rw length-selectionRows (selection-count m n)
 
   -- its wires, its bits, no gates, all in the family
-  pub selection-totals : Totals (selectionRows m n ins next) (selectionWires m n) (selectionCount m n)
+  pub selection-totals : Totals (selectionRows m n ins next) (selectionWires m n) (selectionCount m n) 0
   unfolding selectionRows selectionWires selectionCount
   selection-totals = whole-totals (selectionLevel m n) ins next
 

@@ -1,17 +1,17 @@
 -- The run of S's rows, over values of any type: for any bits output o carries what input `selectionSource m n bits o` of the N carried, and
 -- programmed for a wanted list it carries what the input that it wants carried. By the parts: P, the chain, P; a Y passes the value of
 -- the position before it on, or its own.
-use mathlib.Core.Path.{_≡_, refl, sym, ap, _∙_}
-use mathlib.Core.Logic.{_⊎_, inl, inr}
-use mathlib.Core.List.{List, [], _∷_, _++_, append-nil}
+use mathlib.Core.Path.{_≡_, refl, sym, ap, ap₂, _∙_}
+use mathlib.Core.List.{List, [], _++_, append-nil}
 use Prim.Native.Nat.{ℕ, zero, suc, _+_, _-_, _*_, _^_, _≤_, _<_}
-use native.Mathlib.Nat.{le-refl, le-step, add-zero, eq-or-lt-of-le, le-of-suc-le-suc}
+use native.Mathlib.Nat.{le-refl, add-zero}
 use native.Mathlib.Omega.{arith}
 use lib.ListN.{length, getD, drop}
-use lib.Seq.{getD-append-add, getD-drop, drop-at}
-use Rattle.lists.specs.Lists.{listOf, Below}
-use Rattle.networks.specs.Rows.{Row, Y, flat, decode, choose, State, on, outputs, step, run, Delivered}
+use lib.Seq.{drop-at}
+use Rattle.lists.specs.Lists.{Below}
+use Rattle.networks.specs.Rows.{Row, flat, decode, choose, State, on, run, Delivered}
 use Rattle.networks.specs.RowsLaws.{decode-flat, run-append, run-keeps, run-wires, run-bits, run-gates}
+use Rattle.networks.specs.YRun.{runY-at}
 use Rattle.networks.specs.Bits.{pack, unpack}
 use Rattle.networks.specs.Permutation.{permutationCount, permutationRows, source}
 use Rattle.networks.specs.Wanted.{mapping}
@@ -21,7 +21,7 @@ use Rattle.networks.specs.PermutationRun.{permutation-made, permutation-
 use Rattle.networks.specs.Selection.{selectionLevel, padded, chainWire, chainRows, chainNext, secondNext, firstOuts, middleOuts}
 use Rattle.networks.specs.Selection.{wholeRows, wholeOuts, selectionRows, selectionOuts, selectionCount, selectionWires, Selected, selectionBits}
 use Rattle.networks.specs.Selection.{chainSource, chainBits, secondBits, wholeSource, selectionSource}
-use Rattle.networks.specs.SelectionLaws.{outputs-fit, getD-padded, chain-totals, chainWire-lt, getD-chainOuts, whole-wires}
+use Rattle.networks.specs.SelectionLaws.{outputs-fit, getD-padded, chain-totals, getD-chainOuts, whole-wires}
 use Rattle.networks.specs.SelectionLaws.{selection-totals, getD-selectionOuts}
 use Rattle.networks.specs.SelectionRouting.{chainSource-le, selectionSource-lt, selection-programmed, length-selectionBits, unpack-selection}
 
@@ -41,59 +41,25 @@ module _ {A : Type 0} (none : A) (gate : ℕ → List ℕ → List A → A) wher
   chosen v zero x y = refl
   chosen v (suc b) x y = refl
 
-  -- one Y row
-  pub last-y : (l r : ℕ) (t : State A) → on none (run none gate (Y l r ∷ []) t) (length (t .wires) + 0)
-      ≡ choose (getD (t .bits) 0 0) (on none t l) (on none t r)
-  unfolding run step outputs
-  last-y l r t = getD-append-add (t .wires) _ 0 none
-
   chain-made : (k : ℕ) (w : List ℕ) (next : ℕ) (s : State A) → length (run none gate (chainRows k w next) s .wires) ≡ length (s .wires) + k
   chain-made k w next s = run-wires none gate _ s ∙ ap (λ m. length (s .wires) + m) (chain-totals k w next .wires)
 
   chain-left : (k : ℕ) (w : List ℕ) (next : ℕ) (s : State A) → run none gate (chainRows k w next) s .bits ≡ drop k (s .bits)
   chain-left k w next s = run-bits none gate _ s ∙ ap (λ m. drop m (s .bits)) (chain-totals k w next .bits)
 
-  chain-more : (k : ℕ) (w : List ℕ) (next : ℕ) (s : State A) → run none gate (chainRows (suc k) w next) s
-      ≡ run none gate (Y (chainWire w next k) (getD w (suc k) 0) ∷ []) (run none gate (chainRows k w next) s)
-  unfolding chainRows listOf
-  chain-more k w next s = run-append none gate _ _ s
-
   -- at position i the chain has what position `chainSource bits i` of the wires w carried
-  chain-carries : (k : ℕ) (w : List ℕ) (next : ℕ) (s : State A) → ((i : ℕ) → i ≤ k → getD w i 0 < next) → length (s .wires) ≡ next
-      → (i : ℕ) → i ≤ k → on none (run none gate (chainRows k w next) s) (chainWire w next i) ≡ on none s (getD w (chainSource (s .bits) i) 0)
-  chain-carries zero w next s h m zero l = unfold chainRows listOf run chainWire chainSource in refl
-  chain-carries zero w next s h m (suc i) l = absurd (omega arith)
-  chain-carries (suc k) w next s h m i l =
-      rw (chain-more k w next s) (go (chain-carries k w next s (λ j b. h j (le-step b)) m) (eq-or-lt-of-le l))
-    where
-      t : State A
-      t = run none gate (chainRows k w next) s
-
-      made : length (t .wires) ≡ next + k
-      made = chain-made k w next s ∙ ap (λ x. x + k) m
-
-      y : State A
-      y = run none gate (Y (chainWire w next k) (getD w (suc k) 0) ∷ []) t
-
-      value : ℕ → A
-      value p = on none s (getD w p 0)
-
-      bit : getD (t .bits) 0 0 ≡ getD (s .bits) k 0
-      bit = ap (λ (b : List ℕ). getD b 0 0) (chain-left k w next s) ∙ getD-drop k (s .bits) 0 0 ∙ ap (λ j. getD (s .bits) j 0) (add-zero k)
-
-      fed : on none t (getD w (suc k) 0) ≡ value (suc k)
-      fed = run-keeps none gate _ s _ none (rw m (h (suc k) (le-refl (suc k))))
-
-      go : ((j : ℕ) → j ≤ k → on none t (chainWire w next j) ≡ value (chainSource (s .bits) j)) → (i ≡ suc k) ⊎ (i < suc k)
-          → on none y (chainWire w next i) ≡ value (chainSource (s .bits) i)
-      go ih (inl e) =
-          ap (on none y) (ap (chainWire w next) e ∙ wire-after w next k ∙ sym made ∙ sym (add-zero _))
-          ∙ last-y (chainWire w next k) (getD w (suc k) 0) t
-          ∙ rw (bit, ih k (le-refl k), fed) (chosen value (getD (s .bits) k 0) (chainSource (s .bits) k) (suc k))
-          ∙ ap value (sym (source-after (s .bits) k) ∙ ap (chainSource (s .bits)) (sym e))
-      go ih (inr b) =
-          let j : i ≤ k = le-of-suc-le-suc b in
-          run-keeps none gate _ t _ none (rw made (omega (arith, chainWire-lt w next i (h 0 (omega arith))))) ∙ ih i j
+  chain-carries : (i k : ℕ) (w : List ℕ) (next : ℕ) (s : State A) → ((j : ℕ) → j ≤ k → getD w j 0 < next) → length (s .wires) ≡ next
+      → i ≤ k → on none (run none gate (chainRows k w next) s) (chainWire w next i) ≡ on none s (getD w (chainSource (s .bits) i) 0)
+  unfolding chainRows
+  chain-carries zero k w next s h m l = unfold chainWire chainSource in run-keeps none gate _ s _ none (rw m (h 0 (omega arith)))
+  chain-carries (suc i) k w next s h m l =
+      let value : ℕ → A = λ p. on none s (getD w p 0) in
+      let before = chain-carries i i w next s (λ j b. h j (omega arith)) m (le-refl i) in
+      let fed = run-keeps none gate (chainRows i w next) s (getD w (suc i) 0) none (rw m (h (suc i) l)) in
+      ap (on none (run none gate (chainRows k w next) s)) (wire-after w next i ∙ ap (λ x. x + i) (sym m))
+      ∙ runY-at none gate k (chainWire w next) (λ j. getD w (suc j) 0) s i l
+      ∙ ap₂ (choose (getD (s .bits) i 0)) before fed ∙ chosen value (getD (s .bits) i 0) (chainSource (s .bits) i) (suc i)
+      ∙ ap value (sym (source-after (s .bits) i))
 
   -- ---- the whole block
 
@@ -135,7 +101,7 @@ module _ {A : Type 0} (none : A) (gate : ℕ → List ℕ → List A → A) wher
         let w = whole-wires level ins next zero-made b in
         let fed = firstOuts level ins next in
         ap (on none after-chain) (getD-chainOuts (2 ^ level) fed (chainNext level next) p l)
-        ∙ chain-carries (2 ^ level - 1) fed (chainNext level next) after-first (λ i k. w .chain-fed i (omega arith)) made-first p (omega arith)
+        ∙ chain-carries p (2 ^ level - 1) fed (chainNext level next) after-first (λ i k. w .chain-fed i (omega arith)) made-first (omega arith)
         ∙ ap (λ (a : List ℕ). on none after-first (getD fed (chainSource a p) 0)) left-first
         ∙ first-carries (chainSource (chainBits level (s .bits)) p) (omega (arith, chainSource-le (chainBits level (s .bits)) p))
 

@@ -1,20 +1,44 @@
--- A run of X rows: place y of their outputs carries what y, or y's partner where its X is crossed, carried before them.
+-- X rows: what a list of them adds up to, and what its run does: place y of their outputs carries what y, or y's partner where its X is
+-- crossed, carried before them.
 use mathlib.Core.Path.{_≡_, refl, sym, ap, _∙_}
 use mathlib.Core.Logic.{_⊎_, inl, inr}
 use mathlib.Core.List.{List, [], _∷_}
-use Prim.Native.Nat.{ℕ, zero, suc, _+_, _-_, _*_, _/_, _%_, _<_}
-use native.Mathlib.Nat.{le-step, add-zero}
-use native.Mathlib.Decide.{decLt}
+use Prim.Native.Nat.{ℕ, zero, suc, _+_, _*_, _/_, _%_, _<_}
+use native.Mathlib.Nat.{add-zero}
 use native.Mathlib.Omega.{arith}
 use lib.ListN.{length, getD, drop}
 use lib.Seq.{getD-append-add, getD-drop}
-use Rattle.lists.specs.Lists.{listOf}
-use Rattle.networks.specs.Rows.{X, choose, State, on, outputs, step, run}
-use Rattle.networks.specs.RowsLaws.{x-list, run-append, run-keeps, run-wires, run-bits}
+use Rattle.lists.specs.Lists.{listOf, Every, every-none, every-more}
+use Rattle.lists.specs.ListsLaws.{length-listOf, every-listOf, below-pair}
+use Rattle.networks.specs.Rows.{Row, X, inputsOf, makes, takes, gatesIn, total, IsX, is-X, MadeBefore, choose, State, on, outputs, step, run}
+use Rattle.networks.specs.RowsLaws.{Totals, madeBefore-listOf, run-append, run-first, run-keeps, run-wires, run-bits}
 use Rattle.networks.specs.Permutation.{partner, cross}
 use Rattle.networks.specs.Loops.{partner-even, partner-partner, parity}
 use Rattle.networks.specs.Halves.{even-place, odd-place}
 use Rattle.networks.specs.Routing.{cross-half}
+
+-- ---- X rows: two wires and one bit each
+
+pub x-totals : {rows : List Row} → Every IsX rows → Totals rows (2 * length rows) (length rows) 0
+unfolding total makes takes gatesIn inputsOf
+x-totals every-none = record { wires = refl; bits = refl; gates = refl; family = every-none }
+x-totals (every-more is-X f) =
+    let t = x-totals f in
+    record { wires = omega arith; bits = omega arith; gates = omega arith; family = every-more refl (t .family) }
+
+pub x-list : (n : ℕ) (f g : ℕ → ℕ) → Totals (listOf n (λ i. X (f i) (g i))) (2 * n) n 0
+x-list n f g =
+    let t = x-totals (every-listOf n (λ i. X (f i) (g i)) (λ i l. is-X)) in
+    let e = length-listOf n (λ i. X (f i) (g i)) in
+    record { wires = omega arith; bits = omega arith; gates = t .gates; family = t .family }
+
+pub x-madeBefore : (next n : ℕ) (f g : ℕ → ℕ) → ((i : ℕ) → i < n → f i < next) → ((i : ℕ) → i < n → g i < next)
+    → MadeBefore next (listOf n (λ i. X (f i) (g i)))
+unfolding inputsOf
+x-madeBefore next n f g hf hg =
+    madeBefore-listOf next n (λ i. X (f i) (g i)) (λ i l. below-pair (omega (arith, hf i l)) (omega (arith, hg i l)))
+
+-- ---- their operands
 
 -- the input wire at place y of X rows with left wires f and right wires g
 unfoldable pub operand : (ℕ → ℕ) → (ℕ → ℕ) → ℕ → ℕ
@@ -101,33 +125,30 @@ module _ {A : Type 0} (none : A) (gate : ℕ → List ℕ → List A → A) wher
   -- place y of the outputs carries what the place that it is crossed with carried
   pub runX-at : (k : ℕ) (f g : ℕ → ℕ) (s : State A) → ((i : ℕ) → i < k → f i < length (s .wires)) → ((i : ℕ) → i < k → g i < length (s .wires))
       → (y : ℕ) → y < 2 * k → on none (runX k f g s) (length (s .wires) + y) ≡ on none s (operand f g (cross (s .bits) y))
-  runX-at zero f g s hf hg y l = absurd (omega arith)
-  runX-at (suc k) f g s hf hg y l =
-      rw (runX-more k f g s) (go (runX-at k f g s (λ i m. hf i (le-step m)) (λ i m. hg i (le-step m)) y) (decLt y (2 * k)))
+  runX-at k f g s hf hg y l =
+      run-first none gate (λ j. X (f j) (g j)) k s l₁ (w + y) (omega (arith, runX-made (suc i) f g s))
+      ∙ ap (λ (x : State A). on none x (w + y)) (runX-more i f g s)
+      ∙ ap (on none (run none gate (X (f i) (g i) ∷ []) t)) (omega (arith, runX-made i f g s)) ∙ last-x f g i t c (omega arith)
+      ∙ ap (λ x. on none t (operand f g x)) here ∙ runX-keeps i f g s _ (operand-lt f g k w _ hf hg (cross-lt (s .bits) k y l))
     where
-      t : State A
-      t = runX k f g s
+      -- y is place c of row i's outputs
+      i : ℕ
+      i = y / 2
+
+      c : ℕ
+      c = y % 2
+
+      l₁ : i < k
+      l₁ = omega arith
 
       w : ℕ
       w = length (s .wires)
 
-      value : A
-      value = on none s (operand f g (cross (s .bits) y))
+      t : State A
+      t = runX i f g s
 
-      bit : getD (t .bits) 0 0 ≡ getD (s .bits) k 0
-      bit = ap (λ (b : List ℕ). getD b 0 0) (runX-left k f g s) ∙ getD-drop k (s .bits) 0 0 ∙ ap (λ j. getD (s .bits) j 0) (add-zero k)
+      bit : getD (t .bits) 0 0 ≡ getD (s .bits) i 0
+      bit = ap (λ (b : List ℕ). getD b 0 0) (runX-left i f g s) ∙ getD-drop i (s .bits) 0 0 ∙ ap (λ j. getD (s .bits) j 0) (add-zero i)
 
-      here : (c : ℕ) → 2 * k + c ≡ y → c < 2 → choose (getD (t .bits) 0 0) (2 * k + c) (partner (2 * k + c)) ≡ cross (s .bits) y
-      here c e m = rw bit (sym (cross-at (s .bits) k c m) ∙ ap (cross (s .bits)) e)
-
-      small : operand f g (cross (s .bits) y) < w
-      small = operand-lt f g (suc k) w _ hf hg (cross-lt (s .bits) (suc k) y l)
-
-      go : (y < 2 * k → on none t (w + y) ≡ value) → Dec (y < 2 * k) → on none (run none gate (X (f k) (g k) ∷ []) t) (w + y) ≡ value
-      go ih (yes m) = run-keeps none gate (X (f k) (g k) ∷ []) t (w + y) none (omega (arith, runX-made k f g s)) ∙ ih m
-      go ih (no m) =
-          let c : ℕ = y - 2 * k in
-          let e : 2 * k + c ≡ y = omega arith in
-          let p : w + y ≡ length (t .wires) + c = omega (arith, runX-made k f g s) in
-          ap (on none (run none gate (X (f k) (g k) ∷ []) t)) p ∙ last-x f g k t c (omega arith)
-          ∙ ap (λ x. on none t (operand f g x)) (here c e (omega arith)) ∙ runX-keeps k f g s _ small
+      here : choose (getD (t .bits) 0 0) (2 * i + c) (partner (2 * i + c)) ≡ cross (s .bits) y
+      here = let e : 2 * i + c ≡ y = omega arith in rw bit (sym (cross-at (s .bits) i c (omega arith)) ∙ ap (cross (s .bits)) e)

@@ -14,7 +14,8 @@ use Rattle.lists.specs.Lists.{listOf}
 use Rattle.lists.specs.ListsLaws.{length-listOf, listOf-ext}
 use Rattle.fault.specs.Buffers.{over}
 use Rattle.networks.specs.Rows.{X, stride, flat, rowOf}
-use Rattle.networks.specs.RowsLaws.{flat-append, x-list, length-flat}
+use Rattle.networks.specs.RowsLaws.{flat-append, length-flat}
+use Rattle.networks.specs.XRun.{x-list}
 use Rattle.networks.specs.Permutation.{permutationCount, inputRows, outputRows, firsts, seconds, upperNext, lowerNext, outputNext}
 use Rattle.networks.specs.Permutation.{permutationOuts, upperOuts, lowerOuts, permutationRows}
 use Rattle.networks.specs.PermutationLaws.{length-permutationRows, length-permutationOuts, permutation-totals, length-firsts, length-seconds}

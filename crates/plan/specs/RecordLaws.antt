@@ -1,11 +1,12 @@
--- Laws of places that begin with given values, the others zero.
+-- Laws of places that begin with given values, the others zero, and of gates' own wires.
 use mathlib.Core.Path.{_≡_, refl}
 use mathlib.Core.List.{List, [], _∷_, _++_, append-assoc}
-use Prim.Native.Nat.{ℕ, zero, suc, _-_, _<_}
+use Prim.Native.Nat.{ℕ, zero, suc, _-_, _%_, _≤_, _<_}
+use native.Mathlib.Nat.{mod-eq-of-lt}
 use native.Mathlib.Omega.{arith}
 use lib.ListN.{length, getD, set, replicate, length-append}
 use lib.Seq.{set-at}
-use Rattle.plan.specs.Record.{places}
+use Rattle.plan.specs.Record.{maxInputs, maxGates, places, gateWire}
 
 -- one place more is filled
 pub places-more : {A : Type 0} (n : ℕ) (none : A) (xs : List A) (x : A) (i : ℕ) → length xs ≡ i → i < n
@@ -27,3 +28,7 @@ padded none (x ∷ xs) m (suc i) = padded none xs m i
 pub getD-places : {A : Type 0} (n : ℕ) (none : A) (xs : List A) (i : ℕ) → getD (places n none xs) i none ≡ getD xs i none
 unfolding places
 getD-places n none xs i = padded none xs (n - length xs) i
+
+-- within the limits a gate's own wire has 16 bits
+pub wire-fits : {u i : ℕ} → u ≤ maxInputs → i < maxGates → gateWire u i % 65536 ≡ gateWire u i
+wire-fits hu hi = mod-eq-of-lt (omega arith)

@@ -6,6 +6,7 @@ mod rules;
 pub use record::Gate;
 pub use record::Plan;
 pub use record::PlanWire;
+pub use record::gate_wire;
 pub use rules::count_allowed;
 pub use rules::map_allowed;
 pub use rules::operand_allowed;

@@ -1,17 +1,19 @@
 // The plan record in memory, with its limits.
 ghost use mathlib.Core.Path.{_≡_};
-ghost use Rattle.plan.specs.Record.{zeroPlan};
+ghost use Prim.Native.Nat.{_%_};
+ghost use Rattle.plan.specs.Record.{zeroPlan, gateWire};
 
 // A wire of a plan: 1 to u are inputs, u + g is gate g.
 #[repr(C)]
 pub struct PlanWire(pub u16);
 
-// A gate: two operands, each a smaller wire than its own, and a table of four bits.
+// A gate: two operands, each a smaller wire than its own, and a table of four bits. The table has 16 bits of room, so that a gate has no
+// padding and a record is cleared at once.
 #[repr(C)]
 pub struct Gate {
     pub first: PlanWire,
     pub second: PlanWire,
-    pub table: u8,
+    pub table: u16,
 }
 
 // A plan with places for every gate and output it may have; those past its counts are unused.
@@ -49,4 +51,11 @@ impl Plan {
             outputs: [none; Plan::MAX_OUTPUTS],
         }
     }
+}
+
+// The own wire of gate i, counted from 0, in a plan with so many inputs, modulo 2 to the power 16.
+pub fn gate_wire(inputs: u16, i: usize) -> PlanWire
+    ensures { λ r. ⌜ r .0 ≡ gateWire inputs i % 65536 ⌝ }
+{
+    PlanWire(((inputs as usize + i % 65_536 + 1) % 65_536) as u16)
 }

@@ -31,7 +31,7 @@ pub fn operand_allowed(own: PlanWire, wire: PlanWire) -> bool
 }
 
 // Whether a table has no bit above the four lines.
-pub fn table_allowed(table: u8) -> bool
+pub fn table_allowed(table: u16) -> bool
     ensures { λ r. ⌜ r ≡ tableAllowed table ⌝ }
 {
     table <= 15

@@ -1,8 +1,6 @@
 // Plan faults: for any record in memory `plan_fault` says, with proof, whether it is an accepted plan. Unused places are not looked at.
 ghost use mathlib.Core.Path.{_≡_};
-ghost use Prim.Native.Nat.{_≤_, _<_};
 ghost use Rattle.fault.specs.Number.{answerNumber};
-ghost use Rattle.plan.specs.Record.{maxInputs, maxGates, gateWire};
 ghost use Rattle.plan.specs.Faults.{countsFault, gateFault, gatesFault, outputsFault, planFault};
 ghost use Rattle.plan.specs.FaultsLaws.{CountsWithin};
 use fault::Answer;
@@ -11,6 +9,7 @@ use plan::Gate;
 use plan::Plan;
 use plan::PlanWire;
 use plan::count_allowed;
+use plan::gate_wire;
 use plan::operand_allowed;
 use plan::source_allowed;
 use plan::table_allowed;
@@ -67,14 +66,6 @@ fn gates_fault(plan: Plan) -> Answer
         i += 1;
     }
     Answer::Done
-}
-
-// The own wire of gate i, counted from 0, in a plan with so many inputs.
-fn gate_wire(inputs: u16, i: usize) -> PlanWire
-    requires { ⌜ (inputs ≤ maxInputs) × (i < maxGates) ⌝ }
-    ensures { λ r. ⌜ r .0 ≡ gateWire inputs i ⌝ }
-{
-    PlanWire(inputs + (i as u16) + 1)
 }
 
 // The fault of a gate whose own wire is own.

@@ -1,8 +1,7 @@
 // Reading a plan file: the header, each gate, each output, the end. The first failing check decides, and a refusal leaves no trace of
 // the file in the record.
 ghost use mathlib.Core.Path.{_≡_};
-ghost use Prim.Native.Nat.{_≤_, _<_};
-ghost use Rattle.plan.specs.Record.{maxInputs, maxGates, zeroPlan, gateWire};
+ghost use Rattle.plan.specs.Record.{zeroPlan};
 ghost use Rattle.reading.specs.PlanFile.{planRead, outcome};
 ghost use Rattle.reading.specs.Answers.{readAnswer};
 ghost use Rattle.reading.specs.Parts.{Limited, HeaderRead, countsPart, headerPart, bodyPart};
@@ -14,7 +13,7 @@ use fault::Refusal;
 use gate_fields::GateStep;
 use gate_fields::read_gate;
 use plan::Plan;
-use plan::PlanWire;
+use plan::gate_wire;
 
 pub enum ReadAnswer {
     Accepted,
@@ -93,14 +92,6 @@ fn read_counts(file: &[u8], c: Cursor) -> HeaderStep
             },
         },
     }
-}
-
-// The own wire of gate i, counted from 0, in a plan with so many inputs.
-fn gate_wire(inputs: u16, i: usize) -> PlanWire
-    requires { ⌜ (inputs ≤ maxInputs) × (i < maxGates) ⌝ }
-    ensures { λ r. ⌜ r .0 ≡ gateWire inputs i ⌝ }
-{
-    PlanWire(inputs + (i as u16) + 1)
 }
 
 // The gates and the outputs, each to its place in the one record, and the end of the file, where no byte may stand.

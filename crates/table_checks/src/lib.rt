@@ -7,8 +7,6 @@ pub use checking::TableCheck;
 pub use checking::TableCounts;
 pub use checking::check_table;
 pub use table::INPUTS;
-pub use table::KIND_X;
-pub use table::KIND_Y;
 pub use table::OUTPUTS;
 pub use table::ROWS;
 pub use table::RowCounts;

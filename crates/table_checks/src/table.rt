@@ -6,7 +6,10 @@ ghost use Rattle.networks.specs.Rows.{stride};
 ghost use Rattle.universal.specs.Tables.{header, outputsIn, rowsIn, maxFabricWires};
 ghost use Rattle.table_checks.specs.Counting.{CountsOf};
 use elements::FabricWire;
+use elements::GATE_BITS;
 use elements::HEADER;
+use elements::KIND_X;
+use elements::KIND_Y;
 use elements::wide;
 
 // Which of the entries before the rows are the numbers of inputs, outputs and rows.
@@ -15,16 +18,6 @@ pub const INPUTS: usize = 0;
 pub const OUTPUTS: usize = 1;
 
 pub const ROWS: usize = 2;
-
-// Document 01's kinds of rows.
-pub const KIND_X: u16 = 1;
-
-pub const KIND_Y: u16 = 2;
-
-pub(crate) const KIND_G: u16 = 3;
-
-// The program bits of a gate: its table.
-const GATE_BITS: usize = 4;
 
 // How many wires a row makes, and how many program bits it takes.
 pub struct RowCounts {
@@ -44,7 +37,7 @@ pub fn counts_of(kind: u16) -> RowCounts
     }
     RowCounts {
         wires: 1,
-        bits: GATE_BITS,
+        bits: GATE_BITS as usize,
     }
 }
 

@@ -20,7 +20,7 @@ use Rattle.plan.specs.Record.{gateAt, outputAt}
 use Rattle.plan.specs.FaultsLaws.{CountsWithin}
 use Rattle.plan.specs.AgreeLaws.{Agree}
 use Rattle.networks.specs.Rows.{stride, flat, makes, total, MadeBefore}
-use Rattle.networks.specs.RowsLaws.{madeBefore-append, length-flat}
+use Rattle.networks.specs.RowsLaws.{madeBefore-append, Totals, totals-append, length-flat}
 use Rattle.networks.specs.Bits.{AreBits}
 use Rattle.networks.specs.BitsLaws.{bits-append}
 use Rattle.networks.specs.Selection.{selectionLevel, selectionWires}
@@ -30,8 +30,7 @@ use Rattle.networks.specs.SelectionRouting.{length-selectionBits, selectionBits
 use Rattle.universal.specs.Selector.{pinCount, selection}
 use Rattle.universal.specs.Universal.{universalWires, Gates}
 use Rattle.universal.specs.SelectorLaws.{double, selection-shape}
-use Rattle.universal.specs.YRows.{Sums, sums-totals, sums-append}
-use Rattle.universal.specs.UniversalLaws.{length-universalRows, universal-sums, universal-below, length-universalBits}
+use Rattle.universal.specs.UniversalLaws.{length-universalRows, universal-totals, universal-below, length-universalBits}
 use Rattle.universal.specs.UniversalLaws.{universalBits-bits, fed-below, Fed, universal-madeBefore, universal-takes, universal-count, universal-made}
 use Rattle.universal.specs.Fabric.{gateLevel, inputWires, fabricPins, universalNext, outputNext, gateOuts, fabricRows, fabricOuts}
 use Rattle.universal.specs.Fabric.{fabricCount, fabricWires, fabricTakes, fabricTable, spareGate, paddedGate, gatesOf, planGates}
@@ -63,19 +62,19 @@ module _ (u k v : ℕ) where
   unfolding fabricRows fabricCount
   length-fabricRows = simp (length-append, length-selectionRows, length-universalRows selection selection-shape)
 
-  pub fabric-sums : let level : ℕ = gateLevel k in
-      Sums (fabricRows u k v) (selectionWires u (pinCount level) + (universalWires selection level + selectionWires (2 ^ level) v)) (fabricTakes u k v)
+  pub fabric-totals : let level : ℕ = gateLevel k in
+      Totals (fabricRows u k v) (selectionWires u (pinCount level) + (universalWires selection level + selectionWires (2 ^ level) v)) (fabricTakes u k v)
       (2 ^ level)
   unfolding fabricRows fabricTakes
-  fabric-sums =
-      let t = sums-append (sums-totals (selection-totals u _ _ _))
-      (sums-append (universal-sums selection selection-shape (gateLevel k) _ _) (sums-totals (selection-totals _ v _ _))) in
+  fabric-totals =
+      let t = totals-append (selection-totals u _ _ _)
+      (totals-append (universal-totals selection selection-shape (gateLevel k) _ _) (selection-totals _ v _ _)) in
       record { wires = t .wires; bits = t .bits; gates = omega (arith, t .gates); family = t .family }
 
   -- wire 0, the inputs, and what the rows make
   pub fabric-wires : suc u + total makes (fabricRows u k v) ≡ fabricWires u k v
   unfolding fabricWires
-  fabric-wires = rw (fabric-sums .wires) (omega arith)
+  fabric-wires = rw (fabric-totals .wires) (omega arith)
 
   pub length-fabricOuts : length (fabricOuts u k v) ≡ v
   unfolding fabricOuts
@@ -86,7 +85,7 @@ module _ (u k v : ℕ) where
   unfolding fabricTable
   length-fabricTable =
       let e = length-append (flat (fabricRows u k v)) (fabricOuts u k v) in
-      omega (arith, e, length-flat (fabric-sums .family), length-fabricRows, length-fabricOuts)
+      omega (arith, e, length-flat (fabric-totals .family), length-fabricRows, length-fabricOuts)
 
   -- ---- each wire is made before it is read
 
@@ -111,7 +110,7 @@ module _ (u k v : ℕ) where
       madeBefore-append (selection-madeBefore u (pinCount level) (inputWires u) (suc u) (omega arith) (inputs-below u))
       (ap (λ m. suc u + m) (selection-totals u (pinCount level) (inputWires u) (suc u) .wires))
       (madeBefore-append (universal-madeBefore selection selection-shape level (fabricPins u k) (universalNext u k) (omega arith) pins-fed)
-      (ap (λ m. universalNext u k + m) (universal-sums selection selection-shape level (fabricPins u k) (universalNext u k) .wires))
+      (ap (λ m. universalNext u k + m) (universal-totals selection selection-shape level (fabricPins u k) (universalNext u k) .wires))
       (selection-madeBefore (2 ^ level) v (gateOuts u k) (outputNext u k) (omega arith) gates-below))
 
   -- ---- closed forms

@@ -26,7 +26,7 @@ use Rattle.universal.specs.Tables.{givenProgramFault, runWires, runOutpu
 use Rattle.universal.specs.TablesLaws.{table-faultless, pack-exact}
 use Rattle.universal.specs.WrittenTables.{tableOf, tableRows-of, output-of, below-cons, flat-below, wiresIn-of, bitsIn-of, well-formed-of}
 use Rattle.universal.specs.PlanValues.{actOf}
-use Rattle.universal.specs.FabricLaws.{length-fabricRows, fabric-sums, fabric-wires, length-fabricOuts, fabric-below, fabric-madeBefore}
+use Rattle.universal.specs.FabricLaws.{length-fabricRows, fabric-totals, fabric-wires, length-fabricOuts, fabric-below, fabric-madeBefore}
 use Rattle.universal.specs.FabricLaws.{length-planBits, planBits-bits, fabric-within}
 use Rattle.universal.specs.FabricRun.{startOf, fabric-computes}
 
@@ -52,16 +52,16 @@ module _ (u k v : ℕ) where
   fabric-rowsIn = refl
 
   pub fabric-tableRows : tableRows (fabricTable u k v) ≡ fabricRows u k v
-  fabric-tableRows = rw table-of (tableRows-of u v (fabricRows u k v) (fabricOuts u k v) (fabric-sums u k v .family))
+  fabric-tableRows = rw table-of (tableRows-of u v (fabricRows u k v) (fabricOuts u k v) (fabric-totals u k v .family))
 
   pub fabric-wiresIn : wiresIn (fabricTable u k v) ≡ fabricWires u k v
-  fabric-wiresIn = rw table-of (wiresIn-of u v (fabricRows u k v) (fabricOuts u k v) (fabric-sums u k v .family)) ∙ fabric-wires u k v
+  fabric-wiresIn = rw table-of (wiresIn-of u v (fabricRows u k v) (fabricOuts u k v) (fabric-totals u k v .family)) ∙ fabric-wires u k v
 
   pub fabric-bitsIn : bitsIn (fabricTable u k v) ≡ fabricTakes u k v
-  fabric-bitsIn = rw table-of (bitsIn-of u v (fabricRows u k v) (fabricOuts u k v) (fabric-sums u k v .family)) ∙ fabric-sums u k v .bits
+  fabric-bitsIn = rw table-of (bitsIn-of u v (fabricRows u k v) (fabricOuts u k v) (fabric-totals u k v .family)) ∙ fabric-totals u k v .bits
 
   pub fabric-outputAt : (j : ℕ) → outputWireAt (fabricTable u k v) j ≡ getD (fabricOuts u k v) j 0
-  fabric-outputAt j = rw table-of (output-of u v (fabricRows u k v) (fabricOuts u k v) (fabric-sums u k v .family) j)
+  fabric-outputAt j = rw table-of (output-of u v (fabricRows u k v) (fabricOuts u k v) (fabric-totals u k v .family) j)
 
   -- it is well formed
   pub fabric-well-formed : countsFault u k v ≡ 0 → tableFault (fabricTable u k v) ≡ 0
@@ -69,7 +69,7 @@ module _ (u k v : ℕ) where
       let c = counts-within u k v e in
       let wires = fabric-wires u k v in
       rw table-of (table-faultless (tableOf u v (fabricRows u k v) (fabricOuts u k v)) .1
-      (well-formed-of u v (fabricRows u k v) (fabricOuts u k v) (fabric-sums u k v .family) (c .someInputs, c .inputs) (c .someOutputs, c .outputs)
+      (well-formed-of u v (fabricRows u k v) (fabricOuts u k v) (fabric-totals u k v .family) (c .someInputs, c .inputs) (c .someOutputs, c .outputs)
       (fabric-madeBefore u k v) (length-fabricOuts u k v) (rw wires (fabric-below u k v)) (omega (arith, fabric-within u k v c .wires))))
 
   -- its entries are of 16 bits

@@ -12,8 +12,6 @@ pub mod Tables
 -- The laws of the definitions.
 -- the views of r ++ s
 pub mod ViewsLaws
--- what rows add up to, and what Y rows do
-pub mod YRows
 -- document 01's S(K/2, K) keeps what the selection block must promise
 pub mod SelectorLaws
 -- U's counts: rows, wires, bits; its rows' wires are made before them

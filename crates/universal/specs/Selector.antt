@@ -9,7 +9,7 @@ use Rattle.networks.specs.Rows.{Row, operands, MadeBefore, State, run, Delivere
 use Rattle.networks.specs.Bits.{AreBits}
 use Rattle.networks.specs.Wanted.{mapping}
 use Rattle.networks.specs.Selection.{Selected, selectionRows, selectionOuts, selectionWires, selectionCount, selectionBits}
-use Rattle.networks.specs.SelectionLaws.{Totals}
+use Rattle.networks.specs.RowsLaws.{Totals}
 
 -- the pins of U(2 ^ n): 2K, two for each gate
 abbrev pub pinCount : ℕ → ℕ
@@ -27,7 +27,7 @@ pub record Selector : Type 0 where
 -- what it must promise of its rows, wires and bits: no gates, and each row's wires are made before it
 pub record SelectorShape (S : Selector) : Type 0 where
   pub size : (n : ℕ) (ins : List ℕ) (next : ℕ) → length (S .rows n ins next) ≡ S .count n
-  pub totals : (n : ℕ) (ins : List ℕ) (next : ℕ) → Totals (S .rows n ins next) (S .wires n) (S .count n)
+  pub totals : (n : ℕ) (ins : List ℕ) (next : ℕ) → Totals (S .rows n ins next) (S .wires n) (S .count n) 0
   pub outputs : (n : ℕ) (ins : List ℕ) (next : ℕ) → length (S .outs n ins next) ≡ pinCount n
   pub below : (n : ℕ) (ins : List ℕ) (next : ℕ) → 0 < next → Below next ins → Below (next + S .wires n) (S .outs n ins next)
   pub madeBefore : (n : ℕ) (ins : List ℕ) (next : ℕ) → 0 < next → Below next ins → MadeBefore next (S .rows n ins next)

@@ -10,7 +10,8 @@ use lib.Seq.{getD-take}
 use Rattle.lists.specs.Lists.{Below}
 use Rattle.lists.specs.ListsLaws.{length-listOf, getD-listOf, below-append, below-more, below-pair}
 use Rattle.networks.specs.Rows.{inputsOf, operands, gateBits, MadeBefore, made-none, made-more}
-use Rattle.networks.specs.RowsLaws.{madeBefore-append}
+use Rattle.networks.specs.RowsLaws.{madeBefore-append, Totals, totals-append, gate-totals}
+use Rattle.networks.specs.YRun.{y-list, y-madeBefore}
 use Rattle.networks.specs.Bits.{AreBits}
 use Rattle.networks.specs.BitsLaws.{bits-append, bits-listOf}
 use Rattle.networks.specs.CountingLaws.{one-lt}
@@ -19,7 +20,6 @@ use Rattle.universal.specs.SelectorLaws.{double, selection-shape, half-c
 use Rattle.universal.specs.Universal.{mixRows, wiresFrom}
 use Rattle.universal.specs.Universal.{universalCount, universalWires, universalTakes, selectNext, mixNext, lowerNext, universalOuts, selectedOuts}
 use Rattle.universal.specs.Universal.{lowerPins, universalRows, Gates, tableProgram, isOf, mixBits, universalBits}
-use Rattle.universal.specs.YRows.{Sums, sums-totals, sums-append, gate-sums, y-sums, y-madeBefore}
 
 -- ---- what the closed forms need: K times (n + 1)², and twice the half's
 
@@ -62,13 +62,13 @@ module _ (S : Selector) where
       length-listOf,
     )
 
-    pub universal-sums : (n : ℕ) (pins : List ℕ) (next : ℕ) → Sums (universalRows S n pins next) (universalWires S n) (universalTakes S n) (2 ^ n)
+    pub universal-totals : (n : ℕ) (pins : List ℕ) (next : ℕ) → Totals (universalRows S n pins next) (universalWires S n) (universalTakes S n) (2 ^ n)
     unfolding universalRows universalWires universalTakes mixRows
-    universal-sums zero pins next = gate-sums (getD pins 0 0) (getD pins 1 0)
-    universal-sums (suc n) pins next =
-        let t = sums-append (universal-sums n (take (pinCount n) pins) next)
-        (sums-append (sums-totals (shape .totals n (universalOuts S n next) (selectNext S n next)))
-        (sums-append (y-sums (pinCount n) _ _) (universal-sums n (lowerPins S n next) (lowerNext S n next)))) in
+    universal-totals zero pins next = gate-totals (getD pins 0 0) (getD pins 1 0)
+    universal-totals (suc n) pins next =
+        let t = totals-append (universal-totals n (take (pinCount n) pins) next)
+        (totals-append (shape .totals n (universalOuts S n next) (selectNext S n next))
+        (totals-append (y-list (pinCount n) _ _) (universal-totals n (lowerPins S n next) (lowerNext S n next)))) in
         record { wires = t .wires; bits = t .bits; gates = omega (arith, t .gates, double n); family = t .family }
 
 -- ---- its wires
@@ -114,12 +114,12 @@ module _ (S : Selector) where
         let outs = universalOuts S n next in
         let after = selectNext S n next in
         madeBefore-append (universal-madeBefore n (take (pinCount n) pins) next z (upper-fed F))
-        (ap (λ k. next + k) (universal-sums S shape n (take (pinCount n) pins) next .wires))
+        (ap (λ k. next + k) (universal-totals S shape n (take (pinCount n) pins) next .wires))
         (madeBefore-append (shape .madeBefore n outs after (omega arith) (universal-below S n next))
         (ap (λ k. after + k) (shape .totals n outs after .wires))
         (madeBefore-append
-        (y-madeBefore (mixNext S n next) (pinCount n) _ _ (λ j l. omega (arith, mixed-fed F j l)) (λ j l. selected-fed n next j z l))
-        (ap (λ k. mixNext S n next + k) (y-sums (pinCount n) _ _ .wires))
+        (y-madeBefore (mixNext S n next) (pinCount n) _ _ (λ j l. omega (arith, mixed-fed F j l)) (λ j l. omega (arith, selected-fed n next j z l)))
+        (ap (λ k. mixNext S n next + k) (y-list (pinCount n) _ _ .wires))
         (universal-madeBefore n (lowerPins S n next) (lowerNext S n next) (omega arith) (lower-fed n next))))
 
     -- ---- its program bits

@@ -1,7 +1,7 @@
 -- U's promise, over values of any type and any gate action, by one induction over the levels: where the pins whose operand is not one of U's
 -- gates carry that operand's value, the programmed U's output g carries gate g's value, and its g-th gate row sees gate g's operands and table.
 -- A lower pin takes an operand of the upper half from the selection block, and any other from the pin.
-use mathlib.Core.Path.{_≡_, refl, sym, ap, _∙_}
+use mathlib.Core.Path.{_≡_, refl, sym, ap, ap₂, _∙_}
 use mathlib.Core.Bool.{Bool, true, false}
 use mathlib.Core.List.{List, [], _∷_, _++_, map, append-assoc, append-nil}
 use Prim.Native.Nat.{ℕ, zero, suc, _+_, _-_, _*_, _/_, _^_, _≤_, _<_}
@@ -15,6 +15,7 @@ use Rattle.lists.specs.Lists.{listOf}
 use Rattle.lists.specs.ListsLaws.{listOf-ext}
 use Rattle.networks.specs.Rows.{Row, Gate, tableBits, operands, gateBits, choose, State, on, outputs, step, run, Delivered}
 use Rattle.networks.specs.RowsLaws.{run-append, run-keeps, run-wires, run-bits, run-gates}
+use Rattle.networks.specs.YRun.{y-list, runY-made, runY-left, runY-at}
 use Rattle.networks.specs.Wanted.{mapping}
 use Rattle.networks.specs.Counting.{oneIf}
 use Rattle.universal.specs.Views.{View, viewOf, views}
@@ -22,10 +23,9 @@ use Rattle.universal.specs.ViewsLaws.{views-append, views-none}
 use Rattle.universal.specs.Selector.{pinCount, Selector, SelectorShape, SelectorDelivers}
 use Rattle.universal.specs.Universal.{mixRows, universalWires, selectNext, mixNext, lowerNext, universalOuts, selectedOuts, lowerPins}
 use Rattle.universal.specs.Universal.{universalRows, Gates, wireOf, tableProgram, isOf, wantedGates, mixBits, universalBits}
-use Rattle.universal.specs.YRows.{y-sums, runY-made, runY-left, runY-at}
 use Rattle.universal.specs.SelectorLaws.{double}
 use Rattle.universal.specs.UniversalProgram.{not-of, wanted-selected, wants, mixBits-at, length-mixBits, program-parts, length-table}
-use Rattle.universal.specs.UniversalLaws.{length-universalOuts, universal-below, universal-sums, length-universalBits}
+use Rattle.universal.specs.UniversalLaws.{length-universalOuts, universal-below, universal-totals, length-universalBits}
 use Rattle.universal.specs.UniversalLaws.{Fed, upper-fed, mixed-fed, getD-lowerPins, lower-fed, selected-fed}
 
 -- ---- the statement
@@ -119,7 +119,7 @@ module _ {A : Type 0} (none : A) (gate : ℕ → List ℕ → List A → A) (S :
         (views-append none gate (S .rows n (universalOuts S n next) (selectNext S n next)) _ upperDone
         ∙ rw (views-none none gate (S .rows n (universalOuts S n next) (selectNext S n next)) upperDone (shape .totals n _ _ .gates))
         (views-append none gate (mixRows (pinCount n) pins (selectedOuts S n next)) _ selectDone
-        ∙ rw (views-none none gate (mixRows (pinCount n) pins (selectedOuts S n next)) selectDone (y-sums (pinCount n) _ _ .gates))))
+        ∙ rw (views-none none gate (mixRows (pinCount n) pins (selectedOuts S n next)) selectDone (y-list (pinCount n) _ _ .gates))))
 
 module _ {A : Type 0} (none : A) (gate : ℕ → List ℕ → List A → A) (S : Selector) (shape : SelectorShape S) (D : SelectorDelivers none gate S) where
   module _ (G : Gates) (value : ℕ → A) (law : Values gate G value) where
@@ -140,7 +140,7 @@ module _ {A : Type 0} (none : A) (gate : ℕ → List ℕ → List A → A) (S :
         ((i : ℕ) → i < 2 ^ n → on none t (getD (universalOuts S n next) i 0) ≡ value (wireOf G (base + i)))
         → seen ≡ listOf (2 ^ n) (λ i. gateView G value (base + i)) → Computes none gate S G value n base next s t seen rest
     finish {n} {base} {pins} {next} {s} {rest} H carried sees =
-        let t = universal-sums S shape n pins next in
+        let t = universal-totals S shape n pins next in
         record {
           carried = carried;
           sees = sees;
@@ -209,8 +209,9 @@ module _ {A : Type 0} (none : A) (gate : ℕ → List ℕ → List A → A) (S :
             let left = selected .kept pin (omega (arith, made-upper, mixed-fed (H .fed) j l)) ∙ U .kept pin (rw (H .made) (mixed-fed (H .fed) j l)) in
             let bit = ap (λ (b : List ℕ). getD b j 0) (selected .bits) ∙ mixBits-at G base (2 ^ n) j lowerProgram l in
             ap (on none (mixDone none gate S n pins next s)) (getD-lowerPins S n next j l ∙ ap (λ w. w + j) (sym made-selected))
-            ∙ runY-at none gate (pinCount n) (λ i. getD pins (pinCount n + i) 0) (λ i. getD (selectedOuts S n next) i 0) selectState
-            (λ i m. omega (arith, made-selected, mixed-fed (H .fed) i m)) (λ i m. rw made-selected (selected-fed S shape n next i (H .some) m)) j l
+            ∙ runY-at none gate (pinCount n) (λ i. getD pins (pinCount n + i) 0) (λ i. getD (selectedOuts S n next) i 0) selectState j l
+            ∙ ap₂ (choose (getD (selectState .bits) j 0)) (run-keeps none gate _ selectState pin none (omega (arith, made-selected, mixed-fed (H .fed) j l)))
+            (run-keeps none gate _ selectState _ none (rw made-selected (selected-fed S shape n next j (H .some) l)))
             ∙ rw (bit, left, selected .carried j l)
 
         -- a pin of the lower half whose operand is not one of the lower half's gates carries its operand's value
@@ -243,7 +244,7 @@ module _ {A : Type 0} (none : A) (gate : ℕ → List ℕ → List A → A) (S :
               some = omega (arith, H .some);
               fed = lower-fed S n next;
               made = runY-made none gate (pinCount n) left right state ∙ ap (λ w. w + pinCount n) made-selected;
-              number = run-gates none gate _ state ∙ rw (y-sums (pinCount n) left right .gates, add-zero) (selected .gates ∙ U .gates);
+              number = run-gates none gate _ state ∙ rw (y-list (pinCount n) left right .gates, add-zero) (selected .gates ∙ U .gates);
               bits = runY-left none gate (pinCount n) left right state
                   ∙ rw (selected .bits) (drop-at (mixBits G base (2 ^ n)) lowerProgram (pinCount n) (length-mixBits G base (2 ^ n)));
               carried = lower-carries;

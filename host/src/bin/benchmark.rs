@@ -98,7 +98,7 @@ const OUTPUTS: Arrays = (128, "crates/fabric_selections/src/lib.rt");
 /// What feeds a network of S, and what it gave.
 const SELECTION: Arrays = (2_048, "crates/selection_rows/src/writing.rt");
 /// Operands and tables of the gates, and wanted inputs.
-const GATES: Arrays = (2_304, "crates/fabric_bits/src/programming.rt");
+const GATES: Arrays = (2_560, "crates/fabric_bits/src/programming.rt");
 /// S's counts, heads and wanted list.
 const POSITIONS: Arrays = (3_072, "crates/selection_bits/src/program.rt");
 /// P's mapping, its inverse and the marks.

@@ -177,7 +177,7 @@ pub enum Change {
     OutputCount(u16),
     First(usize, u16),
     Second(usize, u16),
-    Table(usize, u8),
+    Table(usize, u16),
     Output(usize, u16),
 }
 
@@ -209,7 +209,7 @@ pub fn faulty_changes(plan: &Plan) -> Vec<Change> {
         let g = usize::from(g);
         changes.extend([0, own, u16::MAX].map(|wire| Change::First(g, wire)));
         changes.extend([0, own, u16::MAX].map(|wire| Change::Second(g, wire)));
-        changes.extend([16, 255].map(|table| Change::Table(g, table)));
+        changes.extend([16, 255, 256, 264, u16::MAX].map(|table| Change::Table(g, table)));
     }
     for j in places(v, most_outputs) {
         let j = usize::from(j);
@@ -264,7 +264,7 @@ fn random_records(comparison: &mut Comparison, random: &mut Random) -> Outcome {
         for gate in &mut plan.gates {
             gate.first = random.between(0, most);
             gate.second = random.between(0, most);
-            gate.table = random.between(0, most.min(17)) as u8;
+            gate.table = random.between(0, most.min(17));
         }
         for output in &mut plan.outputs {
             *output = random.between(0, most);

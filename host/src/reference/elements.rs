@@ -183,7 +183,7 @@ pub fn bit(program: &[u8], p: usize) -> bool {
 }
 
 /// The gate action of rows that have no gate.
-pub fn no_gate<T>(_: u8, _: T, _: T) -> T {
+pub fn no_gate<T>(_: u16, _: T, _: T) -> T {
     panic!("a gate in a block without gates")
 }
 
@@ -195,7 +195,7 @@ pub fn run_rows<T: Copy>(
     program: &[u8],
     wires: &mut [T],
     mut made: usize,
-    gate: impl Fn(u8, T, T) -> T,
+    gate: impl Fn(u16, T, T) -> T,
 ) {
     let mut p = 0;
     for row in rows.chunks_exact(ROW_ENTRIES) {
@@ -208,7 +208,7 @@ pub fn run_rows<T: Copy>(
         match kind {
             Kind::X => wires[made..made + 2].copy_from_slice(&[chosen, other]),
             Kind::Y => wires[made] = chosen,
-            Kind::G => wires[made] = gate(bits(program, p, TABLE_BITS), left, right),
+            Kind::G => wires[made] = gate(bits(program, p, TABLE_BITS).into(), left, right),
         }
         made += kind.outputs();
         p += kind.bits();
@@ -225,7 +225,7 @@ impl<T: Copy + Default> Wires<T> {
         rows: &[u16],
         program: &[u8],
         before: &[T],
-        gate: impl Fn(u8, T, T) -> T,
+        gate: impl Fn(u16, T, T) -> T,
     ) -> Wires<T> {
         let kinds = rows.iter().step_by(ROW_ENTRIES);
         let made: usize = kinds
@@ -333,7 +333,7 @@ mod tests {
         assert_eq!(drawing.g(1, 2), 3);
         assert_eq!(drawing.finish(), 4);
         assert_eq!(rows, [2, 0, 1, 3, 1, 2]);
-        let gate = |table: u8, a: u16, b: u16| 100 * a + 10 * b + u16::from(table);
+        let gate = |table: u16, a: u16, b: u16| 100 * a + 10 * b + table;
         let wires = Wires::run(&rows, &[6 << 1], &[3, 5], gate);
         assert_eq!(wires.value(3), 500 + 30 + 6);
         let wires = Wires::run(&rows, &[8 << 1 | 1], &[3, 5], gate);

@@ -9,13 +9,13 @@ use crate::plan::{Gate, Plan};
 const HEADER: usize = 6;
 
 /// The highest map byte: one bit for each of a gate's three fields.
-const LAST_MAP: u8 = 7;
+const LAST_MAP: u16 = 7;
 
 /// The highest table: one bit for each pair of operand bits.
-const LAST_TABLE: u8 = 15;
+const LAST_TABLE: u16 = 15;
 
 /// The table of a gate whose file leaves it out: AND.
-const ABSENT_TABLE: u8 = 8;
+const ABSENT_TABLE: u16 = 8;
 
 /// Places for the wires of the largest plan, and place 0.
 const WIRES: usize = 1 + Plan::MAX_INPUTS + Plan::MAX_GATES;
@@ -86,9 +86,10 @@ impl Reader<'_> {
     }
 
     /// A field of one byte; `fault` at its place if it is above `most`.
-    fn byte(&mut self, most: u8, fault: Fault) -> Result<u8, Refusal> {
+    fn byte(&mut self, most: u16, fault: Fault) -> Result<u16, Refusal> {
         let at = self.at;
         let [byte] = self.field()?;
+        let byte = u16::from(byte);
         if byte > most {
             return Err(refusal(fault, at));
         }
@@ -237,8 +238,8 @@ fn wire_bits(plan: &Plan, row: &[u8]) -> [u8; WIRES] {
 }
 
 /// A gate's bit from its table and its operands' bits.
-pub fn gate_bit(table: u8, a: u8, b: u8) -> u8 {
-    table >> (2 * a + b) & 1
+pub fn gate_bit(table: u16, a: u8, b: u8) -> u8 {
+    (table >> (2 * a + b) & 1) as u8
 }
 
 #[cfg(test)]

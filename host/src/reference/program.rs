@@ -61,7 +61,7 @@ impl Operand {
 #[derive(Clone, Copy)]
 struct Gate {
     operands: [Operand; 2],
-    table: u8,
+    table: u16,
 }
 
 const UNUSED_GATE: Gate = Gate {

@@ -52,7 +52,7 @@ pub fn shaped_plan(random: &mut Random, counts: Counts, shape: PlanShape) -> Pla
         *gate = Gate {
             first,
             second,
-            table: random.byte() % 16,
+            table: random.between(0, 15),
         };
     }
     let lowest = match shape {

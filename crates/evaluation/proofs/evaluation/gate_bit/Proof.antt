@@ -7,6 +7,9 @@ use Rattle.evaluation.specs.Evaluation.{tableBit}
 use Rattle.evaluation.proofs.evaluation.gate_bit.Statement.{statement}
 use Rattle.evaluation.proofs.evaluation.gate_bit.Tie as tie
 
+small : tie.Need-cast-result-2
+small c = omega (arith, and-mask (c .args .table / 2 ^ (2 * c .args .a + c .args .b)) 1)
+
 bit : tie.Need-returns
 unfolding tableBit
 bit c =
@@ -14,4 +17,4 @@ bit c =
     (e, omega arith)
 
 pub gate-bit-spec : {M : Type 1} → statement M
-gate-bit-spec = tie.close (tie.spec (λ c. search needs) (λ c. search needs) (λ c. search needs) bit)
+gate-bit-spec = tie.close (tie.spec (λ c. search needs) (λ c. search needs) (λ c. search needs) (λ c. search needs) small bit)

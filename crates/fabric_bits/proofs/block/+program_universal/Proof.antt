@@ -39,6 +39,9 @@ calls t = (
   program-between-reads.Learnt,
 )
 
+place-fits : (t : ℕ) → program-universal-lts.Need-mul-store-table (calls t) (universal-at t) program-universal.Post
+place-fits t c = omega (arith, c .before .before .before .before .before .pre .1 .all)
+
 gate-there : (t : ℕ) → program-universal-lts.Need-shared-slice-read-store-table (calls t) (universal-at t) program-universal.Post
 gate-there t c =
     let s = c .before .before .before .before .before .before in
@@ -126,5 +129,5 @@ stored t c =
 pub +program-universal-spec : {M : Type 1} → statement M
 +program-universal-spec =
     close μ-program-universal λ t. program-universal-lts.spec (calls t) (universal-at t) program-universal.Post
-    (gate-there t) (λ c κs. search needs) (behind-gate t) (λ c. search needs) (table t) (for-upper t) (for-between t) (lower-base t)
+    (place-fits t) (gate-there t) (λ c κs. search needs) (behind-gate t) (λ c. search needs) (table t) (for-upper t) (for-between t) (lower-base t)
     (for-lower t) (λ c. search needs) (λ c. search needs) (stored t)

@@ -54,4 +54,4 @@ load-gates-spec =
     (tie.spec Inv-loop μ-loop
     (λ c κs. search needs) holds (λ c. search needs) (λ c. search needs) (λ c. search needs)
     (λ c. search needs) (λ c. search needs) (λ c. search needs) (λ c. search needs) (λ c. search needs) second-fits (λ c. search needs)
-    (λ c. search needs) (λ c. search needs) again (λ c. search needs) (λ c. search needs) all)
+    (λ c. search needs) (λ c. search needs) (λ c. search needs) again (λ c. search needs) (λ c. search needs) all)

@@ -23,6 +23,9 @@ abbrev μ-loop : tie.MeasureT-loop
 holds : tie.Need-loop-holds Inv-loop μ-loop
 holds c = let a = c .before .args in (omega arith, refl, store-none (a .program .now) (a .start) _)
 
+bit-fits : tie.Need-cast-store-bit-3 Inv-loop μ-loop
+bit-fits c = let at = c .before .before in omega (arith, bitOf-mask (at .loop .i) (at .before .before .args .table))
+
 again : tie.Need-loop-again Inv-loop μ-loop
 again c =
     let store = c .before .before .store-bit in
@@ -42,5 +45,5 @@ pub store-table-spec : {M : Type 1} → statement M
 store-table-spec =
     tie.close
     (tie.spec Inv-loop μ-loop
-    holds (λ c. search needs) (λ c. search needs) (λ c. search needs) (λ c. search needs) (λ c κs. search needs) (λ c. search needs) (λ c. search needs) again
+    holds (λ c. search needs) (λ c. search needs) (λ c. search needs) (λ c. search needs) bit-fits (λ c κs. search needs) (λ c. search needs) (λ c. search needs) again
     (λ c. search needs) all)

@@ -10,6 +10,7 @@ use mir.Facts.{fits-below}
 use lib.Dec.{lit≤}
 use borrow.Author.Needs.{needs}
 use Rattle.plan.specs.Record.{maxGates, maxOutputs, wire, zeroGate, gateWire}
+use Rattle.plan.specs.RecordLaws.{wire-fits}
 use Rattle.cursor.specs.Parsing.{got, followed}
 use Rattle.cursor.specs.Fields.{gateStep}
 use Rattle.cursor.specs.Answers.{outputAnswer}
@@ -69,7 +70,7 @@ no-gate c =
     let start = turn .before .before .before in
     let e =
     ap gateAnswer (sym (c .before .before .x .given .1)) ∙ met .read-gate .ensures
-    ∙ ap (λ w. gateStep w (start .args .file .now) (turn .loop .at .at)) (met .before .gate-wire .ensures) in
+    ∙ ap (λ w. gateStep w (start .args .file .now) (turn .loop .at .at)) (met .before .gate-wire .ensures ∙ wire-fits (start .pre .inputs) (within (met .before .before .loop-test .taken) (start .pre .gates))) in
     rw (c .refused-read .ensures)
     (ap outcome (gates-refused (start .args .header) _ _ _ _ (one-refused _ _ _ _ _ _ _ _ _ _ _ (met .before .before .loop-test .taken) (turn .loop .inv .3) e)))
 
@@ -80,7 +81,7 @@ again c =
     let start = turn .before .before .before in
     let e =
     ap gateAnswer (sym (c .before .gate .given .1)) ∙ met .read-gate .ensures
-    ∙ ap (λ w. gateStep w (start .args .file .now) (turn .loop .at .at)) (met .before .gate-wire .ensures) in
+    ∙ ap (λ w. gateStep w (start .args .file .now) (turn .loop .at .at)) (met .before .gate-wire .ensures ∙ wire-fits (start .pre .inputs) (within (met .before .before .loop-test .taken) (start .pre .gates))) in
     let taken = met .before .before .loop-test .taken in
     let same = turn .loop .inv .1 in (
       next-within taken,
@@ -170,8 +171,7 @@ read-body-spec =
     (tie.spec Inv-loop μ-loop Inv-loop2 μ-loop2
     (λ c. search needs) (λ c. search needs) (λ c κs. tt) holds
     -- a gate
-    (λ c κs. let s = c .before .before .before .before in (s .pre .inputs, within (c .loop-test .taken) (s .pre .gates)))
-    (λ c κs. tt) (λ c. search needs) (λ c κs. tt) no-gate (λ c. search needs)
+    (λ c κs. tt) (λ c κs. tt) (λ c. search needs) (λ c κs. tt) no-gate (λ c. search needs)
     (λ c. bytes-fit (gate-turn c .loop-test .taken) (gate-limit c .gates) 6 (lit≤ tt) (lit≤ tt))
     (λ c. within (gate-turn c .loop-test .taken) (gate-limit c .gates))
     (λ c. next-fits (gate-turn c .loop-test .taken) (gate-limit c .gates) (lit≤ tt)) (λ c. fewer-left (gate-turn c .loop-test .taken)) again

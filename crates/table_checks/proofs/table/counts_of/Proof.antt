@@ -1,5 +1,6 @@
 -- `table_checks::table::counts_of` meets its contract, kind by kind. Assumes nothing.
 use native.Mathlib.Omega.{arith}
+use borrow.Author.Needs.{needs}
 use Rattle.networks.specs.Rows.{makes, takes}
 use Rattle.table_checks.specs.CountingLaws.{kind-x, kind-y, kind-g}
 use Rattle.table_checks.proofs.table.counts_of.Statement.{statement}
@@ -20,4 +21,4 @@ of-g c =
     record { wires = rw is; bits = rw is; fewWires = omega arith; fewBits = omega arith }
 
 pub counts-of-spec : {M : Type 1} → statement M
-counts-of-spec = tie.close (tie.spec of-x of-y of-g)
+counts-of-spec = tie.close (tie.spec of-x of-y (λ c. search needs) of-g)
