@@ -7,7 +7,8 @@ use native.Mathlib.Numerals.{add-one}
 use lib.ListN.{length, getD, set, length-append}
 use Rattle.lists.specs.Lists.{listOf}
 use Rattle.plan.specs.declared.record.Plan.{Plan}
-use Rattle.plan.specs.Record.{maxInputs, maxGates, maxOutputs, places, gateAt, outputAt, gateWire}
+use Rattle.plan.specs.declared.record.PlanWire.{PlanWire}
+use Rattle.plan.specs.Record.{maxInputs, maxGates, maxOutputs, wire, places, gateAt, outputAt, gateWire}
 use Rattle.plan.specs.RecordLaws.{places-more, getD-places}
 use Rattle.plan.specs.Faults.{Accepted}
 use Rattle.plan.specs.FaultsLaws.{GateWithin, accepted-counts, accepted-gate, accepted-output}
@@ -48,13 +49,16 @@ pub record GateRoom (p : Plan) (i : ℕ) : Type 0 where
   pub upTo : gateWire (p .inputs) i ≤ maxPlanWires
 
 -- where output j of an accepted plan and its wire stand
-pub record OutputRoom (p : Plan) (j : ℕ) : Type 0 where
+pub record OutputRoom (outputs : List PlanWire) (j : ℕ) : Type 0 where
   pub place : j < maxOutputs
-  pub someWire : 1 ≤ outputAt p j .0
-  pub upTo : outputAt p j .0 ≤ maxPlanWires
+  pub someWire : 1 ≤ getD outputs j (wire 0) .0
+  pub upTo : getD outputs j (wire 0) .0 ≤ maxPlanWires
 
-pub output-room : (p : Plan) → Accepted p → (j : ℕ) → j < p .«output_count» → OutputRoom p j
-output-room p accepted j h =
+abbrev pub OutputsRoom : ℕ → List PlanWire → Type 0
+OutputsRoom count outputs = (j : ℕ) → j < count → OutputRoom outputs j
+
+pub outputs-room : (p : Plan) → Accepted p → OutputsRoom (p .«output_count») (p .outputs)
+outputs-room p accepted j h =
     let c = accepted-counts p accepted in
     let o = accepted-output p accepted j h in
     record { place = omega arith; someWire = omega arith; upTo = omega arith }

@@ -1,15 +1,15 @@
 // Plan evaluation: what an accepted plan gives on a row of inputs. Checks come first and touch no buffer.
 ghost use mathlib.Core.Path.{_≡_};
 ghost use Prim.Native.Nat.{_-_, _≤_};
-ghost use lib.ListN.{length};
+ghost use lib.ListN.{length, getD};
+ghost use Rattle.lists.specs.Lists.{listOf};
 ghost use Rattle.fault.specs.Number.{answerNumber};
 ghost use Rattle.fault.specs.Buffers.{over};
-ghost use Rattle.plan.specs.Record.{places};
-ghost use Rattle.plan.specs.Faults.{Accepted};
+ghost use Rattle.plan.specs.Record.{wire, places};
 ghost use Rattle.evaluation_checks.specs.EvaluationChecks.{evaluateFault};
 ghost use Rattle.evaluation_checks.specs.EvaluationChecksLaws.{Evaluable};
-ghost use Rattle.evaluation.specs.Evaluation.{tableBit, gateBit, planWires, namedBy, evaluateResult};
-ghost use Rattle.evaluation.specs.EvaluationLaws.{maxPlanWires};
+ghost use Rattle.evaluation.specs.Evaluation.{valueOn, tableBit, gateBit, planWires, evaluateResult};
+ghost use Rattle.evaluation.specs.EvaluationLaws.{maxPlanWires, OutputsRoom};
 use evaluation_checks::check_evaluate;
 use fault::Answer;
 use plan::Plan;
@@ -26,7 +26,8 @@ pub fn evaluate(plan: Plan, row: &[u8], result: &mut [u8]) -> Answer
     match check_evaluate(plan, row, result.len()) {
         Answer::Refused(f) => Answer::Refused(f),
         Answer::Done => {
-            write_outputs(plan, gate_wires(plan, row), result);
+            let outputs = plan.outputs;
+            write_outputs(plan.output_count, outputs, gate_wires(plan, row), result);
             Answer::Done
         }
     }
@@ -81,16 +82,21 @@ fn gate_wires(plan: Plan, row: &[u8]) -> [u8; MAX_PLAN_WIRES]
     wires
 }
 
-// The bits on the wires that the outputs name, into the first entries of the result.
-fn write_outputs(plan: Plan, wires: [u8; MAX_PLAN_WIRES], result: &mut [u8])
-    requires { ⌜ Accepted plan ⌝ }
-    requires { ⌜ plan .«output_count» ≤ length (now result) ⌝ }
-    ensures { λ _. ⌜ now (result .exit) ≡ over (namedBy 0 plan wires (plan .«output_count»)) (now (result .entry)) ⌝ }
+// The bits on the wires that so many outputs name, into the first entries of the result.
+fn write_outputs(
+    count: u16,
+    outputs: [PlanWire; Plan::MAX_OUTPUTS],
+    wires: [u8; MAX_PLAN_WIRES],
+    result: &mut [u8],
+)
+    requires { ⌜ OutputsRoom count outputs ⌝ }
+    requires { ⌜ count ≤ length (now result) ⌝ }
+    ensures { λ _. ⌜ now (result .exit) ≡ over (listOf count (λ j. valueOn 0 wires (getD outputs j (wire 0)))) (now (result .entry)) ⌝ }
 {
-    let count = plan.output_count as usize;
+    let end = count as usize;
     let mut i: usize = 0;
-    while i < count {
-        let wire = plan.outputs[i];
+    while i < end {
+        let wire = outputs[i];
         result[i] = wires[place_of(wire)];
         i += 1;
     }

@@ -41,7 +41,11 @@ pub fn store_table(table: u16, program: &mut [u8], start: u32)
 {
     let mut i: u32 = 0;
     while i < GATE_BITS {
-        store_bit(program, start as usize + i as usize, ((table >> i) & 1) as u8);
+        store_bit(
+            program,
+            start as usize + i as usize,
+            ((table >> i) & 1) as u8,
+        );
         i += 1;
     }
 }

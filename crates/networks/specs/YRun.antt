@@ -63,7 +63,7 @@ module _ {A : Type 0} (none : A) (gate : ℕ → List ℕ → List A → A) wher
       let w : ℕ = length (s .wires) in
       let t : State A = runY j f g s in
       let bit : getD (t .bits) 0 0 ≡ getD (s .bits) j 0 =
-          ap (λ (b : List ℕ). getD b 0 0) (runY-left j f g s) ∙ getD-drop j (s .bits) 0 0 ∙ ap (λ i. getD (s .bits) i 0) (add-zero j) in
+      ap (λ (b : List ℕ). getD b 0 0) (runY-left j f g s) ∙ getD-drop j (s .bits) 0 0 ∙ ap (λ i. getD (s .bits) i 0) (add-zero j) in
       run-first none gate (λ i. Y (f i) (g i)) k s l (w + j) (omega (arith, runY-made (suc j) f g s))
       ∙ ap (λ (x : State A). on none x (w + j)) (runY-more j f g s)
       ∙ ap (on none (run none gate (Y (f j) (g j) ∷ []) t)) (omega (arith, runY-made j f g s))

@@ -1,7 +1,11 @@
 // Plan faults: for any record in memory `plan_fault` says, with proof, whether it is an accepted plan. Unused places are not looked at.
 ghost use mathlib.Core.Path.{_≡_};
+ghost use Prim.Native.Nat.{_≤_};
+ghost use lib.ListN.{getD};
 ghost use Rattle.fault.specs.Number.{answerNumber};
-ghost use Rattle.plan.specs.Faults.{countsFault, gateFault, gatesFault, outputsFault, planFault};
+ghost use Rattle.fault.specs.Checks.{firstOf};
+ghost use Rattle.plan.specs.Record.{maxOutputs, wire};
+ghost use Rattle.plan.specs.Faults.{countsFault, gateFault, outputFault, gatesFault, planFault};
 ghost use Rattle.plan.specs.FaultsLaws.{CountsWithin};
 use fault::Answer;
 use fault::Fault;
@@ -26,7 +30,10 @@ pub fn plan_fault(plan: Plan) -> Answer
         Answer::Refused(f) => Answer::Refused(f),
         Answer::Done => match gates_fault(plan) {
             Answer::Refused(f) => Answer::Refused(f),
-            Answer::Done => outputs_fault(plan),
+            Answer::Done => {
+                let outputs = plan.outputs;
+                outputs_fault(plan.inputs, plan.gate_count, plan.output_count, outputs)
+            }
         },
     }
 }
@@ -84,17 +91,20 @@ fn gate_fault(own: PlanWire, gate: Gate) -> Answer
     Answer::Done
 }
 
-// The first fault of the outputs.
-fn outputs_fault(plan: Plan) -> Answer
-    requires { ⌜ CountsWithin (plan .inputs) (plan .«gate_count») (plan .«output_count») ⌝ }
-    ensures { λ r. ⌜ answerNumber r ≡ outputsFault plan (plan .«output_count») ⌝ }
+// The first fault of so many outputs of a plan with so many inputs and gates. It takes the outputs alone: they are a small part of the record.
+fn outputs_fault(
+    inputs: u16,
+    gates: u16,
+    count: u16,
+    outputs: [PlanWire; Plan::MAX_OUTPUTS],
+) -> Answer
+    requires { ⌜ count ≤ maxOutputs ⌝ }
+    ensures { λ r. ⌜ answerNumber r ≡ firstOf (λ j. outputFault inputs gates (getD outputs j (wire 0) .0)) count ⌝ }
 {
-    let inputs = plan.inputs;
-    let gates = plan.gate_count;
-    let count = plan.output_count as usize;
+    let end = count as usize;
     let mut i: usize = 0;
-    while i < count {
-        let wire = plan.outputs[i];
+    while i < end {
+        let wire = outputs[i];
         if !source_allowed(inputs, gates, wire) {
             return Answer::Refused(Fault::Source);
         }

@@ -5,18 +5,20 @@ use Prim.Native.Nat.{_≤_, _-_}
 use native.Mathlib.Numerals.{add-one}
 use borrow.Author.Needs.{needs}
 use borrow.Author.Tests.{not-true, not-false}
+use lib.ListN.{getD}
 use Rattle.fault.specs.declared.Fault.{Fault}
 use Rattle.fault.specs.Checks.{unless, firstOf}
 use Rattle.fault.specs.ChecksLaws.{first-passes, first-fails}
-use Rattle.plan.specs.Faults.{outputFault, outputsFault}
+use Rattle.plan.specs.Record.{wire}
+use Rattle.plan.specs.Faults.{outputFault}
 use Rattle.plan_faults.proofs.outputs_fault.Statement.{statement}
 use Rattle.plan_faults.proofs.outputs_fault.Tie as tie
 
 abbrev Inv-loop : tie.InvT-loop
-Inv-loop plan inputs gates count i₀ i = (i ≤ count) × (outputsFault plan i ≡ 0)
+Inv-loop inputs gates count outputs end i₀ i = (i ≤ end) × (firstOf (λ j. outputFault inputs gates (getD outputs j (wire 0) .0)) i ≡ 0)
 
 abbrev μ-loop : tie.MeasureT-loop
-μ-loop plan inputs gates count i₀ i = count - i
+μ-loop inputs gates count outputs end i₀ i = end - i
 
 holds : tie.Need-loop-holds Inv-loop μ-loop
 unfolding firstOf
@@ -41,12 +43,12 @@ again c =
 none : tie.Need-returns-2 Inv-loop μ-loop
 none c =
     let loop = c .before .loop in
-    let all : loop .i ≡ c .before .before .args .t1 .«output_count» = omega arith in
+    let all : loop .i ≡ c .before .before .args .count = omega arith in
     rw (← all) (sym (loop .inv .1))
 
 pub outputs-fault-spec : {M : Type 1} → statement M
 outputs-fault-spec =
     tie.close
     (tie.spec Inv-loop μ-loop
-    (λ c. search needs) holds (λ c. search needs) (λ c. search needs) (λ c κs. search needs) found
+    holds (λ c. search needs) (λ c. search needs) (λ c κs. search needs) found
     (λ c. search needs) (λ c. search needs) again none)

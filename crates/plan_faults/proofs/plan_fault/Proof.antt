@@ -14,8 +14,8 @@ for-gates c κs =
 
 for-outputs : tie.Need-outputs-fault-requires
 for-outputs c κs =
-    let met = c .before .before .before in
-    counts-within _ _ _ (sym (ap answerNumber (sym (met .enum-told .given .1)) ∙ met .before .before .counts-fault .ensures))
+    let met = c .before .before .before .before in
+    counts-within _ _ _ (sym (ap answerNumber (sym (met .enum-told .given .1)) ∙ met .before .before .counts-fault .ensures)) .outputs
 
 counts : tie.Need-returns
 unfolding planFault
@@ -34,7 +34,7 @@ gates c =
 outputs : tie.Need-returns-3
 unfolding planFault
 outputs c =
-    let met₂ = c .before in
+    let met₂ = c .before .before in
     let met₁ = met₂ .before .before .before in
     second-answers _ _ _ (ap answerNumber (sym (met₁ .enum-told .given .1)) ∙ met₁ .before .before .counts-fault .ensures)
     (second-answers _ _ _ (ap answerNumber (sym (met₂ .enum-told2 .given .1)) ∙ met₂ .before .before .gates-fault .ensures)

@@ -8,7 +8,7 @@ use Rattle.fault.specs.BuffersLaws.{filled-refused, filled-done}
 use Rattle.evaluation_checks.specs.EvaluationChecks.{evaluateFault}
 use Rattle.evaluation.specs.Evaluation.{namedBy}
 use Rattle.evaluation_checks.specs.EvaluationChecksLaws.{evaluation-passes}
-use Rattle.evaluation.specs.EvaluationLaws.{named-places}
+use Rattle.evaluation.specs.EvaluationLaws.{outputs-room, named-places}
 use Rattle.evaluation.proofs.evaluation.evaluate.Statement.{statement}
 use Rattle.evaluation.proofs.evaluation.evaluate.Tie as tie
 
@@ -17,12 +17,12 @@ none : (c : tie.After-enum-told) → let a = c .before .before .before .before .
 none c = ap answerNumber (sym (c .enum-told .given .1)) ∙ c .before .before .check-evaluate .ensures
 
 for-wires : tie.Need-gate-wires-requires
-for-wires c κs = evaluation-passes _ _ _ (sym (none c)) .evaluable
+for-wires c κs = evaluation-passes _ _ _ (sym (none (c .before))) .evaluable
 
 for-outputs : tie.Need-write-outputs-requires
 for-outputs c κs =
-    let h = evaluation-passes _ _ _ (sym (none (c .before .before))) in
-    (h .evaluable .accepted, h .room)
+    let h = evaluation-passes _ _ _ (sym (none (c .before .before .before))) in
+    (outputs-room _ (h .evaluable .accepted), h .room)
 
 refused : tie.Need-returns
 refused c =
@@ -31,7 +31,7 @@ refused c =
 
 done : tie.Need-returns-2
 done c =
-    let told = c .before .before .before .before .before in
+    let told = c .before .before .before .before .before .before in
     let a = told .before .before .before .before .before .args in
     let old = a .result .now in
     let written =
