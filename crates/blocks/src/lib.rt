@@ -2,11 +2,11 @@
 // relay-card maker by itself, with the crates under it. Every call takes all inputs, refuses by document 01's numbers in its order, and on a
 // refusal changes no buffer.
 pub use elements::FabricWire;
-pub use elements::read_bit;
-pub use elements::store_bit;
 pub use permutation_bits::program_permutation;
 pub use permutation_bits::program_permutation_at;
 pub use permutation_rows::write_permutation;
+pub use program_bits::read_bit;
+pub use program_bits::store_bit;
 pub use selection_bits::program_selection;
 pub use selection_bits::program_selection_at;
 pub use selection_rows::write_selection;

@@ -1,4 +1,4 @@
--- Wires, rows and program bits in lent buffers, as document 01 has them: the definitions of the calls.
+-- Wires and rows in lent buffers, as document 01 has them: the definitions of the calls.
 -- wires in a list of 16-bit entries
 pub mod Wires
 -- rows in a table of 16-bit entries
@@ -11,5 +11,3 @@ pub mod RowsLaws
 pub mod ChecksLaws
 -- a part of a list whose place is clamped to the list's length
 pub mod ClampLaws
--- storing bits one after another, in any order, and in a part of the bytes
-pub mod StoreLaws

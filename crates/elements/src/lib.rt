@@ -1,12 +1,7 @@
-// The elements X, Y and G in lent buffers: wires, rows of the table, program bits. Every call takes all inputs: what does not fit is not
-// stored.
-mod bits;
+// The elements X, Y and G in lent buffers: wires and rows of the table. Every call takes all inputs: what does not fit is not stored.
 mod rows;
 mod wires;
 
-pub use bits::fill_bytes;
-pub use bits::read_bit;
-pub use bits::store_bit;
 pub use rows::GATE_BITS;
 pub use rows::HEADER;
 pub use rows::KIND_G;
@@ -20,6 +15,5 @@ pub use wires::FabricWire;
 pub use wires::MAX_WIRES;
 pub use wires::copy_wires;
 pub use wires::put_wires;
-pub use wires::smaller;
 pub use wires::wide;
 pub use wires::wire_at;

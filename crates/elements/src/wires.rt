@@ -1,9 +1,10 @@
 // Wires of a fabric. A single wire is a `FabricWire`, never a plan's wire. Lists of them in lent buffers are 16-bit entries.
 ghost use mathlib.Core.Path.{_≡_};
-ghost use Prim.Native.Nat.{_+_, _%_, _^_, _<_, min};
+ghost use Prim.Native.Nat.{_+_, _%_, _^_, _<_};
 ghost use lib.ListN.{length, getD, take};
 ghost use Rattle.fault.specs.Buffers.{over};
 ghost use Rattle.elements.specs.Wires.{maxWires, wiresPut};
+use program_bits::smaller;
 
 // The wires of the largest fabric: 0 to 65,535.
 pub const MAX_WIRES: usize = 65_536;
@@ -62,14 +63,4 @@ pub fn wide(x: u16) -> usize
     ensures { λ r. ⌜ (r ≡ x) × (r < maxWires) ⌝ }
 {
     x as usize
-}
-
-// The smaller of two numbers.
-pub fn smaller(a: usize, b: usize) -> usize
-    ensures { λ r. ⌜ r ≡ min a b ⌝ }
-{
-    if a < b {
-        return a;
-    }
-    b
 }

@@ -16,7 +16,6 @@ ghost use Rattle.gate_lists.specs.GateLists.{inputsWanted};
 ghost use Rattle.fabric_bits.specs.ProgramParts.{bitLimit, gatesProgram, GatesRoom};
 use crate::block::program_universal;
 use crate::block::store_selection;
-use elements::fill_bytes;
 use fabric_checks::check_program;
 use fabric_sizes::MAX_PINS;
 use fabric_sizes::gate_places;
@@ -26,6 +25,7 @@ use gate_lists::list_inputs;
 use gate_lists::list_outputs;
 use gate_lists::load_gates;
 use plan::Plan;
+use program_bits::fill_bytes;
 
 // The program of the plan, from the front of `program`. Spare bits of its last byte are 0.
 pub fn program_plan(plan: Plan, program: &mut [u8]) -> Answer

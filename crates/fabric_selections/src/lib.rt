@@ -6,8 +6,8 @@ ghost use Rattle.selection_rows.specs.WriteCalls.{selectionWrittenRows, selecti
 ghost use Rattle.fabric_selections.specs.Copied.{outputsPut};
 use elements::FabricWire;
 use elements::copy_wires;
-use elements::smaller;
 use plan::Plan;
+use program_bits::smaller;
 use selection_rows::write_selection;
 
 // S(m, n) on the first m wires of a list: its rows to the front of the table's part, its output wires to the front of `to`.

@@ -4,9 +4,9 @@ ghost use Rattle.networks.specs.Bits.{storeBits};
 ghost use Rattle.universal.specs.Universal.{tableProgram};
 ghost use Rattle.gate_lists.specs.GateLists.{LoadedCount, loadedPins, loadedTables};
 use elements::GATE_BITS;
-use elements::smaller;
-use elements::store_bit;
 use plan::Plan;
+use program_bits::smaller;
+use program_bits::store_bit;
 
 // The operands of the plan's gates, and their tables, from the front of two lists, as far as the record and the lists have places. What stands
 // behind them stays.

@@ -10,10 +10,10 @@ ghost use Rattle.networks.specs.Counting.{oneIf};
 ghost use Rattle.universal.specs.Universal.{wantedGates, mixBits};
 ghost use Rattle.universal.specs.Fabric.{wantedInput, wantedOutputs};
 ghost use Rattle.gate_lists.specs.GateLists.{pinsIn, isAmong, wantedAmong, inputsWanted};
-use elements::smaller;
-use elements::store_bit;
 use plan::Plan;
 use plan::PlanWire;
+use program_bits::smaller;
+use program_bits::store_bit;
 
 // The inputs that the first `count` pins want, at the front of `wanted`, as far as it has places.
 pub fn list_inputs(inputs: u16, count: u32, pins: &[u16], wanted: &mut [u16])

@@ -18,7 +18,7 @@ use Rattle.lists.specs.Lists.{listOf}
 use Rattle.loops.specs.Mappings.{mapOf, IsPerm, inverseOf, listBits, inputSides, outputSides, halfList, inverseList, sidesOf, Levelled}
 use Rattle.loops.specs.MappingsLaws.{half-size, half-listed, level-bits, length-listBits, listBits-bits, sides-bits}
 use Rattle.loops.specs.Levels.{LevelRoom, BlockRoom, HalfRoom}
-use Rattle.elements.specs.StoreLaws.{store-level}
+use Rattle.program_bits.specs.StoreLaws.{store-level}
 
 -- a block that has halves
 pub record Halving (level N : ℕ) : Type 0 where

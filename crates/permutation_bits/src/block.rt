@@ -9,7 +9,7 @@ ghost use Rattle.sizes.specs.SizesLaws.{CountIs};
 ghost use Rattle.loops.specs.Mappings.{IsPerm, listBits};
 ghost use Rattle.loops.specs.Levels.{BlockRoom, HalfRoom};
 use crate::level::program_level;
-use elements::store_bit;
+use program_bits::store_bit;
 use sizes::permutation_count;
 
 // The program bits of P(2 ^ level) for the mapping `perm`, from bit `start` on. `scratch` and `mark` are room to work in, and `perm` is

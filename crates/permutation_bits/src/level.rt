@@ -9,8 +9,8 @@ ghost use Rattle.sizes.specs.Sizes.{maxSize};
 ghost use Rattle.loops.specs.Mappings.{IsPerm, inverseList, sidesOf, inputSides, outputSides, rowsStored, halfList, Levelled};
 ghost use Rattle.loops.specs.Levels.{LevelRoom, SidesKnown};
 use crate::marking::mark_sides;
-use elements::store_bit;
 use elements::wide;
+use program_bits::store_bit;
 
 // One level for the mapping `perm`, from bit `start` on, where each half has `part` rows. `scratch` and `mark` are room to work in.
 pub(crate) fn program_level(

@@ -6,8 +6,8 @@ ghost use Rattle.networks.specs.Permutation.{partner};
 ghost use Rattle.sizes.specs.Sizes.{maxSize};
 ghost use Rattle.loops.specs.Mappings.{Paired, walkIn, sideList};
 ghost use Rattle.loops.specs.Marking.{unmarked, pairMarked, startOf, Leads, Traced, Visited};
-use elements::fill_bytes;
 use elements::wide;
+use program_bits::fill_bytes;
 
 // The mark of an output that no walk has reached yet; 0 is the upper half, 1 the lower.
 const UNMARKED: u8 = 2;

@@ -14,9 +14,9 @@ ghost use Rattle.run.specs.RunRows.{Runnable, RowRoom, OutputRoom, outpu
 use elements::FabricWire;
 use elements::KIND_X;
 use elements::KIND_Y;
-use elements::read_bit;
 use elements::wide;
 use fault::Answer;
+use program_bits::read_bit;
 use run_checks::check_run;
 use table_checks::INPUTS;
 use table_checks::OUTPUTS;

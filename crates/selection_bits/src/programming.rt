@@ -5,8 +5,8 @@ ghost use Rattle.fault.specs.Number.{answerNumber};
 ghost use Rattle.wanted_checks.specs.Checks.{selectionProgramFault, selectionProgramAtFault};
 ghost use Rattle.selection_bits.specs.ProgramCalls.{selectionProgramResult, selectionProgramAtResult};
 use crate::program::store_program;
-use elements::fill_bytes;
 use fault::Answer;
+use program_bits::fill_bytes;
 use sizes::selection_count;
 use wanted_checks::check_selection;
 

@@ -14,8 +14,8 @@ use elements::Kind;
 use elements::put_pairs;
 use elements::put_row;
 use elements::put_wires;
-use elements::smaller;
 use elements::wire_at;
+use program_bits::smaller;
 
 // U(1), which is G: its row on the first two pins, and its output wire.
 pub fn write_gate(next: FabricWire, rows: &mut [u16], pins: &[u16], outs: &mut [u16])

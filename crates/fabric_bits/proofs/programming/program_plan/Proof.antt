@@ -8,7 +8,7 @@ use lib.ListN.{length}
 use Rattle.fault.specs.Number.{answerNumber}
 use Rattle.fault.specs.BuffersLaws.{filled-refused, filled-done}
 use Rattle.networks.specs.Bits.{bytesFor, storeBits}
-use Rattle.elements.specs.StoreLaws.{store-zeroed, bytes-filled}
+use Rattle.program_bits.specs.StoreLaws.{store-zeroed, bytes-filled}
 use Rattle.universal.specs.Fabric.{planBits, planProgram}
 use Rattle.universal.specs.FabricLaws.{length-planBits}
 use Rattle.fabric_checks.specs.FabricChecks.{planProgramFault}

@@ -8,7 +8,7 @@ use Rattle.lists.specs.Lists.{listOf}
 use Rattle.networks.specs.Bits.{bitOf, storeBits}
 use Rattle.networks.specs.Rows.{gateBits}
 use Rattle.networks.specs.BitsLaws.{bitOf-mask}
-use Rattle.elements.specs.StoreLaws.{store-none, store-step}
+use Rattle.program_bits.specs.StoreLaws.{store-none, store-step}
 use Rattle.universal.specs.Universal.{tableProgram}
 use Rattle.gate_lists.proofs.gates.store_table.Statement.{statement}
 use Rattle.gate_lists.proofs.gates.store_table.Tie as tie

@@ -9,7 +9,7 @@ use Rattle.lists.specs.Lists.{listOf}
 use Rattle.networks.specs.Bits.{storeBits}
 use Rattle.networks.specs.Counting.{oneIf}
 use Rattle.networks.specs.CountingLaws.{one-lt}
-use Rattle.elements.specs.StoreLaws.{store-none, store-step}
+use Rattle.program_bits.specs.StoreLaws.{store-none, store-step}
 use Rattle.universal.specs.Universal.{isOf, mixBits}
 use Rattle.gate_lists.specs.GateLists.{pinsIn}
 use Rattle.gate_lists.specs.GateListsLaws.{among-gates}

@@ -7,7 +7,7 @@ use lib.ListN.{length, getD, length-set}
 use lib.Seq.{sets}
 use Rattle.lists.specs.Lists.{listOf}
 use Rattle.loops.specs.Mappings.{halfEntry}
-use Rattle.elements.specs.StoreLaws.{set-none, set-step}
+use Rattle.program_bits.specs.StoreLaws.{set-none, set-step}
 use Rattle.permutation_bits.proofs.level.half_map.Statement.{statement}
 use Rattle.permutation_bits.proofs.level.half_map.Tie as tie
 

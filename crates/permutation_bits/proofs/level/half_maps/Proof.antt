@@ -6,7 +6,7 @@ use lib.ListN.{length}
 use lib.Seq.{sets}
 use Rattle.lists.specs.ListsLaws.{length-listOf}
 use Rattle.loops.specs.Mappings.{halfList, halfEntry}
-use Rattle.elements.specs.StoreLaws.{sets-halves}
+use Rattle.program_bits.specs.StoreLaws.{sets-halves}
 use Rattle.permutation_bits.proofs.level.half_maps.Statement.{statement}
 use Rattle.permutation_bits.proofs.level.half_maps.Tie as tie
 

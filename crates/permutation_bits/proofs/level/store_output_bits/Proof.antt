@@ -7,7 +7,7 @@ use lib.ListN.{length}
 use Rattle.lists.specs.Lists.{listOf}
 use Rattle.networks.specs.Bits.{storeBits}
 use Rattle.loops.specs.Mappings.{outputSide}
-use Rattle.elements.specs.StoreLaws.{store-none, store-step}
+use Rattle.program_bits.specs.StoreLaws.{store-none, store-step}
 use Rattle.permutation_bits.proofs.level.store_output_bits.Statement.{statement}
 use Rattle.permutation_bits.proofs.level.store_output_bits.Tie as tie
 

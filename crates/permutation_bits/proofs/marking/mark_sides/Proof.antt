@@ -4,7 +4,7 @@ use mathlib.Core.Path.{sym, _∙_}
 use Prim.Native.Nat.{_-_, _≤_}
 use native.Mathlib.Omega.{arith}
 use borrow.Author.Needs.{needs}
-use Rattle.elements.specs.StoreLaws.{bytes-filled}
+use Rattle.program_bits.specs.StoreLaws.{bytes-filled}
 use Rattle.loops.specs.MarkingLaws.{filled-whole, Swept, swept-none, swept-more, swept-all, start-below, leads}
 use Rattle.permutation_bits.proofs.marking.mark_sides.Statement.{statement}
 use Rattle.permutation_bits.proofs.marking.mark_sides.Tie as tie

@@ -11,7 +11,7 @@ use Rattle.networks.specs.Bits.{bytesFor, storeBits}
 use Rattle.networks.specs.Wanted.{wantedBits}
 use Rattle.networks.specs.WantedLaws.{length-wantedBits}
 use Rattle.sizes.specs.Sizes.{levelOf}
-use Rattle.elements.specs.StoreLaws.{store-zeroed, bytes-filled}
+use Rattle.program_bits.specs.StoreLaws.{store-zeroed, bytes-filled}
 use Rattle.wanted_checks.specs.Checks.{programAtFault}
 use Rattle.wanted_checks.specs.ChecksLaws.{ProgramPasses, program-passes, fault-at, few-bits}
 use Rattle.permutation_bits.proofs.programming.program_permutation.Statement.{statement}

@@ -10,7 +10,7 @@ use lib.Seq.{length-take-le}
 use Rattle.networks.specs.Bits.{storeBits}
 use Rattle.networks.specs.Wanted.{wantedBits}
 use Rattle.sizes.specs.Sizes.{maxSize, levelOf}
-use Rattle.elements.specs.StoreLaws.{store-part}
+use Rattle.program_bits.specs.StoreLaws.{store-part}
 use Rattle.loops.specs.Mappings.{listBits}
 use Rattle.wanted_checks.specs.ChecksLaws.{few-bits}
 use Rattle.permutation_bits.specs.ProgramLaws.{front-perm, front-bits}

@@ -7,7 +7,7 @@ use lib.ListN.{length, getD}
 use Rattle.lists.specs.Lists.{listOf}
 use Rattle.networks.specs.Bits.{storeBits}
 use Rattle.networks.specs.CountingLaws.{one-lt}
-use Rattle.elements.specs.StoreLaws.{store-none, store-step}
+use Rattle.program_bits.specs.StoreLaws.{store-none, store-step}
 use Rattle.selection_bits.specs.Arrays.{isCounted, chainBit}
 use Rattle.selection_bits.proofs.program.store_chain.Statement.{statement}
 use Rattle.selection_bits.proofs.program.store_chain.Tie as tie

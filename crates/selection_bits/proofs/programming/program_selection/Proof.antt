@@ -10,7 +10,7 @@ use Rattle.fault.specs.BuffersLaws.{filled-refused, filled-done}
 use Rattle.networks.specs.Bits.{bytesFor, storeBits}
 use Rattle.networks.specs.Selection.{selectionBits}
 use Rattle.networks.specs.SelectionRouting.{length-selectionBits}
-use Rattle.elements.specs.StoreLaws.{store-zeroed, bytes-filled}
+use Rattle.program_bits.specs.StoreLaws.{store-zeroed, bytes-filled}
 use Rattle.wanted_checks.specs.Checks.{selectionProgramAtFault}
 use Rattle.wanted_checks.specs.ChecksLaws.{SelectionPasses, selection-program-passes, selection-fault-at, few-selection-bits}
 use Rattle.selection_bits.proofs.programming.program_selection.Statement.{statement}

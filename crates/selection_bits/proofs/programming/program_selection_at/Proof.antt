@@ -9,8 +9,8 @@ use lib.ListN.{length}
 use Rattle.fault.specs.Number.{answerNumber}
 use Rattle.networks.specs.Bits.{storeBits}
 use Rattle.networks.specs.Selection.{selectionBits}
+use Rattle.program_bits.specs.StoreLaws.{store-part}
 use Rattle.elements.specs.ChecksLaws.{stored-refused, stored-done}
-use Rattle.elements.specs.StoreLaws.{store-part}
 use Rattle.wanted_checks.specs.Checks.{selectionProgramAtFault}
 use Rattle.wanted_checks.specs.ChecksLaws.{SelectionPasses, selection-program-passes}
 use Rattle.selection_bits.specs.SelectionProgramLaws.{passes-in-part}

@@ -1,10 +1,10 @@
-// One program bit: bit p lies in byte p div 8 at place p mod 8, place 0 lowest. Read and stored by shift and mask, at any p.
+// Program bits in lent bytes: bit p lies in byte p div 8 at place p mod 8, place 0 lowest, and is read and stored by shift and mask. Every call
+// takes all inputs: what does not fit is not stored.
 ghost use mathlib.Core.Path.{_≡_};
 ghost use Prim.Native.Nat.{_%_, _<_, min};
 ghost use lib.ListN.{length, replicate};
 ghost use Rattle.fault.specs.Buffers.{over};
 ghost use Rattle.networks.specs.Bits.{withBit, bitAt, setBit};
-use crate::wires::smaller;
 
 // Bit p of the program, 0 past its end.
 pub fn read_bit(program: &[u8], p: usize) -> u8
@@ -46,4 +46,14 @@ pub fn fill_bytes(bytes: &mut [u8], count: usize, b: u8)
         bytes[i] = b;
         i += 1;
     }
+}
+
+// The smaller of two numbers.
+pub fn smaller(a: usize, b: usize) -> usize
+    ensures { λ r. ⌜ r ≡ min a b ⌝ }
+{
+    if a < b {
+        return a;
+    }
+    b
 }

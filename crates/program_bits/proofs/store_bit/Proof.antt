@@ -1,4 +1,4 @@
--- `elements::bits::store_bit` meets its contract: its byte gets the bit, and past the end nothing changes. Assumes nothing.
+-- `program_bits::store_bit` meets its contract: its byte gets the bit, and past the end nothing changes. Assumes nothing.
 use mathlib.Core.Path.{sym, ap}
 use Prim.Native.Nat.{_/_}
 use native.Mathlib.Omega.{arith}
@@ -6,8 +6,8 @@ use borrow.Author.Needs.{needs}
 use lib.ListN.{set}
 use Rattle.networks.specs.Bits.{setBit}
 use Rattle.networks.specs.BitsLaws.{setBit-past}
-use Rattle.elements.proofs.bits.store_bit.Statement.{statement}
-use Rattle.elements.proofs.bits.store_bit.Tie as tie
+use Rattle.program_bits.proofs.store_bit.Statement.{statement}
+use Rattle.program_bits.proofs.store_bit.Tie as tie
 
 here : tie.Need-returns
 unfolding setBit

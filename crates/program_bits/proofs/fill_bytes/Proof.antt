@@ -1,4 +1,4 @@
--- `elements::bits::fill_bytes` meets its contract. The loop's invariant: the first i bytes are b. Assumes nothing.
+-- `program_bits::fill_bytes` meets its contract. The loop's invariant: the first i bytes are b. Assumes nothing.
 use native.Mathlib.Omega.{arith}
 use mathlib.Core.Path.{_≡_, refl, sym, ap, _∙_}
 use mathlib.Core.List.{_++_}
@@ -6,8 +6,8 @@ use Prim.Native.Nat.{ℕ, _≤_, _-_, min}
 use borrow.Author.Needs.{needs}
 use borrow.Author.Fill.{fill-more}
 use lib.ListN.{length, drop, replicate, length-set, length-replicate}
-use Rattle.elements.proofs.bits.fill_bytes.Statement.{statement}
-use Rattle.elements.proofs.bits.fill_bytes.Tie as tie
+use Rattle.program_bits.proofs.fill_bytes.Statement.{statement}
+use Rattle.program_bits.proofs.fill_bytes.Tie as tie
 
 abbrev Inv-loop : tie.InvT-loop
 Inv-loop bytes₀ count b end i₀ bytes i = (i ≤ end) × (length bytes ≡ length bytes₀) × (bytes ≡ replicate i b ++ drop i bytes₀)

@@ -1,4 +1,4 @@
--- `elements::bits::read_bit` meets its contract: past the end the bit is 0, elsewhere a shift and a mask give it. Assumes nothing.
+-- `program_bits::read_bit` meets its contract: past the end the bit is 0, elsewhere a shift and a mask give it. Assumes nothing.
 use mathlib.Core.Path.{sym}
 use Prim.Native.Nat.{_/_, _%_}
 use native.Mathlib.Omega.{arith}
@@ -6,8 +6,8 @@ use borrow.Author.Needs.{needs}
 use lib.ListN.{getD}
 use Rattle.networks.specs.Bits.{bitAt}
 use Rattle.networks.specs.BitsLaws.{bitAt-past, bitOf-mask}
-use Rattle.elements.proofs.bits.read_bit.Statement.{statement}
-use Rattle.elements.proofs.bits.read_bit.Tie as tie
+use Rattle.program_bits.proofs.read_bit.Statement.{statement}
+use Rattle.program_bits.proofs.read_bit.Tie as tie
 
 past : tie.Need-returns
 past c = sym (bitAt-past _ (c .before .args .p) (omega arith))

@@ -1,4 +1,4 @@
--- `elements::bits::with_bit` meets its contract: the place is cleared by a mask, and the bit set there. Neither shift leaves the byte.
+-- `program_bits::with_bit` meets its contract: the place is cleared by a mask, and the bit set there. Neither shift leaves the byte.
 -- Assumes nothing.
 use mathlib.Core.Path.{_≡_}
 use Prim.Native.Nat.{_*_, _%_, _^_}
@@ -7,8 +7,8 @@ use native.Mathlib.Omega.{arith}
 use borrow.Author.Needs.{needs}
 use lib.Pow.{shl-exact}
 use Rattle.networks.specs.BitsLaws.{withBit-mask}
-use Rattle.elements.proofs.bits.with_bit.Statement.{statement}
-use Rattle.elements.proofs.bits.with_bit.Tie as tie
+use Rattle.program_bits.proofs.with_bit.Statement.{statement}
+use Rattle.program_bits.proofs.with_bit.Tie as tie
 
 masked : tie.Need-returns
 masked c =
