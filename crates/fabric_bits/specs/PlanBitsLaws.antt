@@ -25,7 +25,7 @@ use Rattle.universal.specs.FabricLaws.{fabric-within}
 use Rattle.universal.specs.FabricRun.{inputs-selected, outputs-selected}
 use Rattle.fabric_sizes.specs.PartsLaws.{few-places, same-level}
 use Rattle.fabric_sizes.specs.Parts.{maxPins}
-use Rattle.gate_lists.specs.GateLists.{gatesIn, inputsWanted}
+use Rattle.wanted_lists.specs.WantedLists.{gatesIn, inputsWanted}
 use Rattle.fabric_bits.specs.ProgramParts.{bitLimit, gatesProgram, UniversalRoom, GatesRoom, Loaded}
 use Rattle.fabric_bits.specs.UniversalBitsLaws.{SameGates, universal-same}
 

@@ -13,7 +13,7 @@ use Rattle.universal.specs.Selector.{pinCount, selection}
 use Rattle.universal.specs.Universal.{Gates, universalTakes, wantedGates, mixBits, universalBits}
 use Rattle.universal.specs.Fabric.{gateLevel, planGates}
 use Rattle.fabric_sizes.specs.Parts.{maxPins}
-use Rattle.gate_lists.specs.GateLists.{gatesIn, inputsWanted}
+use Rattle.wanted_lists.specs.WantedLists.{gatesIn, inputsWanted}
 
 -- no plan's program has so many bits
 abbrev pub bitLimit : ℕ

@@ -23,8 +23,8 @@ use Rattle.universal.specs.UniversalLaws.{length-universalBits}
 use Rattle.universal.specs.UniversalProgram.{wanted-selected, length-mixBits}
 use Rattle.universal.specs.Fabric.{gateLevel}
 use Rattle.fabric_sizes.specs.PartsLaws.{one-gate, Halved}
-use Rattle.gate_lists.specs.GateLists.{gatesIn, pinsIn, isAmong, wantedAmong}
-use Rattle.gate_lists.specs.GateListsLaws.{among-gates, wanted-among}
+use Rattle.wanted_lists.specs.WantedLists.{gatesIn, pinsIn, isAmong, wantedAmong}
+use Rattle.wanted_lists.specs.WantedListsLaws.{among-gates, wanted-among}
 use Rattle.fabric_bits.specs.ProgramParts.{betweenBits, BetweenRoom, UniversalRoom}
 
 -- ---- U by its halves

@@ -8,14 +8,14 @@ ghost use Rattle.selection_bits.specs.SelectionProgramLaws.{SelectionPasses};
 ghost use Rattle.universal.specs.Selector.{selection};
 ghost use Rattle.universal.specs.Universal.{universalTakes, universalBits};
 ghost use Rattle.universal.specs.Fabric.{gateLevel};
-ghost use Rattle.gate_lists.specs.GateLists.{gatesIn, pinsIn};
+ghost use Rattle.wanted_lists.specs.WantedLists.{gatesIn, pinsIn};
 ghost use Rattle.fabric_bits.specs.ProgramParts.{bitLimit, betweenBits, BetweenRoom, UniversalRoom};
 use elements::GATE_BITS;
-use gate_lists::list_gates;
-use gate_lists::store_choices;
 use gate_lists::store_table;
 use selection_bits::program_selection_at;
 use sizes::selection_count;
+use wanted_lists::list_gates;
+use wanted_lists::store_choices;
 
 // The bits of U for so many gates, a power of two, from `base` on, stored from bit `start` on. The lists give the operands and tables of all gates,
 // whose wires follow `before` others; `wanted` is room to work in. Gives the bit behind them.

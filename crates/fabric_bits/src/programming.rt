@@ -12,7 +12,7 @@ ghost use Rattle.universal.specs.Fabric.{gateLevel, fabricTakes, wantedOutputs,
 ghost use Rattle.fabric_checks.specs.FabricChecks.{planProgramFault};
 ghost use Rattle.fabric_bits.specs.ProgramCalls.{planProgramResult};
 ghost use Rattle.fabric_sizes.specs.Parts.{maxPins};
-ghost use Rattle.gate_lists.specs.GateLists.{inputsWanted};
+ghost use Rattle.wanted_lists.specs.WantedLists.{inputsWanted};
 ghost use Rattle.fabric_bits.specs.ProgramParts.{bitLimit, gatesProgram, GatesRoom};
 use crate::block::program_universal;
 use crate::block::store_selection;
@@ -21,11 +21,11 @@ use fabric_sizes::MAX_PINS;
 use fabric_sizes::gate_places;
 use fabric_sizes::program_length;
 use fault::Answer;
-use gate_lists::list_inputs;
-use gate_lists::list_outputs;
 use gate_lists::load_gates;
 use plan::Plan;
 use program_bits::fill_bytes;
+use wanted_lists::list_inputs;
+use wanted_lists::list_outputs;
 
 // The program of the plan, from the front of `program`. Spare bits of its last byte are 0.
 pub fn program_plan(plan: Plan, program: &mut [u8]) -> Answer

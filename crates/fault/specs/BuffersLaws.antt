@@ -27,6 +27,11 @@ listOf-over n f old h =
     let l = length-listOf n f in
     rw (add-one n) (ap (λ m. set (over (listOf n f) old) m (f n)) (sym l) ∙ over-more (listOf n f) old (f n) (omega arith))
 
+-- the same, with what stands in the buffer and what is stored given by equations
+pub list-step : {A : Type 0} (old : List A) {l : List A} (i : ℕ) {v : A} (f : ℕ → A) → l ≡ over (listOf i f) old → v ≡ f i → i < length old
+    → set l i v ≡ over (listOf (i + 1) f) old
+list-step old i f held e room = rw (held, e) (listOf-over i f old room)
+
 -- on a refusal the buffer is as it was
 pub filled-refused : {A : Type 0} (f : Fault) (n : ℕ) (new old : List A) → faultNumber f ≡ n → old ≡ filled n new old
 filled-refused f zero new old e = absurd (omega (arith, number-positive f))

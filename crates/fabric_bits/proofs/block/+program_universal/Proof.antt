@@ -12,7 +12,7 @@ use lib.Pow.{pow-pos}
 use Rattle.networks.specs.Bits.{storeBits}
 use Rattle.universal.specs.Fabric.{gateLevel}
 use Rattle.fabric_sizes.specs.PartsLaws.{halved}
-use Rattle.gate_lists.specs.GateLists.{gatesIn, pinsIn}
+use Rattle.wanted_lists.specs.WantedLists.{gatesIn, pinsIn}
 use Rattle.fabric_bits.specs.UniversalBitsLaws.{takes-half, upper-room, between-room, lower-room, length-between, between-pins, gate-takes, gate-stored, halves-stored}
 use Rattle.fabric_bits.proofs.block.program_universal.Reads as program-universal
 use Rattle.fabric_bits.proofs.block.program_universal.Kinds as program-universal-kinds

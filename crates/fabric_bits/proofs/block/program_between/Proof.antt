@@ -5,8 +5,8 @@ use native.Mathlib.Omega.{arith}
 use borrow.Author.Needs.{needs}
 use lib.ListN.{take}
 use Rattle.universal.specs.Universal.{wantedGates}
-use Rattle.gate_lists.specs.GateLists.{pinsIn}
-use Rattle.gate_lists.specs.GateListsLaws.{gates-listed}
+use Rattle.wanted_lists.specs.WantedLists.{pinsIn}
+use Rattle.wanted_lists.specs.WantedListsLaws.{gates-listed}
 use Rattle.fabric_bits.specs.UniversalBitsLaws.{length-between, between-passes, between-stored}
 use Rattle.fabric_bits.proofs.block.program_between.Statement.{statement}
 use Rattle.fabric_bits.proofs.block.program_between.Tie as tie

@@ -5,8 +5,8 @@ use borrow.Author.Needs.{needs}
 use lib.ListN.{take}
 use Rattle.networks.specs.Bits.{storeBits}
 use Rattle.networks.specs.Selection.{selectionBits}
-use Rattle.gate_lists.specs.GateLists.{inputsWanted}
-use Rattle.gate_lists.specs.GateListsLaws.{inputs-listed}
+use Rattle.wanted_lists.specs.WantedLists.{inputsWanted}
+use Rattle.wanted_lists.specs.WantedListsLaws.{inputs-listed}
 use Rattle.fabric_bits.proofs.programming.store_inputs.Statement.{statement}
 use Rattle.fabric_bits.proofs.programming.store_inputs.Tie as tie
 

@@ -7,7 +7,7 @@ use Rattle.networks.specs.Bits.{storeBits}
 use Rattle.networks.specs.Selection.{selectionBits}
 use Rattle.plan.specs.FaultsLaws.{accepted-counts}
 use Rattle.universal.specs.Fabric.{wantedOutputs}
-use Rattle.gate_lists.specs.GateListsLaws.{outputs-listed}
+use Rattle.wanted_lists.specs.WantedListsLaws.{outputs-listed}
 use Rattle.fabric_bits.specs.PlanBitsLaws.{outputs-pass}
 use Rattle.fabric_bits.proofs.programming.store_outputs.Statement.{statement}
 use Rattle.fabric_bits.proofs.programming.store_outputs.Tie as tie

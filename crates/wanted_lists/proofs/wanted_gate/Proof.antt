@@ -1,11 +1,11 @@
--- `gate_lists::wanted::wanted_gate` meets its contract. Assumes nothing.
+-- `wanted_lists::wanted_gate` meets its contract. Assumes nothing.
 use mathlib.Core.Path.{sym, _∙_}
 use native.Mathlib.Omega.{arith}
 use borrow.Author.Needs.{needs}
-use Rattle.gate_lists.specs.GateLists.{wantedAmong}
-use Rattle.gate_lists.specs.GateListsLaws.{among-above}
-use Rattle.gate_lists.proofs.wanted.wanted_gate.Statement.{statement}
-use Rattle.gate_lists.proofs.wanted.wanted_gate.Tie as tie
+use Rattle.wanted_lists.specs.WantedLists.{wantedAmong}
+use Rattle.wanted_lists.specs.WantedListsLaws.{among-above}
+use Rattle.wanted_lists.proofs.wanted_gate.Statement.{statement}
+use Rattle.wanted_lists.proofs.wanted_gate.Tie as tie
 
 above : tie.Need-sub-result
 above c =

@@ -1,10 +1,10 @@
--- `gate_lists::wanted::operand_at` meets its contract. Assumes nothing.
+-- `wanted_lists::operand_at` meets its contract. Assumes nothing.
 use native.Mathlib.Omega.{arith}
 use mathlib.Core.Path.{sym}
 use borrow.Author.Needs.{needs}
 use lib.ListN.{List·getD-eq-default}
-use Rattle.gate_lists.proofs.wanted.operand_at.Statement.{statement}
-use Rattle.gate_lists.proofs.wanted.operand_at.Tie as tie
+use Rattle.wanted_lists.proofs.operand_at.Statement.{statement}
+use Rattle.wanted_lists.proofs.operand_at.Tie as tie
 
 past : tie.Need-returns-2
 past c = sym (List·getD-eq-default (c .before .args .pins .now) 0 (omega arith))

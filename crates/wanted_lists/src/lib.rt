@@ -1,5 +1,5 @@
-// What the pins and the outputs want of a selection block. Gates, pins and outputs count from 0, wanted inputs from 1. An operand past the end
-// of the pins is wire 0.
+// What the pins and the outputs want of a selection block. Gates, pins and outputs count from 0, wanted inputs from 1. Every call takes all
+// inputs: an operand past the end of the pins is wire 0, and what the record or a list has no place for is not stored.
 ghost use mathlib.Core.Path.{_≡_};
 ghost use Prim.Native.Nat.{_-_, min};
 ghost use lib.ListN.{length, getD, take};
@@ -9,7 +9,7 @@ ghost use Rattle.networks.specs.Bits.{storeBits};
 ghost use Rattle.networks.specs.Counting.{oneIf};
 ghost use Rattle.universal.specs.Universal.{wantedGates, mixBits};
 ghost use Rattle.universal.specs.Fabric.{wantedInput, wantedOutputs};
-ghost use Rattle.gate_lists.specs.GateLists.{pinsIn, isAmong, wantedAmong, inputsWanted};
+ghost use Rattle.wanted_lists.specs.WantedLists.{pinsIn, isAmong, wantedAmong, inputsWanted};
 use plan::Plan;
 use plan::PlanWire;
 use program_bits::smaller;

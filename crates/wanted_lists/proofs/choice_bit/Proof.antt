@@ -1,8 +1,8 @@
--- `gate_lists::wanted::choice_bit` meets its contract. Assumes nothing.
+-- `wanted_lists::choice_bit` meets its contract. Assumes nothing.
 use mathlib.Core.Path.{sym, _∙_}
 use borrow.Author.Needs.{needs}
-use Rattle.gate_lists.proofs.wanted.choice_bit.Statement.{statement}
-use Rattle.gate_lists.proofs.wanted.choice_bit.Tie as tie
+use Rattle.wanted_lists.proofs.choice_bit.Statement.{statement}
+use Rattle.wanted_lists.proofs.choice_bit.Tie as tie
 
 one : tie.Need-returns
 one c = rw (sym (c .before .is-among .ensures) ∙ c .if1 .taken)

@@ -1,4 +1,4 @@
--- `gate_lists::wanted::list_gates` meets its contract. The loop's invariant: the first j pins' gates are listed. Assumes nothing.
+-- `wanted_lists::list_gates` meets its contract. The loop's invariant: the first j pins' gates are listed. Assumes nothing.
 use mathlib.Core.Path.{_≡_, refl, ap, _∙_}
 use mathlib.Core.List.{List}
 use Prim.Native.Nat.{ℕ, _+_, _-_, _*_, _≤_}
@@ -7,11 +7,12 @@ use borrow.Author.Needs.{needs}
 use lib.ListN.{length, getD, length-set}
 use Rattle.lists.specs.Lists.{listOf}
 use Rattle.fault.specs.Buffers.{over}
+use Rattle.fault.specs.BuffersLaws.{list-step}
 use Rattle.universal.specs.Universal.{wantedGate, wantedGates}
-use Rattle.gate_lists.specs.GateLists.{pinsIn}
-use Rattle.gate_lists.specs.GateListsLaws.{list-step, list-ended, wanted-among}
-use Rattle.gate_lists.proofs.wanted.list_gates.Statement.{statement}
-use Rattle.gate_lists.proofs.wanted.list_gates.Tie as tie
+use Rattle.wanted_lists.specs.WantedLists.{pinsIn}
+use Rattle.wanted_lists.specs.WantedListsLaws.{list-ended, wanted-among}
+use Rattle.wanted_lists.proofs.list_gates.Statement.{statement}
+use Rattle.wanted_lists.proofs.list_gates.Tie as tie
 
 -- what the pin of place j wants
 abbrev wants : ℕ → ℕ → ℕ → List ℕ → ℕ → ℕ

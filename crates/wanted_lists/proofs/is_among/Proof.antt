@@ -1,11 +1,11 @@
--- `gate_lists::wanted::is_among` meets its contract. Assumes nothing.
+-- `wanted_lists::is_among` meets its contract. Assumes nothing.
 use native.Mathlib.Omega.{arith}
 use borrow.Author.Needs.{needs}
 use borrow.Author.Tests.{lt-ltb, le-ltb, lt-leb, le-leb}
 use Prim.Native.Nat.{_+_}
-use Rattle.gate_lists.specs.GateLists.{isAmong}
-use Rattle.gate_lists.proofs.wanted.is_among.Statement.{statement}
-use Rattle.gate_lists.proofs.wanted.is_among.Tie as tie
+use Rattle.wanted_lists.specs.WantedLists.{isAmong}
+use Rattle.wanted_lists.proofs.is_among.Statement.{statement}
+use Rattle.wanted_lists.proofs.is_among.Tie as tie
 
 not-above : tie.Need-returns
 unfolding isAmong

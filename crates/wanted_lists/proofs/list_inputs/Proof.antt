@@ -1,4 +1,4 @@
--- `gate_lists::wanted::list_inputs` meets its contract. The loop's invariant: the first q pins' inputs are listed. Assumes nothing.
+-- `wanted_lists::list_inputs` meets its contract. The loop's invariant: the first q pins' inputs are listed. Assumes nothing.
 use mathlib.Core.Path.{_≡_, refl, ap, _∙_}
 use mathlib.Core.List.{List}
 use Prim.Native.Nat.{ℕ, _-_, _≤_}
@@ -7,11 +7,12 @@ use borrow.Author.Needs.{needs}
 use lib.ListN.{length, getD, length-set}
 use Rattle.lists.specs.Lists.{listOf}
 use Rattle.fault.specs.Buffers.{over}
+use Rattle.fault.specs.BuffersLaws.{list-step}
 use Rattle.universal.specs.Fabric.{wantedInput}
-use Rattle.gate_lists.specs.GateLists.{inputsWanted}
-use Rattle.gate_lists.specs.GateListsLaws.{list-step, list-ended}
-use Rattle.gate_lists.proofs.wanted.list_inputs.Statement.{statement}
-use Rattle.gate_lists.proofs.wanted.list_inputs.Tie as tie
+use Rattle.wanted_lists.specs.WantedLists.{inputsWanted}
+use Rattle.wanted_lists.specs.WantedListsLaws.{list-ended}
+use Rattle.wanted_lists.proofs.list_inputs.Statement.{statement}
+use Rattle.wanted_lists.proofs.list_inputs.Tie as tie
 
 -- what pin q wants
 abbrev wants : ℕ → List ℕ → ℕ → ℕ

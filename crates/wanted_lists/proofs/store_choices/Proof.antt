@@ -1,4 +1,4 @@
--- `gate_lists::wanted::store_choices` meets its contract. The loop's invariant: the first j bits are stored. Assumes nothing.
+-- `wanted_lists::store_choices` meets its contract. The loop's invariant: the first j bits are stored. Assumes nothing.
 use mathlib.Core.Path.{_≡_, refl, ap, _∙_}
 use mathlib.Core.List.{List}
 use Prim.Native.Nat.{ℕ, _+_, _-_, _*_, _<_, _≤_}
@@ -11,10 +11,10 @@ use Rattle.networks.specs.Counting.{oneIf}
 use Rattle.networks.specs.CountingLaws.{one-lt}
 use Rattle.program_bits.specs.StoreLaws.{store-none, store-step}
 use Rattle.universal.specs.Universal.{isOf, mixBits}
-use Rattle.gate_lists.specs.GateLists.{pinsIn}
-use Rattle.gate_lists.specs.GateListsLaws.{among-gates}
-use Rattle.gate_lists.proofs.wanted.store_choices.Statement.{statement}
-use Rattle.gate_lists.proofs.wanted.store_choices.Tie as tie
+use Rattle.wanted_lists.specs.WantedLists.{pinsIn}
+use Rattle.wanted_lists.specs.WantedListsLaws.{among-gates}
+use Rattle.wanted_lists.proofs.store_choices.Statement.{statement}
+use Rattle.wanted_lists.proofs.store_choices.Tie as tie
 
 -- the bit of the Y row at place j
 abbrev choice : ℕ → ℕ → ℕ → List ℕ → ℕ → ℕ

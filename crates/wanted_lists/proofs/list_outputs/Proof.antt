@@ -1,4 +1,4 @@
--- `gate_lists::wanted::list_outputs` meets its contract. The loop's invariant: the first j outputs' gates are listed. Assumes nothing.
+-- `wanted_lists::list_outputs` meets its contract. The loop's invariant: the first j outputs' gates are listed. Assumes nothing.
 use mathlib.Core.Path.{_≡_, refl}
 use Prim.Native.Nat.{ℕ, _-_, _≤_, min}
 use native.Mathlib.Omega.{arith}
@@ -6,12 +6,13 @@ use borrow.Author.Needs.{needs}
 use lib.ListN.{length, length-set}
 use Rattle.lists.specs.Lists.{listOf}
 use Rattle.fault.specs.Buffers.{over}
+use Rattle.fault.specs.BuffersLaws.{list-step}
 use Rattle.plan.specs.declared.record.Plan.{Plan}
 use Rattle.plan.specs.Record.{maxOutputs, outputAt}
 use Rattle.universal.specs.Fabric.{wantedOutputs}
-use Rattle.gate_lists.specs.GateListsLaws.{list-step, list-ended}
-use Rattle.gate_lists.proofs.wanted.list_outputs.Statement.{statement}
-use Rattle.gate_lists.proofs.wanted.list_outputs.Tie as tie
+use Rattle.wanted_lists.specs.WantedListsLaws.{list-ended}
+use Rattle.wanted_lists.proofs.list_outputs.Statement.{statement}
+use Rattle.wanted_lists.proofs.list_outputs.Tie as tie
 
 -- the gate that output j names
 abbrev names : Plan → ℕ → ℕ
