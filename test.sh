@@ -22,6 +22,8 @@ if [ "$kit" != "$recorded" ]; then
 fi
 
 # rt's own gate first, from nothing: every proof, every must-fail edit, every program. What comes after it uses what it proved.
+# rt starts its jobs in batches and waits for a batch's last one: a job more than there are processors keeps them all at work meanwhile.
+export RT_JOBS="${RT_JOBS:-$(($(nproc) + 1))}"
 rm -rf host/target
 verdict=$(mktemp)
 copy=$(mktemp -d)
