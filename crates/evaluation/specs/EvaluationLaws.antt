@@ -48,7 +48,7 @@ pub record GateRoom (p : Plan) (i : ℕ) : Type 0 where
   pub own : p .inputs + i < maxPlanWires
   pub upTo : gateWire (p .inputs) i ≤ maxPlanWires
 
--- where output j of an accepted plan and its wire stand
+-- where output j and its wire stand
 pub record OutputRoom (outputs : List PlanWire) (j : ℕ) : Type 0 where
   pub place : j < maxOutputs
   pub someWire : 1 ≤ getD outputs j (wire 0) .0
