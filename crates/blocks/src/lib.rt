@@ -1,12 +1,11 @@
 // The block library: writing and programming the permutation network P and the selection network S, with what they promise. It goes to the
 // relay-card maker by itself, with the crates under it. Every call takes all inputs, refuses by document 01's numbers in its order, and on a
 // refusal changes no buffer.
-pub use elements::FabricWire;
-pub use permutation_bits::program_permutation;
-pub use permutation_bits::program_permutation_at;
-pub use permutation_rows::write_permutation;
-pub use program_bits::read_bit;
-pub use program_bits::store_bit;
-pub use selection_bits::program_selection;
-pub use selection_bits::program_selection_at;
-pub use selection_rows::write_selection;
+pub use block_bits::read_bit;
+pub use block_bits::store_bit;
+pub use block_permutation_bits::program_permutation;
+pub use block_permutation_bits::program_permutation_at;
+pub use block_permutation_rows::write_permutation;
+pub use block_selection_bits::program_selection;
+pub use block_selection_bits::program_selection_at;
+pub use block_selection_rows::write_selection;

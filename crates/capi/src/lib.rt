@@ -3,26 +3,26 @@
 ghost use mathlib.Core.Path.{_≡_};
 ghost use lib.ListN.{length};
 ghost use Rattle.plan.specs.Faults.{planFault};
-ghost use Rattle.evaluation_checks.specs.EvaluationChecks.{evaluateFault};
-ghost use Rattle.evaluation.specs.Evaluation.{evaluateResult};
-ghost use Rattle.reading.specs.PlanFile.{planRead};
-ghost use Rattle.write_checks.specs.WriteChecks.{writeFault, selectionWriteFault};
-ghost use Rattle.permutation_rows.specs.WriteCalls.{writtenRows, writtenOutputs};
-ghost use Rattle.selection_rows.specs.WriteCalls.{selectionWrittenRows, selectionWrittenOutputs};
-ghost use Rattle.wanted_checks.specs.Checks.{programFault, selectionProgramFault};
-ghost use Rattle.permutation_bits.specs.ProgramCalls.{programResult};
-ghost use Rattle.selection_bits.specs.ProgramCalls.{selectionProgramResult};
+ghost use Rattle.plan_evaluation_checks.specs.EvaluationChecks.{evaluateFault};
+ghost use Rattle.plan_evaluation.specs.Evaluation.{evaluateResult};
+ghost use Rattle.plan_reading.specs.PlanFile.{planRead};
+ghost use Rattle.block_write_checks.specs.WriteChecks.{writeFault, selectionWriteFault};
+ghost use Rattle.block_permutation_rows.specs.WriteCalls.{writtenRows, writtenOutputs};
+ghost use Rattle.block_selection_rows.specs.WriteCalls.{selectionWrittenRows, selectionWrittenOutputs};
+ghost use Rattle.block_program_checks.specs.Checks.{programFault, selectionProgramFault};
+ghost use Rattle.block_permutation_bits.specs.ProgramCalls.{programResult};
+ghost use Rattle.block_selection_bits.specs.ProgramCalls.{selectionProgramResult};
 ghost use Rattle.fabric_sizes.specs.Counting.{counting};
 ghost use Rattle.fabric_rows.specs.FabricCalls.{fabricResult};
-ghost use Rattle.fabric_checks.specs.FabricChecks.{fabricFault, planProgramFault};
+ghost use Rattle.fabric_sizes.specs.FabricChecks.{fabricFault, planProgramFault};
 ghost use Rattle.fabric_bits.specs.ProgramCalls.{planProgramResult};
-ghost use Rattle.run_checks.specs.RunFault.{runFault};
-ghost use Rattle.run.specs.RunCalls.{runWork, runResult};
+ghost use Rattle.fabric_run_checks.specs.RunFault.{runFault};
+ghost use Rattle.fabric_run.specs.RunCalls.{runWork, runResult};
 ghost use Rattle.capi.specs.Exports.{outcomeOf, countsOf};
-use blocks::FabricWire;
-use fabric::CountAnswer;
+use elements::CountAnswer;
+use elements::FabricWire;
 use plan::Plan;
-use reading::ReadAnswer;
+use plan_reading::ReadAnswer;
 
 // The header's struct mkd_read: number and offset 0 where a plan was read, the plan all zero where not.
 #[repr(C)]
@@ -37,7 +37,7 @@ pub struct Read {
 pub extern "C" fn mkd_plan_read(file: &[u8]) -> Read
     ensures { λ r. ⌜ outcomeOf r ≡ planRead (now (file .entry)) ⌝ }
 {
-    let read = reading::read_plan(file);
+    let read = plan_reading::read_plan(file);
     let answer = read.answer;
     let record = read.plan;
     match answer {
@@ -62,7 +62,7 @@ pub extern "C" fn mkd_plan_read(file: &[u8]) -> Read
 pub extern "C" fn mkd_plan_fault(plan: Plan) -> u32
     ensures { λ r. ⌜ r ≡ planFault plan ⌝ }
 {
-    plan_faults::plan_fault(plan).number()
+    plan::plan_fault(plan).number()
 }
 
 // The plan's outputs on a row of inputs.
@@ -71,7 +71,7 @@ pub extern "C" fn mkd_plan_evaluate(plan: Plan, row: &[u8], result: &mut [u8]) -
     ensures answered { λ r. ⌜ r ≡ evaluateFault plan (now (row .entry)) (length (now (result .entry))) ⌝ }
     ensures written { λ _. ⌜ now (result .exit) ≡ evaluateResult plan (now (row .entry)) (now (result .entry)) ⌝ }
 {
-    evaluation::evaluate(plan, row, result).number()
+    plan_evaluation::evaluate(plan, row, result).number()
 }
 
 // Writes the permutation network P(n): its rows and its output wires.

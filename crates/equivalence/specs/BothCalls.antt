@@ -5,31 +5,23 @@ use mathlib.Core.List.{List}
 use Rattle.fault.specs.Checks.{andThen, roomFault}
 use Rattle.fault.specs.Buffers.{filled}
 use Rattle.plan.specs.declared.record.Plan.{Plan}
-use Rattle.plan.specs.Faults.{planFault}
-use Rattle.evaluation_checks.specs.EvaluationChecks.{contactFault}
-use Rattle.evaluation.specs.Evaluation.{gateBit, planOutputs}
-use Rattle.universal.specs.Fabric.{fabricTable, fabricWires, planProgram}
-use Rattle.universal.specs.Tables.{runWires, runOutputs}
-use Rattle.fabric_sizes.specs.Counting.{tableLength}
-use Rattle.fabric_checks.specs.FabricChecks.{programLength}
+use Rattle.plan.specs.Faults.{planFault, Accepted}
+use Rattle.plan_evaluation_checks.specs.EvaluationChecks.{contactFault}
+use Rattle.plan_evaluation.specs.Evaluation.{gateBit, planOutputs}
+use Rattle.fabric_universal.specs.Fabric.{planProgram, planTable}
+use Rattle.fabric_run.specs.Running.{runWires, runOutputs}
+use Rattle.fabric_sizes.specs.FabricChecks.{programLength}
+use mathlib.Core.Path.{_≡_}
+use Rattle.equivalence.specs.declared.both.Lengths.{Lengths}
+use Rattle.equivalence.specs.ThirdDemand.{Rooms, planTableLength, planFabricWires}
 
 module _ (p : Plan) where
-  -- the fabric of the plan's three counts: its table, the table's length, its wires
-  abbrev pub tableOf : List ℕ
-  tableOf = fabricTable (p .inputs) (p .«gate_count») (p .«output_count»)
-
-  abbrev pub entriesOf : ℕ
-  entriesOf = tableLength (p .inputs) (p .«gate_count») (p .«output_count»)
-
-  abbrev pub wiresOf : ℕ
-  wiresOf = fabricWires (p .inputs) (p .«gate_count») (p .«output_count»)
-
   -- 11 for lent buffers of so many entries: table, program, work, and the two results
   unfoldable pub bothRoomFault : ℕ → ℕ → ℕ → ℕ → ℕ → ℕ
   bothRoomFault table program work evaluated ran =
-      andThen (roomFault entriesOf table)
+      andThen (roomFault (planTableLength p) table)
       (andThen (roomFault (programLength p) program)
-      (andThen (roomFault wiresOf work) (andThen (roomFault (p .«output_count») evaluated) (roomFault (p .«output_count») ran))))
+      (andThen (roomFault (planFabricWires p) work) (andThen (roomFault (p .«output_count») evaluated) (roomFault (p .«output_count») ran))))
 
   -- plan faults, 12, 11
   unfoldable pub bothFault : List ℕ → ℕ → ℕ → ℕ → ℕ → ℕ → ℕ
@@ -38,16 +30,28 @@ module _ (p : Plan) where
 
   -- each lent buffer after a call whose checks gave the number n
   abbrev pub bothTable : ℕ → List ℕ → List ℕ
-  bothTable n table = filled n tableOf table
+  bothTable n table = filled n (planTable p) table
 
   abbrev pub bothProgram : ℕ → List ℕ → List ℕ
   bothProgram n program = filled n (planProgram p) program
 
   abbrev pub bothWork : ℕ → List ℕ → List ℕ → List ℕ
-  bothWork n row work = filled n (runWires tableOf (planProgram p) row) work
+  bothWork n row work = filled n (runWires (planTable p) (planProgram p) row) work
 
   abbrev pub bothEvaluated : ℕ → List ℕ → List ℕ → List ℕ
   bothEvaluated n row evaluated = filled n (planOutputs 0 gateBit p row) evaluated
 
   abbrev pub bothRan : ℕ → List ℕ → List ℕ → List ℕ
-  bothRan n row ran = filled n (runOutputs tableOf (planProgram p) row) ran
+  bothRan n row ran = filled n (runOutputs (planTable p) (planProgram p) row) ran
+
+-- the stated lengths
+pub record LengthsAre (p : Plan) (l : Lengths) : Type 0 where
+  pub table : l .table ≡ planTableLength p
+  pub program : l .program ≡ programLength p
+  pub work : l .work ≡ planFabricWires p
+
+-- what holds where no check fails
+pub record BothPasses (p : Plan) (row : List ℕ) (table program work evaluated ran : ℕ) : Type 0 where
+  pub accepted : Accepted p
+  pub contact : contactFault (p .inputs) row ≡ 0
+  pub rooms : Rooms p table program work evaluated ran

@@ -1,7 +1,5 @@
--- Document 01's third demand.
--- the call that makes the four calls of the demand
-pub mod BothCalls
+-- The third demand.
 -- the demand over the definitions that the four calls' contracts equate
 pub mod ThirdDemand
--- the call's checks, and that its two results are equal
-pub mod BothLaws
+-- one call that makes the four calls of the demand
+pub mod BothCalls

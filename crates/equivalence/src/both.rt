@@ -5,24 +5,24 @@ ghost use Prim.Native.Nat.{_<_, _≤_};
 ghost use lib.ListN.{length, getD, take};
 ghost use Rattle.fault.specs.Number.{answerNumber};
 ghost use Rattle.fault.specs.Buffers.{over};
-ghost use Rattle.evaluation.specs.Evaluation.{gateBit, planOutputs};
-ghost use Rattle.universal.specs.Fabric.{planProgram};
-ghost use Rattle.universal.specs.Tables.{runWires, runOutputs};
-ghost use Rattle.run.specs.RunCalls.{runWork, runResult};
-ghost use Rattle.equivalence.specs.BothCalls.{tableOf, bothRoomFault, bothFault, bothTable, bothProgram, bothWork, bothEvaluated, bothRan};
-ghost use Rattle.equivalence.specs.BothLaws.{LengthsAre, BothPasses};
-use evaluation::evaluate;
-use evaluation_checks::contact_fault;
+ghost use Rattle.plan_evaluation.specs.Evaluation.{gateBit, planOutputs};
+ghost use Rattle.fabric_universal.specs.Fabric.{planProgram, planTable};
+ghost use Rattle.fabric_run.specs.Running.{runWires, runOutputs};
+ghost use Rattle.fabric_run.specs.RunCalls.{runWork, runResult};
+ghost use Rattle.equivalence.specs.BothCalls.{bothRoomFault, bothFault, bothTable, bothProgram, bothWork, bothEvaluated, bothRan};
+ghost use Rattle.equivalence.specs.BothCalls.{LengthsAre, BothPasses};
 use fabric_bits::program_plan;
 use fabric_rows::write_fabric;
+use fabric_run::run;
 use fabric_sizes::fabric_counts;
 use fabric_sizes::program_length;
 use fabric_sizes::table_length;
 use fault::Answer;
 use fault::Fault;
 use plan::Plan;
-use plan_faults::plan_fault;
-use run::run;
+use plan::plan_fault;
+use plan_evaluation::evaluate;
+use plan_evaluation_checks::contact_fault;
 
 // The stated lengths of table, program and work.
 struct Lengths {
@@ -141,11 +141,11 @@ fn make_both(
     ran: &mut [u8],
 )
     requires { ⌜ BothPasses plan (now row) (length (now table)) (length (now program)) (length (now work)) (length (now evaluated)) (length (now ran)) ⌝ }
-    ensures { λ _. ⌜ now (table .exit) ≡ over (tableOf plan) (now (table .entry)) ⌝ }
+    ensures { λ _. ⌜ now (table .exit) ≡ over (planTable plan) (now (table .entry)) ⌝ }
     ensures { λ _. ⌜ now (program .exit) ≡ over (planProgram plan) (now (program .entry)) ⌝ }
-    ensures { λ _. ⌜ now (work .exit) ≡ over (runWires (tableOf plan) (planProgram plan) (now (row .entry))) (now (work .entry)) ⌝ }
+    ensures { λ _. ⌜ now (work .exit) ≡ over (runWires (planTable plan) (planProgram plan) (now (row .entry))) (now (work .entry)) ⌝ }
     ensures { λ _. ⌜ now (evaluated .exit) ≡ over (planOutputs 0 gateBit plan (now (row .entry))) (now (evaluated .entry)) ⌝ }
-    ensures { λ _. ⌜ now (ran .exit) ≡ over (runOutputs (tableOf plan) (planProgram plan) (now (row .entry))) (now (ran .entry)) ⌝ }
+    ensures { λ _. ⌜ now (ran .exit) ≡ over (runOutputs (planTable plan) (planProgram plan) (now (row .entry))) (now (ran .entry)) ⌝ }
 {
     let lengths = lengths_of(plan);
     let entries = lengths.table;

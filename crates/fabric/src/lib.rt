@@ -2,7 +2,5 @@
 // document 01's numbers in its order, and on a refusal changes no buffer.
 pub use fabric_bits::program_plan;
 pub use fabric_rows::write_fabric;
-pub use fabric_sizes::CountAnswer;
-pub use fabric_sizes::Counts;
+pub use fabric_run::run;
 pub use fabric_sizes::count_fabric;
-pub use run::run;

@@ -4,8 +4,8 @@ use Prim.Native.Nat.{ℕ}
 use lib.ListN.{length}
 use Rattle.fault.specs.Buffers.{filled}
 use Rattle.plan.specs.declared.record.Plan.{Plan}
-use Rattle.universal.specs.Fabric.{planProgram}
-use Rattle.fabric_checks.specs.FabricChecks.{planProgramFault}
+use Rattle.fabric_universal.specs.Fabric.{planProgram}
+use Rattle.fabric_sizes.specs.FabricChecks.{planProgramFault}
 
 -- the lent program after the call
 abbrev pub planProgramResult : Plan → List ℕ → List ℕ

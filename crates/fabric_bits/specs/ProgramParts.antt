@@ -6,14 +6,14 @@ use lib.ListN.{length}
 use Rattle.lists.specs.Lists.{listOf}
 use Rattle.plan.specs.declared.record.Plan.{Plan}
 use Rattle.plan.specs.Record.{maxGates}
-use Rattle.networks.specs.Rows.{operands}
-use Rattle.networks.specs.Selection.{selectionCount, selectionBits}
-use Rattle.selection_bits.specs.SelectionProgramLaws.{SelectionPasses}
-use Rattle.universal.specs.Selector.{pinCount, selection}
-use Rattle.universal.specs.Universal.{Gates, universalTakes, wantedGates, mixBits, universalBits}
-use Rattle.universal.specs.Fabric.{gateLevel, planGates}
+use Rattle.block_elements.specs.Rows.{operands}
+use Rattle.block_networks.specs.Selection.{selectionCount, selectionBits}
+use Rattle.block_selection_bits.proofs.SelectionProgramLaws.{SelectionPasses}
+use Rattle.fabric_universal.specs.Selector.{pinCount, selection}
+use Rattle.fabric_universal.specs.Universal.{Gates, universalTakes, wantedGates, mixBits, universalBits}
+use Rattle.fabric_universal.specs.Fabric.{gateLevel, planGates}
 use Rattle.fabric_sizes.specs.Parts.{maxPins}
-use Rattle.wanted_lists.specs.WantedLists.{gatesIn, inputsWanted}
+use Rattle.fabric_lists.specs.WantedLists.{gatesIn, inputsWanted}
 
 -- no plan's program has so many bits
 abbrev pub bitLimit : ℕ

@@ -2,20 +2,20 @@
 ghost use mathlib.Core.Path.{_≡_};
 ghost use Prim.Native.Nat.{_+_, _≤_};
 ghost use lib.ListN.{length, take};
-ghost use Rattle.networks.specs.Bits.{storeBits};
-ghost use Rattle.networks.specs.Selection.{selectionCount, selectionBits};
-ghost use Rattle.selection_bits.specs.SelectionProgramLaws.{SelectionPasses};
-ghost use Rattle.universal.specs.Selector.{selection};
-ghost use Rattle.universal.specs.Universal.{universalTakes, universalBits};
-ghost use Rattle.universal.specs.Fabric.{gateLevel};
-ghost use Rattle.wanted_lists.specs.WantedLists.{gatesIn, pinsIn};
+ghost use Rattle.block_elements.specs.Bits.{storeBits};
+ghost use Rattle.block_networks.specs.Selection.{selectionCount, selectionBits};
+ghost use Rattle.block_selection_bits.proofs.SelectionProgramLaws.{SelectionPasses};
+ghost use Rattle.fabric_universal.specs.Selector.{selection};
+ghost use Rattle.fabric_universal.specs.Universal.{universalTakes, universalBits};
+ghost use Rattle.fabric_universal.specs.Fabric.{gateLevel};
+ghost use Rattle.fabric_lists.specs.WantedLists.{gatesIn, pinsIn};
 ghost use Rattle.fabric_bits.specs.ProgramParts.{bitLimit, betweenBits, BetweenRoom, UniversalRoom};
+use block_selection_bits::program_selection_at;
+use block_sizes::selection_count;
 use elements::GATE_BITS;
-use gate_lists::store_table;
-use selection_bits::program_selection_at;
-use sizes::selection_count;
-use wanted_lists::list_gates;
-use wanted_lists::store_choices;
+use fabric_lists::list_gates;
+use fabric_lists::store_choices;
+use fabric_lists::store_table;
 
 // The bits of U for so many gates, a power of two, from `base` on, stored from bit `start` on. The lists give the operands and tables of all gates,
 // whose wires follow `before` others; `wanted` is room to work in. Gives the bit behind them.

@@ -5,27 +5,27 @@ ghost use Prim.Native.Nat.{_+_, _*_, _^_, _≤_};
 ghost use lib.ListN.{length};
 ghost use Rattle.fault.specs.Number.{answerNumber};
 ghost use Rattle.plan.specs.Faults.{Accepted};
-ghost use Rattle.networks.specs.Bits.{storeBits};
-ghost use Rattle.networks.specs.Selection.{selectionCount, selectionBits};
-ghost use Rattle.selection_bits.specs.SelectionProgramLaws.{SelectionPasses};
-ghost use Rattle.universal.specs.Fabric.{gateLevel, fabricTakes, wantedOutputs, planBits};
-ghost use Rattle.fabric_checks.specs.FabricChecks.{planProgramFault};
+ghost use Rattle.block_elements.specs.Bits.{storeBits};
+ghost use Rattle.block_networks.specs.Selection.{selectionCount, selectionBits};
+ghost use Rattle.block_selection_bits.proofs.SelectionProgramLaws.{SelectionPasses};
+ghost use Rattle.fabric_universal.specs.Fabric.{gateLevel, fabricTakes, wantedOutputs, planBits};
+ghost use Rattle.fabric_sizes.specs.FabricChecks.{planProgramFault};
 ghost use Rattle.fabric_bits.specs.ProgramCalls.{planProgramResult};
 ghost use Rattle.fabric_sizes.specs.Parts.{maxPins};
-ghost use Rattle.wanted_lists.specs.WantedLists.{inputsWanted};
+ghost use Rattle.fabric_lists.specs.WantedLists.{inputsWanted};
 ghost use Rattle.fabric_bits.specs.ProgramParts.{bitLimit, gatesProgram, GatesRoom};
 use crate::block::program_universal;
 use crate::block::store_selection;
-use fabric_checks::check_program;
+use block_bits::fill_bytes;
+use fabric_lists::list_inputs;
+use fabric_lists::list_outputs;
+use fabric_lists::load_gates;
 use fabric_sizes::MAX_PINS;
+use fabric_sizes::check_program;
 use fabric_sizes::gate_places;
 use fabric_sizes::program_length;
 use fault::Answer;
-use gate_lists::load_gates;
 use plan::Plan;
-use program_bits::fill_bytes;
-use wanted_lists::list_inputs;
-use wanted_lists::list_outputs;
 
 // The program of the plan, from the front of `program`. Spare bits of its last byte are 0.
 pub fn program_plan(plan: Plan, program: &mut [u8]) -> Answer

@@ -4,13 +4,13 @@ use mathlib.Core.Path.{_≡_}
 use mathlib.Core.List.{List, _++_}
 use lib.ListN.{take}
 use Rattle.plan.specs.Record.{maxGates}
-use Rattle.networks.specs.Rows.{Row, operands, stride}
-use Rattle.networks.specs.Selection.{selectionRows, selectionOuts, selectionCount}
-use Rattle.write_checks.specs.WriteChecksLaws.{SelectionWritePasses}
-use Rattle.elements.specs.Wires.{maxWires}
-use Rattle.universal.specs.Selector.{selection}
-use Rattle.universal.specs.Universal.{mixRows, wiresFrom, universalCount, universalWires, selectNext, mixNext, lowerNext}
-use Rattle.universal.specs.Fabric.{gateLevel}
+use Rattle.block_elements.specs.Rows.{Row, operands, stride}
+use Rattle.block_networks.specs.Selection.{selectionRows, selectionOuts, selectionCount}
+use Rattle.block_write_checks.specs.WriteChecks.{SelectionWritePasses}
+use Rattle.elements.specs.Elements.{maxWires}
+use Rattle.fabric_universal.specs.Selector.{selection}
+use Rattle.fabric_universal.specs.Universal.{mixRows, wiresFrom, universalCount, universalWires, selectNext, mixNext, lowerNext}
+use Rattle.fabric_universal.specs.Fabric.{gateLevel}
 use Rattle.fabric_rows.specs.declared.block.Parts.{Parts}
 
 -- the rows between the halves: the selection block on the first of the wires `outs`, then a Y row for each of the lower half's pins

@@ -3,8 +3,8 @@ use Prim.Native.Nat.{ℕ}
 use mathlib.Core.List.{List}
 use lib.ListN.{length}
 use Rattle.fault.specs.Buffers.{filled}
-use Rattle.universal.specs.Fabric.{fabricTable}
-use Rattle.fabric_checks.specs.FabricChecks.{fabricFault}
+use Rattle.fabric_universal.specs.Fabric.{fabricTable}
+use Rattle.fabric_sizes.specs.FabricChecks.{fabricFault}
 
 -- the lent table after the call
 abbrev pub fabricResult : ℕ → ℕ → ℕ → List ℕ → List ℕ

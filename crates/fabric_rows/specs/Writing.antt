@@ -4,14 +4,14 @@ use mathlib.Core.Path.{_≡_}
 use mathlib.Core.List.{List, _++_}
 use lib.ListN.{take}
 use Rattle.plan.specs.Record.{maxInputs, maxGates, maxOutputs}
-use Rattle.networks.specs.Rows.{stride, flat}
-use Rattle.networks.specs.Selection.{selectionRows, selectionOuts, selectionCount, selectionWires}
-use Rattle.elements.specs.Wires.{maxWires}
-use Rattle.write_checks.specs.WriteChecksLaws.{SelectionWritePasses}
-use Rattle.universal.specs.Selector.{pinCount, selection}
-use Rattle.universal.specs.Universal.{universalCount}
-use Rattle.universal.specs.Fabric.{gateLevel, inputWires, universalNext, outputNext, fabricCount}
-use Rattle.universal.specs.Tables.{header}
+use Rattle.block_elements.specs.Rows.{stride, flat}
+use Rattle.block_networks.specs.Selection.{selectionRows, selectionOuts, selectionCount, selectionWires}
+use Rattle.elements.specs.Elements.{maxWires}
+use Rattle.block_write_checks.specs.WriteChecks.{SelectionWritePasses}
+use Rattle.fabric_universal.specs.Selector.{pinCount, selection}
+use Rattle.fabric_universal.specs.Universal.{universalCount}
+use Rattle.fabric_universal.specs.Fabric.{gateLevel, inputWires, universalNext, outputNext, fabricCount}
+use Rattle.fabric_sizes.specs.Layout.{header}
 use Rattle.fabric_sizes.specs.Counting.{tableLength}
 use Rattle.fabric_rows.specs.declared.writing.Layout.{Layout}
 

@@ -4,18 +4,18 @@ ghost use mathlib.Core.Path.{_≡_};
 ghost use Prim.Native.Nat.{_*_};
 ghost use lib.ListN.{length, take, drop};
 ghost use Rattle.fault.specs.Buffers.{over};
-ghost use Rattle.networks.specs.Rows.{flat};
-ghost use Rattle.universal.specs.Selector.{pinCount, selection};
-ghost use Rattle.universal.specs.Universal.{universalOuts, universalRows};
-ghost use Rattle.universal.specs.Fabric.{gateLevel};
+ghost use Rattle.block_elements.specs.Rows.{flat};
+ghost use Rattle.fabric_universal.specs.Selector.{pinCount, selection};
+ghost use Rattle.fabric_universal.specs.Universal.{universalOuts, universalRows};
+ghost use Rattle.fabric_universal.specs.Fabric.{gateLevel};
 ghost use Rattle.fabric_rows.specs.Block.{middleRows, middlePins, MiddleRoom, UniversalWires, UniversalRoom, PartsAt};
+use block_rows::row_place;
 use elements::FabricWire;
-use elements::row_place;
-use fabric_selections::put_selection;
+use fabric_parts::put_selection;
+use fabric_parts::write_gate;
+use fabric_parts::write_mix;
 use fabric_sizes::pin_counts;
 use fabric_sizes::universal_counts;
-use universal_elements::write_gate;
-use universal_elements::write_mix;
 
 // The gates and the pins of a half; where the parts of U begin in its stretch of the table, the Y rows counted from the selection block's
 // place; and the first wires that they make.

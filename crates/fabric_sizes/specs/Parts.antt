@@ -2,12 +2,12 @@
 use Prim.Native.Nat.{ℕ, suc, _*_, _^_, _≤_}
 use mathlib.Core.Path.{_≡_}
 use Rattle.plan.specs.Record.{maxGates}
-use Rattle.networks.specs.Rows.{operands}
-use Rattle.networks.specs.Selection.{selectionCount, selectionWires}
-use Rattle.universal.specs.Selector.{selection}
-use Rattle.universal.specs.Universal.{universalCount, universalWires, universalTakes}
-use Rattle.universal.specs.Fabric.{gateLevel}
-use Rattle.fabric_sizes.specs.declared.parts.BlockCounts.{BlockCounts}
+use Rattle.block_elements.specs.Rows.{operands}
+use Rattle.block_networks.specs.Selection.{selectionCount, selectionWires}
+use Rattle.fabric_universal.specs.Selector.{selection}
+use Rattle.fabric_universal.specs.Universal.{universalCount, universalWires, universalTakes}
+use Rattle.fabric_universal.specs.Fabric.{gateLevel}
+use Rattle.elements.specs.declared.Counts.{Counts}
 
 -- the pins of the largest U of a plan, two for each gate
 abbrev pub maxPins : ℕ
@@ -28,7 +28,7 @@ pub record PlacesAre (k places : ℕ) : Type 0 where
   pub most : places ≤ 2 ^ topLevel
 
 -- a block's counts, which are small
-pub record BlockIs (rows wires bits : ℕ) (c : BlockCounts) : Type 0 where
+pub record BlockIs (rows wires bits : ℕ) (c : Counts) : Type 0 where
   pub isRows : c .rows ≡ rows
   pub isWires : c .wires ≡ wires
   pub isBits : c .bits ≡ bits
@@ -41,9 +41,9 @@ pub record SidesWithin (m n : ℕ) : Type 0 where
   pub inputs : m ≤ 2 ^ suc topLevel
   pub outputs : n ≤ 2 ^ suc topLevel
 
-abbrev pub SelectionIs : ℕ → ℕ → BlockCounts → Type 0
+abbrev pub SelectionIs : ℕ → ℕ → Counts → Type 0
 SelectionIs m n c = BlockIs (selectionCount m n) (selectionWires m n) (selectionCount m n) c
 
 -- of U at a level
-abbrev pub UniversalIs : ℕ → BlockCounts → Type 0
+abbrev pub UniversalIs : ℕ → Counts → Type 0
 UniversalIs n c = BlockIs (universalCount selection n) (universalWires selection n) (universalTakes selection n) c

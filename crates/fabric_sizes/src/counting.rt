@@ -1,33 +1,22 @@
 // Counting: the rows, wires and program bits of the fabric of three counts, and the stated lengths that follow from them.
 ghost use mathlib.Core.Path.{_≡_};
-ghost use Rattle.networks.specs.Bits.{bytesFor};
-ghost use Rattle.universal.specs.Fabric.{fabricTakes};
-ghost use Rattle.fabric_sizes.specs.Counting.{countAnswer, counting, FabricCounts, tableLength};
+ghost use Rattle.block_elements.specs.Bits.{bytesFor};
+ghost use Rattle.fabric_universal.specs.Fabric.{fabricTakes};
+ghost use Rattle.elements.specs.Elements.{countOutcome};
+ghost use Rattle.fabric_sizes.specs.Counting.{counting, FabricCounts, tableLength};
 use crate::parts::output_counts;
 use crate::parts::pin_counts;
 use crate::parts::universal_counts;
-use elements::HEADER;
-use elements::row_place;
+use block_rows::HEADER;
+use block_rows::row_place;
+use elements::CountAnswer;
+use elements::Counts;
 use fault::Answer;
-use fault::Fault;
-use plan_faults::counts_fault;
-
-// The rows, wires and program bits of a fabric.
-pub struct Counts {
-    pub rows: u32,
-    pub wires: u32,
-    pub bits: u32,
-}
-
-// The answer of counting.
-pub enum CountAnswer {
-    Counted(Counts),
-    Refused(Fault),
-}
+use plan::counts_fault;
 
 // The counts of the fabric of u inputs, k gates and v outputs.
 pub fn count_fabric(u: u32, k: u32, v: u32) -> CountAnswer
-    ensures { λ r. ⌜ countAnswer r ≡ counting u k v ⌝ }
+    ensures { λ r. ⌜ countOutcome r ≡ counting u k v ⌝ }
 {
     match counts_fault(u, k, v) {
         Answer::Refused(f) => CountAnswer::Refused(f),

@@ -2,16 +2,17 @@
 // program are. Every call takes all numbers.
 mod counting;
 mod parts;
+mod programming;
+mod writing;
 
-pub use counting::CountAnswer;
-pub use counting::Counts;
 pub use counting::count_fabric;
 pub use counting::fabric_counts;
 pub use counting::program_length;
 pub use counting::table_length;
-pub use parts::BlockCounts;
 pub use parts::MAX_PINS;
 pub use parts::gate_places;
 pub use parts::output_counts;
 pub use parts::pin_counts;
 pub use parts::universal_counts;
+pub use programming::check_program;
+pub use writing::check_fabric;

@@ -1,24 +1,18 @@
 // The parts of a fabric: S(u, 2K), U(K) and S(K, v), where K is the smallest power of two not below k. Counts of 16 bits have parts whose
 // counts are of 32.
 ghost use Prim.Native.Nat.{_^_};
-ghost use Rattle.universal.specs.Selector.{pinCount};
-ghost use Rattle.universal.specs.Fabric.{gateLevel};
+ghost use Rattle.fabric_universal.specs.Selector.{pinCount};
+ghost use Rattle.fabric_universal.specs.Fabric.{gateLevel};
 ghost use Rattle.fabric_sizes.specs.Parts.{PlacesAre, SidesWithin, SelectionIs, UniversalIs};
+use block_sizes::selection_count;
+use block_sizes::selection_wires;
+use elements::Counts;
 use plan::Plan;
 use powers::ceil_log;
 use powers::ceil_power;
-use sizes::selection_count;
-use sizes::selection_wires;
 
 // The pins of the largest U of a plan, two for each gate.
 pub const MAX_PINS: usize = 2 * Plan::MAX_GATES;
-
-// The rows of a block, the wires that they make, and their program bits.
-pub struct BlockCounts {
-    pub rows: u32,
-    pub wires: u32,
-    pub bits: u32,
-}
 
 // K.
 pub fn gate_places(k: u16) -> u32
@@ -28,20 +22,20 @@ pub fn gate_places(k: u16) -> u32
 }
 
 // S(m, 2K), which selects for the pins of U(K).
-pub fn pin_counts(m: u16, k: u16) -> BlockCounts
+pub fn pin_counts(m: u16, k: u16) -> Counts
     ensures { λ r. ⌜ SelectionIs m (pinCount (gateLevel k)) r ⌝ }
 {
     selection_counts(m as u32, 2 * gate_places(k))
 }
 
 // U(K): K(n² + n) + 2K - 1 rows and K(2n² + 4) - 3 wires, n the logarithm of K. Each of the K gates takes three bits more than another row.
-pub fn universal_counts(k: u16) -> BlockCounts
+pub fn universal_counts(k: u16) -> Counts
     ensures { λ r. ⌜ UniversalIs (gateLevel k) r ⌝ }
 {
     let gates = gate_places(k);
     let n = ceil_log(k as u32);
     let rows = gates * (n * n + n) + 2 * gates - 1;
-    BlockCounts {
+    Counts {
         rows,
         wires: 2 * (gates * (n * n)) + 4 * gates - 3,
         bits: rows + 3 * gates,
@@ -49,19 +43,19 @@ pub fn universal_counts(k: u16) -> BlockCounts
 }
 
 // S(K, v), whose outputs are the fabric's.
-pub fn output_counts(k: u16, v: u16) -> BlockCounts
+pub fn output_counts(k: u16, v: u16) -> Counts
     ensures { λ r. ⌜ SelectionIs (2 ^ gateLevel k) v r ⌝ }
 {
     selection_counts(gate_places(k), v as u32)
 }
 
 // S(m, n). Each of its rows takes one bit.
-fn selection_counts(m: u32, n: u32) -> BlockCounts
+fn selection_counts(m: u32, n: u32) -> Counts
     requires { ⌜ SidesWithin m n ⌝ }
     ensures { λ r. ⌜ SelectionIs m n r ⌝ }
 {
     let rows = selection_count(m, n) as u32;
-    BlockCounts {
+    Counts {
         rows,
         wires: selection_wires(m, n) as u32,
         bits: rows,

@@ -1,7 +1,8 @@
 -- "A refusal gives its number and changes no buffer. On success entries past the stated length are unchanged."
-use Prim.Native.Nat.{ℕ, zero, suc}
+use Prim.Native.Nat.{ℕ, zero, suc, _-_}
 use mathlib.Core.List.{List, _++_}
 use lib.ListN.{length, drop}
+use borrow.Rule.Slice.PartMut.{midOf, putMid}
 
 -- a buffer that begins with what a call writes, followed by what stood past that
 abbrev pub over : {A : Type 0} → List A → List A → List A
@@ -11,3 +12,10 @@ over new old = new ++ drop (length new) old
 abbrev pub filled : {A : Type 0} → ℕ → List A → List A → List A
 filled zero new old = over new old
 filled (suc n) new old = old
+
+-- what a part of a buffer from p on holds, and the buffer once that part came back
+abbrev pub partOf : {A : Type 0} → ℕ → List A → List A
+partOf p L = midOf p (length L - p) L
+
+abbrev pub withPart : {A : Type 0} → ℕ → List A → List A → List A
+withPart p L F = putMid p (length L - p) L F

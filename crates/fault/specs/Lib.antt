@@ -3,9 +3,5 @@
 pub mod Number
 -- the order of checks: the first failing one decides
 pub mod Checks
-pub mod ChecksLaws
 -- lent buffers after a call
 pub mod Buffers
-pub mod BuffersLaws
--- buffers that are filled part by part
-pub mod PartsLaws

@@ -1,6 +1,5 @@
 -- The starred figures of document 01's bench sheet, each entry by the definition that a public call's contract cites.
 use Prim.Native.Nat.{ℕ}
-use mathlib.Core.Path.{refl}
 use mathlib.Core.List.{List, [], _∷_, _++_}
 use lib.ListN.{length, replicate}
 use Rattle.plan.specs.declared.record.Gate.{Gate}
@@ -8,36 +7,30 @@ use Rattle.plan.specs.declared.record.PlanWire.{PlanWire}
 use Rattle.plan.specs.declared.record.Plan.{Plan}
 use Rattle.plan.specs.Record.{places, zeroPlan}
 use Rattle.plan.specs.Rules.{countAllowed, mapAllowed, operandAllowed, tableAllowed, sourceAllowed}
-use Rattle.cursor.specs.Parsing.{field, inOrder}
-use Rattle.cursor.specs.Fields.{gateStep}
-use Rattle.reading.specs.PlanFile.{notStub, atEnd, planFile, ReadOutcome, planRead}
+use Rattle.plan_fields.specs.Parsing.{field, inOrder}
+use Rattle.plan_fields.specs.Fields.{gateStep}
+use Rattle.plan_reading.specs.PlanFile.{notStub, atEnd, planFile, ReadOutcome, planRead}
 use Rattle.lists.specs.Lists.{listOf}
-use Rattle.fault.specs.Checks.{firstOf, roomFault}
+use Rattle.fault.specs.Checks.{firstOf, roomFault, listFault}
 use Rattle.plan.specs.Faults.{countsFault, gateFault, outputFault, planFault}
 use Rattle.powers.specs.Powers.{firstFit, ceilLog, ceilPower}
-use Rattle.networks.specs.Bits.{setBit, storeBits, pack}
-use Rattle.networks.specs.Permutation.{permutationCount, inputRows, outputRows, firsts, seconds, permutationRows, permutationOuts}
-use Rattle.networks.specs.Permutation.{partner, iterate, walk, key, least, lowest, side, pick, inHalf, permutationBits}
-use Rattle.networks.specs.Wanted.{mapping, takerOf, inverse, wantedBits}
-use Rattle.networks.specs.Counting.{countOf, nthOf}
-use Rattle.networks.specs.Completion.{isTaken, completed}
-use Rattle.networks.specs.Selection.{selectionLevel, padded, chainWire, chainRows, chainOuts, wholeRows, wholeOuts, wholeCount, wholeWires}
-use Rattle.networks.specs.Selection.{selectionRows, selectionOuts, selectionCount, selectionWires, wanting, headOf, copyOf, wholeProgram, selectionBits}
-use Rattle.sizes.specs.Sizes.{sizeAllowed, levelOf, sideAllowed, sidesFault}
-use Rattle.elements.specs.Checks.{listFault, bitsFault}
-use Rattle.wanted_checks.specs.Checks.{selectedFault, notAmong, twiceFault, sourceFault, wantedFault, programFault, selectionWantedFault, selectionProgramFault}
-use Rattle.permutation_bits.specs.ProgramCalls.{programResult}
-use Rattle.selection_bits.specs.ProgramCalls.{selectionProgramResult}
-use Rattle.networks.specs.Rows.{entries, flat, choose}
-use Rattle.universal.specs.Universal.{mixRows, wiresFrom, universalCount, universalWires, universalTakes, universalRows, universalOuts}
-use Rattle.universal.specs.Universal.{tableProgram, isOf, wantedGate, wantedGates, mixBits, universalBits}
-use Rattle.universal.specs.Fabric.{inputWires, fabricRows, fabricOuts, fabricCount, fabricWires, fabricTakes, fabricTable}
-use Rattle.universal.specs.Fabric.{paddedGate, wantedInput, wantedInputs, wantedOutputs, planBits, planProgram}
+use Rattle.block_elements.specs.Bits.{setBit, storeBits, pack}
+use Rattle.block_networks.specs.Permutation.{permutationCount}
+use Rattle.block_networks.specs.Wanted.{wantedBits}
+use Rattle.block_networks.specs.Selection.{selectionLevel, wholeCount, wholeWires, selectionCount, selectionWires, selectionBits}
+use Rattle.block_sizes.specs.Sizes.{sizeAllowed, levelOf, sideAllowed, sidesFault}
+use Rattle.block_program_checks.specs.Bits.{bitsFault}
+use Rattle.block_program_checks.specs.Checks.{selectedFault, notAmong, twiceFault, sourceFault, wantedFault, programFault, selectionWantedFault, selectionProgramFault}
+use Rattle.block_permutation_bits.specs.ProgramCalls.{programResult}
+use Rattle.block_selection_bits.specs.ProgramCalls.{selectionProgramResult}
+use Rattle.block_elements.specs.Rows.{entries}
+use Rattle.fabric_universal.specs.Universal.{universalCount, universalWires, universalTakes}
+use Rattle.fabric_universal.specs.Fabric.{fabricCount, fabricWires, fabricTakes}
 use Rattle.fabric_sizes.specs.Counting.{counting}
 use Rattle.fabric_rows.specs.FabricCalls.{fabricResult}
-use Rattle.fabric_checks.specs.FabricChecks.{fabricFault, planProgramFault}
+use Rattle.fabric_sizes.specs.FabricChecks.{fabricFault, planProgramFault}
 use Rattle.fabric_bits.specs.ProgramCalls.{planProgramResult}
-use Rattle.figures.specs.Figure.{Figure, Holds, passes, passes-holds}
+use Rattle.figures.specs.Figure.{Figure}
 
 -- a record as a row of numbers: the counts, every gate's place, every output's place
 gateNumbers : List Gate → List ℕ
@@ -142,12 +135,3 @@ statedFigures =
     -- plan hex 01 00 01 00 01 00 04 01 02 00 (NOT): program hex 08
     ∷ planned (1 ∷ 0 ∷ 1 ∷ 0 ∷ 1 ∷ 0 ∷ 4 ∷ 1 ∷ 2 ∷ 0 ∷ []) (8 ∷ [])
     ∷ []
-
--- the claim
-pub figures-hold : Holds statedFigures
-unfolding statedFigures passes refuses programs selects counts fabricates planned selectionRows selectionOuts wholeRows wholeOuts padded chainWire
-    chainRows chainOuts inputRows outputRows firsts seconds permutationRows permutationOuts entries flat inputWires fabricRows fabricOuts fabricTable
-    mixRows wiresFrom universalRows universalOuts paddedGate wantedInput wantedInputs wantedOutputs planBits planProgram tableProgram isOf wantedGate
-    wantedGates mixBits universalBits choose selectionLevel wholeCount selectionCount wanting headOf copyOf wholeProgram selectionBits countOf nthOf
-    isTaken completed permutationCount partner iterate walk key least lowest side pick inHalf permutationBits mapping takerOf inverse wantedBits
-figures-hold = passes-holds statedFigures refl

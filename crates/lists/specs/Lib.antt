@@ -1,3 +1,4 @@
 -- lists given place by place
 pub mod Lists
-pub mod ListsLaws
+-- counting the numbers that pass a test
+pub mod Counting

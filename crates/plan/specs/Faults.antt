@@ -1,6 +1,6 @@
 -- Document 01, "Plan faults, for a plan handed over in memory: 2, 3, 4, per gate 7 for both operands and 8, then 9". Unused places are
 -- not looked at.
-use Prim.Native.Nat.{ℕ}
+use Prim.Native.Nat.{ℕ, _≤_}
 use mathlib.Core.Path.{_≡_}
 use Rattle.fault.specs.declared.Fault.{Fault}
 use Rattle.fault.specs.Checks.{unless, andThen, firstOf}
@@ -39,3 +39,12 @@ planFault p =
 -- "a plan is accepted exactly if it has no plan fault"
 abbrev pub Accepted : Plan → Type 0
 Accepted p = planFault p ≡ 0
+
+-- the same as bounds
+pub record CountsWithin (u k v : ℕ) : Type 0 where
+  pub someInputs : 1 ≤ u
+  pub inputs : u ≤ maxInputs
+  pub someGates : 1 ≤ k
+  pub gates : k ≤ maxGates
+  pub someOutputs : 1 ≤ v
+  pub outputs : v ≤ maxOutputs

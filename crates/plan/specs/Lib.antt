@@ -1,12 +1,7 @@
 -- Document 01, "The plan": a plan in memory, in reading order.
 -- the record in memory and its limits
 pub mod Record
-pub mod RecordLaws
 -- what a count, a map byte, an operand, a table and an output may be
 pub mod Rules
-pub mod RulesLaws
 -- faults of a plan in memory
 pub mod Faults
-pub mod FaultsLaws
--- unused places never matter
-pub mod AgreeLaws

@@ -1,8 +1,11 @@
 // Plans: the record in memory and the rules of its parts. What a plan's faults are is defined here; the crate plan_faults finds them. Nothing
 // here reads files or knows of fabrics.
+mod faults;
 mod record;
 mod rules;
 
+pub use faults::counts_fault;
+pub use faults::plan_fault;
 pub use record::Gate;
 pub use record::Plan;
 pub use record::PlanWire;

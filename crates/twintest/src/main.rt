@@ -3,8 +3,8 @@
 mod line;
 mod rows;
 
-use fabric_sizes::CountAnswer;
-use fabric_sizes::Counts;
+use elements::CountAnswer;
+use elements::Counts;
 use fabric_sizes::count_fabric;
 use fault::Fault;
 use line::Line;
@@ -13,8 +13,8 @@ use line::print;
 use line::put_number;
 use line::put_word;
 use plan::Plan;
-use reading::ReadAnswer;
-use reading::read_plan;
+use plan_reading::ReadAnswer;
+use plan_reading::read_plan;
 use rows::print_rows;
 
 // A plan with more gates is refused: the buffers of `rows` hold no larger fabric.

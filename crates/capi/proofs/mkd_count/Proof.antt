@@ -1,17 +1,17 @@
 -- `capi::mkd_count` meets its contract: the two cases of the library's answer. Assumes nothing.
 use mathlib.Core.Path.{sym, ap, _∙_}
 use borrow.Author.Needs.{needs}
-use Rattle.fabric_sizes.specs.Counting.{countAnswer}
+use Rattle.elements.specs.Elements.{countOutcome}
 use Rattle.capi.proofs.mkd_count.Statement.{statement}
 use Rattle.capi.proofs.mkd_count.Tie as tie
 
 counted : tie.Need-returns
-counted c = ap countAnswer (sym (c .before .c .given .1)) ∙ c .before .before .before .count-fabric .ensures
+counted c = ap countOutcome (sym (c .before .c .given .1)) ∙ c .before .before .before .count-fabric .ensures
 
 refused : tie.Need-returns-2
 refused c =
     let told = c .before .before in
-    rw (c .number .ensures) (ap countAnswer (sym (told .f .given .1)) ∙ told .before .before .count-fabric .ensures)
+    rw (c .number .ensures) (ap countOutcome (sym (told .f .given .1)) ∙ told .before .before .count-fabric .ensures)
 
 pub mkd-count-spec : {M : Type 1} → statement M
 mkd-count-spec =

@@ -1,7 +1,7 @@
 -- `capi::mkd_plan_read` meets its contract: the two cases of the library's answer. Assumes nothing.
 use mathlib.Core.Path.{sym, ap, _∙_}
 use borrow.Author.Needs.{needs}
-use Rattle.reading.specs.Answers.{answered}
+use Rattle.plan_reading.specs.Answers.{answered}
 use Rattle.capi.proofs.mkd_plan_read.Statement.{statement}
 use Rattle.capi.proofs.mkd_plan_read.Tie as tie
 

@@ -2,9 +2,9 @@
 use mathlib.Core.Path.{_≡_, sym, ap, _∙_}
 use borrow.Author.Needs.{needs}
 use Rattle.fault.specs.Number.{answerNumber}
-use Rattle.fault.specs.ChecksLaws.{first-refuses, second-answers}
+use Rattle.fault.proofs.ChecksLaws.{first-refuses, second-answers}
 use Rattle.plan.specs.Faults.{planFault}
-use Rattle.evaluation_checks.specs.EvaluationChecks.{contactFault}
+use Rattle.plan_evaluation_checks.specs.EvaluationChecks.{contactFault}
 use Rattle.equivalence.specs.BothCalls.{bothFault}
 use Rattle.equivalence.proofs.both.check_both.Statement.{statement}
 use Rattle.equivalence.proofs.both.check_both.Tie as tie

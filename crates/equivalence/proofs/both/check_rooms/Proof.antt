@@ -4,8 +4,9 @@ use Prim.Native.Nat.{_<_, _≤_}
 use borrow.Author.Needs.{needs}
 use borrow.Author.Tests.{le-leb, lt-leb}
 use Rattle.fault.specs.Checks.{roomFault}
-use Rattle.fabric_checks.specs.FabricChecks.{programLength}
-use Rattle.equivalence.specs.BothCalls.{entriesOf, wiresOf, bothRoomFault}
+use Rattle.fabric_sizes.specs.FabricChecks.{programLength}
+use Rattle.equivalence.specs.ThirdDemand.{planTableLength, planFabricWires}
+use Rattle.equivalence.specs.BothCalls.{bothRoomFault}
 use Rattle.equivalence.proofs.both.check_rooms.Statement.{statement}
 use Rattle.equivalence.proofs.both.check_rooms.Tie as tie
 
@@ -14,7 +15,7 @@ unfolding bothRoomFault roomFault
 short-table c =
     let a = c .before .before .before .before .args in
     let p = a .plan in
-    let table : a .table < entriesOf p = omega arith in
+    let table : a .table < planTableLength p = omega arith in
     rw (lt-leb _ _ table)
 
 short-program : tie.Need-returns-2
@@ -22,7 +23,7 @@ unfolding bothRoomFault roomFault
 short-program c =
     let a = c .before .before .before .before .before .before .args in
     let p = a .plan in
-    let table : entriesOf p ≤ a .table = omega arith in
+    let table : planTableLength p ≤ a .table = omega arith in
     let program : a .program < programLength p = omega arith in
     rw (le-leb _ _ table, lt-leb _ _ program)
 
@@ -31,9 +32,9 @@ unfolding bothRoomFault roomFault
 short-work c =
     let a = c .before .before .before .before .before .before .before .before .args in
     let p = a .plan in
-    let table : entriesOf p ≤ a .table = omega arith in
+    let table : planTableLength p ≤ a .table = omega arith in
     let program : programLength p ≤ a .program = omega arith in
-    let work : a .work < wiresOf p = omega arith in
+    let work : a .work < planFabricWires p = omega arith in
     rw (le-leb _ _ table, le-leb _ _ program, lt-leb _ _ work)
 
 short-evaluated : tie.Need-returns-4
@@ -41,9 +42,9 @@ unfolding bothRoomFault roomFault
 short-evaluated c =
     let a = c .before .before .before .before .before .before .before .before .before .args in
     let p = a .plan in
-    let table : entriesOf p ≤ a .table = omega arith in
+    let table : planTableLength p ≤ a .table = omega arith in
     let program : programLength p ≤ a .program = omega arith in
-    let work : wiresOf p ≤ a .work = omega arith in
+    let work : planFabricWires p ≤ a .work = omega arith in
     let evaluated : a .evaluated < p .«output_count» = omega arith in
     rw (le-leb _ _ table, le-leb _ _ program, le-leb _ _ work, lt-leb _ _ evaluated)
 
@@ -52,9 +53,9 @@ unfolding bothRoomFault roomFault
 short-ran c =
     let a = c .before .before .before .before .before .before .before .before .before .before .args in
     let p = a .plan in
-    let table : entriesOf p ≤ a .table = omega arith in
+    let table : planTableLength p ≤ a .table = omega arith in
     let program : programLength p ≤ a .program = omega arith in
-    let work : wiresOf p ≤ a .work = omega arith in
+    let work : planFabricWires p ≤ a .work = omega arith in
     let evaluated : p .«output_count» ≤ a .evaluated = omega arith in
     let ran : a .ran < p .«output_count» = omega arith in
     rw (le-leb _ _ table, le-leb _ _ program, le-leb _ _ work, le-leb _ _ evaluated, lt-leb _ _ ran)
@@ -64,9 +65,9 @@ unfolding bothRoomFault roomFault
 room c =
     let a = c .before .before .before .before .before .before .before .before .before .before .args in
     let p = a .plan in
-    let table : entriesOf p ≤ a .table = omega arith in
+    let table : planTableLength p ≤ a .table = omega arith in
     let program : programLength p ≤ a .program = omega arith in
-    let work : wiresOf p ≤ a .work = omega arith in
+    let work : planFabricWires p ≤ a .work = omega arith in
     let evaluated : p .«output_count» ≤ a .evaluated = omega arith in
     let ran : p .«output_count» ≤ a .ran = omega arith in
     rw (le-leb _ _ table, le-leb _ _ program, le-leb _ _ work, le-leb _ _ evaluated, le-leb _ _ ran)

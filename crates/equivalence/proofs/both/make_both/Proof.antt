@@ -1,7 +1,7 @@
 -- `equivalence::both::make_both` meets its contract: what the first two calls wrote is run, and none of the four refuses. Assumes nothing.
 use native.Mathlib.Omega.{arith}
 use borrow.Author.Needs.{needs}
-use Rattle.equivalence.specs.BothLaws.{made-table, made-program, made-work, made-evaluated, made-ran}
+use Rattle.equivalence.proofs.BothLaws.{made-table, made-program, made-work, made-evaluated, made-ran}
 use Rattle.equivalence.proofs.both.make_both.Statement.{statement}
 use Rattle.equivalence.proofs.both.make_both.Tie as tie
 

@@ -4,7 +4,7 @@ use lib.ListN.{length, getD}
 use borrow.Author.Needs.{needs}
 use Rattle.fault.specs.Number.{answerNumber}
 use Rattle.equivalence.specs.BothCalls.{bothFault}
-use Rattle.equivalence.specs.BothLaws.{both-passes, kept, refused-same, both-same}
+use Rattle.equivalence.proofs.BothLaws.{both-passes, kept, refused-same, both-same}
 use Rattle.equivalence.proofs.both.run_both.Statement.{statement}
 use Rattle.equivalence.proofs.both.run_both.Tie as tie
 

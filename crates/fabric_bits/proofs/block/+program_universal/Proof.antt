@@ -9,16 +9,16 @@ use borrow.Fn.Kinds.{In}
 use borrow.Fn.PlainCycle.{Measures, is, falls, and}
 use lib.ListN.{length}
 use lib.Pow.{pow-pos}
-use Rattle.networks.specs.Bits.{storeBits}
-use Rattle.universal.specs.Fabric.{gateLevel}
-use Rattle.fabric_sizes.specs.PartsLaws.{halved}
-use Rattle.wanted_lists.specs.WantedLists.{gatesIn, pinsIn}
-use Rattle.fabric_bits.specs.UniversalBitsLaws.{takes-half, upper-room, between-room, lower-room, length-between, between-pins, gate-takes, gate-stored, halves-stored}
+use Rattle.block_elements.specs.Bits.{storeBits}
+use Rattle.fabric_universal.specs.Fabric.{gateLevel}
+use Rattle.fabric_sizes.proofs.PartsLaws.{halved}
+use Rattle.fabric_lists.specs.WantedLists.{gatesIn, pinsIn}
+use Rattle.fabric_bits.proofs.UniversalBitsLaws.{takes-half, upper-room, between-room, lower-room, length-between, between-pins, gate-takes, gate-stored, halves-stored}
 use Rattle.fabric_bits.proofs.block.program_universal.Reads as program-universal
 use Rattle.fabric_bits.proofs.block.program_universal.Kinds as program-universal-kinds
 use Rattle.fabric_bits.proofs.block.+program_universal.Lts-program_universal as program-universal-lts
 use Rattle.fabric_bits.proofs.block.program_between.Reads as program-between-reads
-use Rattle.gate_lists.proofs.store_table.Reads as store-table-reads
+use Rattle.fabric_lists.proofs.store_table.Reads as store-table-reads
 use Rattle.fabric_bits.proofs.block.+program_universal.{statement}
 use Rattle.fabric_bits.proofs.block.+program_universal.Tie.{close}
 

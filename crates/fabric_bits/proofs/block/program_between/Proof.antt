@@ -4,10 +4,10 @@ use Prim.Native.Nat.{_*_}
 use native.Mathlib.Omega.{arith}
 use borrow.Author.Needs.{needs}
 use lib.ListN.{take}
-use Rattle.universal.specs.Universal.{wantedGates}
-use Rattle.wanted_lists.specs.WantedLists.{pinsIn}
-use Rattle.wanted_lists.specs.WantedListsLaws.{gates-listed}
-use Rattle.fabric_bits.specs.UniversalBitsLaws.{length-between, between-passes, between-stored}
+use Rattle.fabric_universal.specs.Universal.{wantedGates}
+use Rattle.fabric_lists.specs.WantedLists.{pinsIn}
+use Rattle.fabric_lists.proofs.WantedListsLaws.{gates-listed}
+use Rattle.fabric_bits.proofs.UniversalBitsLaws.{length-between, between-passes, between-stored}
 use Rattle.fabric_bits.proofs.block.program_between.Statement.{statement}
 use Rattle.fabric_bits.proofs.block.program_between.Tie as tie
 

@@ -2,7 +2,7 @@
 use mathlib.Core.Path.{ap, _∙_}
 use Prim.Native.Nat.{_+_}
 use borrow.Author.Needs.{needs}
-use Rattle.fabric_bits.specs.UniversalBitsLaws.{selection-stored}
+use Rattle.fabric_bits.proofs.UniversalBitsLaws.{selection-stored}
 use Rattle.fabric_bits.proofs.block.store_selection.Statement.{statement}
 use Rattle.fabric_bits.proofs.block.store_selection.Tie as tie
 

@@ -6,13 +6,13 @@ use native.Mathlib.Omega.{arith}
 use borrow.Author.Needs.{needs}
 use lib.ListN.{length}
 use Rattle.fault.specs.Number.{answerNumber}
-use Rattle.fault.specs.BuffersLaws.{filled-refused, filled-done}
-use Rattle.networks.specs.Bits.{bytesFor, storeBits}
-use Rattle.program_bits.specs.StoreLaws.{store-zeroed, bytes-filled}
-use Rattle.universal.specs.Fabric.{planBits, planProgram}
-use Rattle.universal.specs.FabricLaws.{length-planBits}
-use Rattle.fabric_checks.specs.FabricChecks.{planProgramFault}
-use Rattle.fabric_checks.specs.FabricChecksLaws.{PlanProgramPasses, plan-program-passes}
+use Rattle.fault.proofs.BuffersLaws.{filled-refused, filled-done}
+use Rattle.block_elements.specs.Bits.{bytesFor, storeBits}
+use Rattle.block_bits.proofs.StoreLaws.{store-zeroed, bytes-filled}
+use Rattle.fabric_universal.specs.Fabric.{planBits, planProgram}
+use Rattle.fabric_universal.proofs.FabricLaws.{length-planBits}
+use Rattle.fabric_sizes.specs.FabricChecks.{planProgramFault}
+use Rattle.fabric_sizes.proofs.FabricChecksLaws.{PlanProgramPasses, plan-program-passes}
 use Rattle.fabric_bits.proofs.programming.program_plan.Statement.{statement}
 use Rattle.fabric_bits.proofs.programming.program_plan.Tie as tie
 

@@ -3,12 +3,12 @@ use mathlib.Core.Path.{_≡_, refl, ap, _∙_}
 use Prim.Native.Nat.{_*_}
 use native.Mathlib.Omega.{arith}
 use borrow.Author.Needs.{needs}
-use Rattle.networks.specs.Selection.{selectionCount}
-use Rattle.universal.specs.Selector.{pinCount, selection}
-use Rattle.universal.specs.Universal.{universalTakes}
-use Rattle.universal.specs.Fabric.{gateLevel}
-use Rattle.fabric_sizes.specs.PartsLaws.{same-level}
-use Rattle.fabric_bits.specs.PlanBitsLaws.{length-gates, room-behind, gates-stored}
+use Rattle.block_networks.specs.Selection.{selectionCount}
+use Rattle.fabric_universal.specs.Selector.{pinCount, selection}
+use Rattle.fabric_universal.specs.Universal.{universalTakes}
+use Rattle.fabric_universal.specs.Fabric.{gateLevel}
+use Rattle.fabric_sizes.proofs.PartsLaws.{same-level}
+use Rattle.fabric_bits.proofs.PlanBitsLaws.{length-gates, room-behind, gates-stored}
 use Rattle.fabric_bits.proofs.programming.store_gates.Statement.{statement}
 use Rattle.fabric_bits.proofs.programming.store_gates.Tie as tie
 

@@ -3,10 +3,10 @@ use mathlib.Core.Path.{_≡_, ap, _∙_}
 use native.Mathlib.Omega.{arith}
 use borrow.Author.Needs.{needs}
 use lib.ListN.{take}
-use Rattle.networks.specs.Bits.{storeBits}
-use Rattle.networks.specs.Selection.{selectionBits}
-use Rattle.wanted_lists.specs.WantedLists.{inputsWanted}
-use Rattle.wanted_lists.specs.WantedListsLaws.{inputs-listed}
+use Rattle.block_elements.specs.Bits.{storeBits}
+use Rattle.block_networks.specs.Selection.{selectionBits}
+use Rattle.fabric_lists.specs.WantedLists.{inputsWanted}
+use Rattle.fabric_lists.proofs.WantedListsLaws.{inputs-listed}
 use Rattle.fabric_bits.proofs.programming.store_inputs.Statement.{statement}
 use Rattle.fabric_bits.proofs.programming.store_inputs.Tie as tie
 

@@ -3,12 +3,12 @@ use mathlib.Core.Path.{_≡_, ap₂, _∙_}
 use native.Mathlib.Omega.{arith}
 use borrow.Author.Needs.{needs}
 use lib.ListN.{take}
-use Rattle.networks.specs.Bits.{storeBits}
-use Rattle.networks.specs.Selection.{selectionBits}
-use Rattle.plan.specs.FaultsLaws.{accepted-counts}
-use Rattle.universal.specs.Fabric.{wantedOutputs}
-use Rattle.wanted_lists.specs.WantedListsLaws.{outputs-listed}
-use Rattle.fabric_bits.specs.PlanBitsLaws.{outputs-pass}
+use Rattle.block_elements.specs.Bits.{storeBits}
+use Rattle.block_networks.specs.Selection.{selectionBits}
+use Rattle.plan.proofs.FaultsLaws.{accepted-counts}
+use Rattle.fabric_universal.specs.Fabric.{wantedOutputs}
+use Rattle.fabric_lists.proofs.WantedListsLaws.{outputs-listed}
+use Rattle.fabric_bits.proofs.PlanBitsLaws.{outputs-pass}
 use Rattle.fabric_bits.proofs.programming.store_outputs.Statement.{statement}
 use Rattle.fabric_bits.proofs.programming.store_outputs.Tie as tie
 

@@ -8,15 +8,16 @@ use borrow.Author.Needs.{needs}
 use borrow.Fn.Kinds.{In}
 use borrow.Fn.PlainCycle.{Measures, is, falls, and}
 use lib.ListN.{length}
-use Rattle.fault.specs.PartsLaws.{withPart, length-with}
+use Rattle.fault.specs.Buffers.{withPart}
+use Rattle.fault.proofs.PartsLaws.{length-with}
 use Rattle.fabric_rows.specs.declared.block.Parts.{Parts}
-use Rattle.fabric_rows.specs.UniversalWriteLaws.{UniversalWritten, Begun, UpperDone, MiddleDone, LowerDone}
-use Rattle.fabric_rows.specs.UniversalWriteLaws.{upper-room, middle-room, select-start, outs-start, lower-start, pins-start, lower-room, universal-written, gate-written}
+use Rattle.fabric_rows.proofs.UniversalWriteLaws.{UniversalWritten, Begun, UpperDone, MiddleDone, LowerDone}
+use Rattle.fabric_rows.proofs.UniversalWriteLaws.{upper-room, middle-room, select-start, outs-start, lower-start, pins-start, lower-room, universal-written, gate-written}
 use Rattle.fabric_rows.proofs.block.write_universal.Reads as write-universal
 use Rattle.fabric_rows.proofs.block.write_universal.Kinds as write-universal-kinds
 use Rattle.fabric_rows.proofs.block.+write_universal.Lts-write_universal as write-universal-lts
 use Rattle.fabric_rows.proofs.block.parts_of.Reads as parts-of-reads
-use Rattle.universal_elements.proofs.write_gate.Reads as write-gate-reads
+use Rattle.fabric_parts.proofs.write_gate.Reads as write-gate-reads
 use Rattle.fabric_rows.proofs.block.write_middle.Reads as write-middle-reads
 use Rattle.fabric_rows.proofs.block.+write_universal.{statement}
 use Rattle.fabric_rows.proofs.block.+write_universal.Tie.{close}

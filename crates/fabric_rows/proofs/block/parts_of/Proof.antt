@@ -2,8 +2,8 @@
 use native.Mathlib.Omega.{arith}
 use mathlib.Core.Path.{refl}
 use borrow.Author.Needs.{needs}
-use Rattle.fabric_sizes.specs.PartsLaws.{halved}
-use Rattle.fabric_rows.specs.BlockLaws.{part-wire, parts-at}
+use Rattle.fabric_sizes.proofs.PartsLaws.{halved}
+use Rattle.fabric_rows.proofs.BlockLaws.{part-wire, parts-at}
 use Rattle.fabric_rows.proofs.block.parts_of.Statement.{statement}
 use Rattle.fabric_rows.proofs.block.parts_of.Tie as tie
 

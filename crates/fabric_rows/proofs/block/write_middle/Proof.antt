@@ -1,7 +1,7 @@
 -- `fabric_rows::block::write_middle` meets its contract: the Y rows behind the selection block, and their output wires behind its. Assumes
 -- nothing.
 use borrow.Author.Needs.{needs}
-use Rattle.fabric_rows.specs.BlockLaws.{middle-written, middle-fed}
+use Rattle.fabric_rows.proofs.BlockLaws.{middle-written, middle-fed}
 use Rattle.fabric_rows.proofs.block.write_middle.Statement.{statement}
 use Rattle.fabric_rows.proofs.block.write_middle.Tie as tie
 

@@ -3,9 +3,9 @@ use native.Mathlib.Omega.{arith}
 use mathlib.Core.Path.{refl, ap}
 use Prim.Native.Nat.{_+_}
 use borrow.Author.Needs.{needs}
-use Rattle.universal.specs.Tables.{header}
-use Rattle.fabric_sizes.specs.PartsLaws.{few-places}
-use Rattle.fabric_rows.specs.WritingLaws.{layout-is}
+use Rattle.fabric_sizes.specs.Layout.{header}
+use Rattle.fabric_sizes.proofs.PartsLaws.{few-places}
+use Rattle.fabric_rows.proofs.WritingLaws.{layout-is}
 use Rattle.fabric_rows.proofs.writing.layout_of.Statement.{statement}
 use Rattle.fabric_rows.proofs.writing.layout_of.Tie as tie
 

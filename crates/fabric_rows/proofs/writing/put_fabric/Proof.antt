@@ -3,12 +3,12 @@ use mathlib.Core.List.{List}
 use Prim.Native.Nat.{ℕ}
 use borrow.Author.Needs.{needs}
 use lib.ListN.{replicate}
-use Rattle.fault.specs.PartsLaws.{withPart}
+use Rattle.fault.specs.Buffers.{withPart}
 use Rattle.plan.specs.Record.{maxGates}
-use Rattle.universal.specs.Tables.{header}
+use Rattle.fabric_sizes.specs.Layout.{header}
 use Rattle.fabric_sizes.specs.Parts.{maxPins}
 use Rattle.fabric_rows.specs.declared.writing.Layout.{Layout}
-use Rattle.fabric_rows.specs.WritingLaws.{Begun, PinsDone, GatesDone, pin-room, gates-room, table-written}
+use Rattle.fabric_rows.proofs.WritingLaws.{Begun, PinsDone, GatesDone, pin-room, gates-room, table-written}
 use Rattle.fabric_rows.proofs.writing.put_fabric.Statement.{statement}
 use Rattle.fabric_rows.proofs.writing.put_fabric.Tie as tie
 

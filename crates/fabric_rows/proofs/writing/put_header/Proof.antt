@@ -2,7 +2,7 @@
 use native.Mathlib.Omega.{arith}
 use borrow.Author.Needs.{needs}
 use lib.ListN.{length-set}
-use Rattle.fabric_rows.specs.WritingLaws.{header-put}
+use Rattle.fabric_rows.proofs.WritingLaws.{header-put}
 use Rattle.fabric_rows.proofs.writing.put_header.Statement.{statement}
 use Rattle.fabric_rows.proofs.writing.put_header.Tie as tie
 

@@ -1,7 +1,7 @@
 -- `fabric_rows::writing::put_pins` meets its contract: S on the wires 1 to u. Assumes nothing.
 use mathlib.Core.Path.{refl}
 use borrow.Author.Needs.{needs}
-use Rattle.fabric_rows.specs.WritingLaws.{pins-put}
+use Rattle.fabric_rows.proofs.WritingLaws.{pins-put}
 use Rattle.fabric_rows.proofs.writing.put_pins.Statement.{statement}
 use Rattle.fabric_rows.proofs.writing.put_pins.Tie as tie
 

@@ -4,9 +4,9 @@ use mathlib.Core.Path.{_≡_, sym, ap, _∙_}
 use lib.ListN.{length}
 use borrow.Author.Needs.{needs}
 use Rattle.fault.specs.Number.{answerNumber}
-use Rattle.fault.specs.BuffersLaws.{filled-refused, is-filled}
-use Rattle.fabric_checks.specs.FabricChecks.{fabricFault}
-use Rattle.fabric_checks.specs.FabricChecksLaws.{FabricPasses, fabric-passes}
+use Rattle.fault.proofs.BuffersLaws.{filled-refused, is-filled}
+use Rattle.fabric_sizes.specs.FabricChecks.{fabricFault, FabricPasses}
+use Rattle.fabric_sizes.proofs.FabricChecksLaws.{fabric-passes}
 use Rattle.fabric_rows.proofs.writing.write_fabric.Statement.{statement}
 use Rattle.fabric_rows.proofs.writing.write_fabric.Tie as tie
 

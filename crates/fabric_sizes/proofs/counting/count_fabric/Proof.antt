@@ -3,9 +3,9 @@ use native.Mathlib.Omega.{arith}
 use mathlib.Core.Path.{_≡_, sym, ap, _∙_}
 use borrow.Author.Needs.{needs}
 use Rattle.fault.specs.Number.{answerNumber}
-use Rattle.plan.specs.Faults.{countsFault}
-use Rattle.plan.specs.FaultsLaws.{CountsWithin, counts-within}
-use Rattle.fabric_sizes.specs.CountingLaws.{refused-counts, given-counts}
+use Rattle.plan.specs.Faults.{countsFault, CountsWithin}
+use Rattle.plan.proofs.FaultsLaws.{counts-within}
+use Rattle.elements.proofs.CountLaws.{refused-counts, given-counts}
 use Rattle.fabric_sizes.proofs.counting.count_fabric.Statement.{statement}
 use Rattle.fabric_sizes.proofs.counting.count_fabric.Tie as tie
 
@@ -23,7 +23,7 @@ refused c =
     (ap answerNumber (sym (c .before .f .given .1)) ∙ c .before .before .before .counts-fault .ensures)
 
 counted : tie.Need-returns-2
-counted c = given-counts _ _ _ _ (c .fabric-counts .result) (none (c .before)) (c .fabric-counts .ensures)
+counted c = given-counts _ (c .fabric-counts .result) (none (c .before)) (c .fabric-counts .ensures)
 
 pub count-fabric-spec : {M : Type 1} → statement M
 count-fabric-spec =

@@ -2,9 +2,9 @@
 use native.Mathlib.Omega.{arith}
 use mathlib.Core.Path.{sym, _∙_}
 use borrow.Author.Needs.{needs}
-use Rattle.universal.specs.FabricLaws.{gate-places}
+use Rattle.fabric_universal.proofs.FabricLaws.{gate-places}
 use Rattle.fabric_sizes.specs.Parts.{PlacesAre}
-use Rattle.fabric_sizes.specs.PartsLaws.{places-are}
+use Rattle.fabric_sizes.proofs.PartsLaws.{places-are}
 use Rattle.fabric_sizes.proofs.parts.gate_places.Statement.{statement}
 use Rattle.fabric_sizes.proofs.parts.gate_places.Tie as tie
 

@@ -1,7 +1,7 @@
 -- `fabric_sizes::parts::selection_counts` meets its contract: such a block is small. Assumes nothing.
 use native.Mathlib.Omega.{arith}
 use borrow.Author.Needs.{needs}
-use Rattle.fabric_sizes.specs.PartsLaws.{few-selected}
+use Rattle.fabric_sizes.proofs.PartsLaws.{few-selected}
 use Rattle.fabric_sizes.proofs.parts.selection_counts.Statement.{statement}
 use Rattle.fabric_sizes.proofs.parts.selection_counts.Tie as tie
 

@@ -1,7 +1,7 @@
 -- `fabric_sizes::parts::universal_counts` meets its contract: the laws of U's rows, wires and bits, and that nothing is lost. Assumes nothing.
 use native.Mathlib.Omega.{arith}
 use borrow.Author.Needs.{needs}
-use Rattle.fabric_sizes.specs.PartsLaws.{Products, products, universal-is}
+use Rattle.fabric_sizes.proofs.PartsLaws.{Products, products, universal-is}
 use Rattle.fabric_sizes.proofs.parts.universal_counts.Statement.{statement}
 use Rattle.fabric_sizes.proofs.parts.universal_counts.Tie as tie
 

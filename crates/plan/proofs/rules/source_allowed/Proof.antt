@@ -1,6 +1,6 @@
 -- `plan::rules::source_allowed` meets its contract. Assumes nothing.
 use borrow.Author.Needs.{needs}
-use Rattle.plan.specs.RulesLaws.{source-above, source-input}
+use Rattle.plan.proofs.RulesLaws.{source-above, source-input}
 use Rattle.plan.proofs.rules.source_allowed.Statement.{statement}
 use Rattle.plan.proofs.rules.source_allowed.Tie as tie
 

@@ -1,0 +1,7 @@
+-- the bits of a level and of its halves, stored one after another
+pub mod LevelsLaws
+-- the bits of a level are those of its input rows, of its halves, and of its output rows
+pub mod MappingsLaws
+-- The laws of the definitions.
+-- the marks that are left are the sides of the outputs
+pub mod MarkingLaws

@@ -1,0 +1,82 @@
+-- The mapping of P's outputs to its inputs as the programming holds it: a list of places counted from 0, with its inverse beside it.
+use Prim.Native.Nat.{ℕ, _+_, _-_, _*_, _/_, _%_}
+use mathlib.Core.Path.{_≡_}
+use mathlib.Core.List.{List, _++_}
+use lib.ListN.{length, getD}
+use Rattle.lists.specs.Lists.{listOf}
+use Rattle.block_networks.specs.Permutation.{Perm, walk, side, permutationBits}
+use Rattle.block_elements.specs.Bits.{storeBits}
+use Rattle.block_networks.specs.Wanted.{takerOf}
+
+-- the input that output o takes; past the list nothing moves
+unfoldable pub mapOf : List ℕ → ℕ → ℕ
+mapOf l o = getD l o o
+
+-- the output that takes input x
+unfoldable pub inverseOf : List ℕ → ℕ → ℕ
+inverseOf l = takerOf (length l) (mapOf l)
+
+-- the list is a one-to-one mapping of its places
+pub record IsPerm (l : List ℕ) : Type 0 where
+  pub perm : Perm (length l) (mapOf l) (inverseOf l)
+
+-- the program bits of P(2 ^ n) for a list's mapping
+unfoldable pub listBits : ℕ → List ℕ → List ℕ
+listBits n l = permutationBits n (mapOf l) (inverseOf l)
+
+-- q is the inverse of the mapping p, of pairs of places
+pub record Paired (p q : List ℕ) : Type 0 where
+  pub even : 2 * (length p / 2) ≡ length p
+  pub size : length q ≡ length p
+  pub perm : Perm (2 * (length p / 2)) (mapOf p) (mapOf q)
+
+-- ---- one level of the programming
+
+-- one step along a loop, and the half of an output
+abbrev pub walkIn : List ℕ → List ℕ → ℕ → ℕ
+walkIn p q = walk (mapOf p) (mapOf q)
+
+abbrev pub sideIn : List ℕ → List ℕ → ℕ → ℕ
+sideIn p q = side (length p / 2) (mapOf p) (mapOf q)
+
+-- the inverse as a list, and the list of the outputs' halves
+abbrev pub inverseList : List ℕ → List ℕ
+inverseList p = listOf (length p) (inverseOf p)
+
+abbrev pub sideList : List ℕ → List ℕ → List ℕ
+sideList p q = listOf (length p) (sideIn p q)
+
+-- from the inverse q and the halves m: the bits of the input rows, which are the halves of the pairs' first inputs
+abbrev pub inputSide : List ℕ → List ℕ → ℕ → ℕ
+inputSide q m j = getD m (getD q (2 * j) 0) 0
+
+abbrev pub inputSides : List ℕ → List ℕ → List ℕ
+inputSides q m = listOf (length q / 2) (inputSide q m)
+
+-- the bits of the output rows, which are the halves of the pairs' first outputs; the last pair has no row
+abbrev pub outputSide : List ℕ → ℕ → ℕ
+outputSide m i = getD m (2 * i) 0
+
+abbrev pub outputSides : List ℕ → List ℕ
+outputSides m = listOf (length m / 2 - 1) (outputSide m)
+
+-- the program when a level's own rows are stored: the input rows' bits from bit `start` on, the output rows' behind two halves of `part` rows
+abbrev pub rowsStored : List ℕ → ℕ → ℕ → List ℕ → List ℕ → List ℕ
+rowsStored before start part q m = storeBits (storeBits before start (inputSides q m)) (start + length m / 2 + part + part) (outputSides m)
+
+-- from the mapping p and the halves m: the mapping that is left to the half c
+abbrev pub halfEntry : ℕ → List ℕ → List ℕ → ℕ → ℕ
+halfEntry c p m i = getD p (2 * i + (getD m (2 * i) 0 + c) % 2) 0 / 2
+
+abbrev pub halfList : ℕ → List ℕ → List ℕ → List ℕ
+halfList c p m = listOf (length p / 2) (halfEntry c p m)
+
+-- the halves of a mapping's outputs
+abbrev pub sidesOf : List ℕ → List ℕ
+sidesOf p = sideList p (inverseList p)
+
+-- what one level of the programming leaves: in the scratch the mappings of the two halves, in the program the bits of its own rows,
+-- where a half has `part` rows
+pub record Levelled (p scratch : List ℕ) (start part : ℕ) (before after : List ℕ) : Type 0 where
+  pub halved : scratch ≡ halfList 0 p (sidesOf p) ++ halfList 1 p (sidesOf p)
+  pub stored : after ≡ storeBits (storeBits before start (inputSides (inverseList p) (sidesOf p))) (start + length p / 2 + part + part) (outputSides (sidesOf p))

@@ -1,0 +1,12 @@
+-- "Blocks", P(N): its rows and output wires, its program bits, and which input reaches which output
+pub mod Permutation
+-- P's programming: the rule for the loops of pairs, by itself
+pub mod SideRule
+-- the mapping of a list of wanted inputs
+pub mod Wanted
+-- a partial injection completed in rising order
+pub mod Completion
+-- "Blocks", S(m, n): its rows and output wires, its program bits, and which input reaches which output
+pub mod Selection
+-- S's programming: the rule by itself
+pub mod SelectionRule

@@ -1,0 +1,339 @@
+-- `block_permutation_bits::block::program_block` and `program_half` meet their contracts. The measure falls with the level, and from a half to its block.
+-- A level stores its own rows' bits and leaves the halves' mappings in the scratch, where the upper half's work leaves the lower's alone.
+-- Assumes nothing.
+use mathlib.Core.Path.{_≡_, refl, _∙_, ap}
+use Prim.Native.Nat.{ℕ, _+_, _-_, _*_, _/_, _^_, _≤_, _<_}
+use native.Mathlib.Nat.{le-add-right}
+use native.Mathlib.Omega.{arith}
+use mir.Syntax.{w64}
+use mir.Val.{Fits}
+use mir.Facts.{fits-below}
+use borrow.Fn.Kinds.{In}
+use borrow.Fn.PlainCycle.{Measures, is, falls, and}
+use borrow.Rule.Slice.PartMut.{mid-len, drop-put, same-len-mid}
+use lib.ListN.{length, take, drop}
+use lib.Pow.{pow-mono}
+use Rattle.block_elements.specs.Bits.{AreBytes, storeBits}
+use Rattle.block_networks.specs.Permutation.{permutationCount}
+use Rattle.block_sizes.specs.Sizes.{maxLevel}
+use Rattle.block_loops.specs.Mappings.{listBits}
+use Rattle.block_loops.specs.Levels.{HalfRoom}
+use Rattle.block_loops.proofs.LevelsLaws.{Halving, halving, level-room, half-room, part-room, upper-perm, lower-perm, block-stored}
+use Rattle.block_permutation_bits.proofs.block.program_block.Reads as program-block
+use Rattle.block_permutation_bits.proofs.block.program_block.Kinds as program-block-kinds
+use Rattle.block_permutation_bits.proofs.block.+program_block+program_half.Lts-program_block as program-block-lts
+use Rattle.block_permutation_bits.proofs.block.program_half.Reads as program-half
+use Rattle.block_permutation_bits.proofs.block.program_half.Kinds as program-half-kinds
+use Rattle.block_permutation_bits.proofs.block.+program_block+program_half.Lts-program_half as program-half-lts
+use Rattle.block_permutation_bits.proofs.level.program_level.Reads as program-level-reads
+use Rattle.block_permutation_bits.proofs.block.row_count.Reads as row-count-reads
+use Rattle.block_permutation_bits.proofs.block.program_pair.Reads as program-pair-reads
+use Rattle.block_permutation_bits.proofs.block.+program_block+program_half.{statement}
+use Rattle.block_permutation_bits.proofs.block.+program_block+program_half.Tie.{close}
+
+abbrev μ-program-block : Measures 4 program-block-kinds.ps ℕ
+μ-program-block κs a = 2 * a .1 .1 .1 .1 .1 .0 + 1
+
+abbrev μ-program-half : Measures 4 program-half-kinds.ps ℕ
+μ-program-half κs a = 2 * a .1 .1 .1 .1 .1 .0 + 2
+
+abbrev block-at : ℕ → In 4 program-block-kinds.ps
+block-at t = and 4 program-block-kinds.ps (is 4 program-block-kinds.ps μ-program-block t) program-block.Pre
+
+abbrev half-at : ℕ → In 4 program-half-kinds.ps
+half-at t = and 4 program-half-kinds.ps (is 4 program-half-kinds.ps μ-program-half t) program-half.Pre
+
+-- what is known of the calls of each
+abbrev block-calls : ℕ → program-block-lts.Claims
+block-calls t = (
+  row-count-reads.Asked,
+  row-count-reads.Learnt,
+  program-level-reads.Asked,
+  program-level-reads.Learnt,
+  and 4 program-half-kinds.ps (falls 4 program-half-kinds.ps _<_ μ-program-half t) program-half.Pre,
+  program-half.Post,
+  program-pair-reads.Asked,
+  program-pair-reads.Learnt,
+)
+
+abbrev half-calls : ℕ → program-half-lts.Claims
+half-calls t = (
+  and 4 program-block-kinds.ps (falls 4 program-block-kinds.ps _<_ μ-program-block t) program-block.Pre,
+  program-block.Post,
+)
+
+some-below : {level : ℕ} → 1 < level → 0 < level
+some-below l = omega arith
+
+-- the places of a half lie in its arrays, and are small
+module _ {level at N scratch marks : ℕ} (room : HalfRoom level at N scratch marks) where
+  few-places : N ≤ 2 * 2 ^ 8
+  few-places = let p : 2 ^ level ≤ 2 ^ 8 = pow-mono (room .few) in omega arith
+
+  end-fits : Fits w64 (at + N / 2)
+  end-fits = fits-below {n = 2 * 2 ^ 8} tt (omega (arith, few-places))
+
+  place-fits : Fits w64 (at * 2)
+  place-fits = fits-below {n = 4 * 2 ^ 8} tt (omega (arith, few-places))
+
+  in-scratch : at + N / 2 ≤ scratch
+  in-scratch = omega arith
+
+  in-marks : at + N / 2 ≤ marks
+  in-marks = omega arith
+
+-- a block's halves lie in it, and their bits in the program's numbers
+module _ {level N : ℕ} (H : Halving level N) where
+  few-levels : level - 1 ≤ maxLevel
+  few-levels = omega arith
+
+  upper-within : 0 + N / 2 ≤ N
+  upper-within = omega arith
+
+  lower-within : N / 2 + N / 2 ≤ N
+  lower-within = omega arith
+
+  module _ (start : ℕ) (room : start + permutationCount level < 2 ^ 32) where
+    upper-place-fits : Fits w64 (start + N / 2)
+    upper-place-fits = fits-below {n = 2 ^ 32} tt (omega arith)
+
+    upper-bits-fit : start + N / 2 + permutationCount (level - 1) < 2 ^ 32
+    upper-bits-fit = omega arith
+
+    module _ (part : ℕ) (counted : part ≡ permutationCount (level - 1)) where
+      level-bits-fit : start + N / 2 + part + part + N / 2 < 2 ^ 64
+      level-bits-fit = omega arith
+
+      lower-place-fits : Fits w64 (start + N / 2 + part)
+      lower-place-fits = fits-below {n = 2 ^ 32} tt (omega arith)
+
+      lower-bits-fit : start + N / 2 + part + permutationCount (level - 1) < 2 ^ 32
+      lower-bits-fit = omega arith
+
+part-size : (at N : ℕ) → at + N / 2 - at ≡ N / 2
+part-size at N = omega arith
+
+-- the measure falls
+block-falls : (level : ℕ) {t : ℕ} → 2 * level + 2 ≡ t → 2 * level + 1 < t
+block-falls level e = omega arith
+
+half-falls : {level t : ℕ} → 1 < level → 2 * level + 1 ≡ t → 2 * (level - 1) + 2 < t
+half-falls l e = omega arith
+
+module _ (t : ℕ) where
+  -- the places of a block: where it has halves, its rows are counted, its level is stored, its upper half, its lower, all, and the way back from each
+  abbrev Halved : Type 0
+  Halved = program-block-lts.Then1 (block-calls t) (block-at t) program-block.Post
+
+  abbrev Started : Type 0
+  Started = program-block-lts.Start (block-calls t) (block-at t) program-block.Post
+
+  abbrev Counted : Type 0
+  Counted = program-block-lts.After-row-count (block-calls t) (block-at t) program-block.Post
+
+  abbrev Levelled : Type 0
+  Levelled = program-block-lts.After-program-level (block-calls t) (block-at t) program-block.Post
+
+  abbrev Upper : Type 0
+  Upper = program-block-lts.After-program-half (block-calls t) (block-at t) program-block.Post
+
+  abbrev Lower : Type 0
+  Lower = program-block-lts.After-program-half2 (block-calls t) (block-at t) program-block.Post
+
+  abbrev Done : Type 0
+  Done = program-block-lts.After-slice-known15 (block-calls t) (block-at t) program-block.Post
+
+  abbrev start : Halved → Started
+  start c = c .before .before .before .before .before
+
+  abbrev halved : Counted → Halved
+  halved c = c .before
+
+  abbrev counted : Levelled → Counted
+  counted c = c .before .before .before .before .before
+
+  abbrev levelled : Upper → Levelled
+  levelled c = c .before .before .before .before .before .before .before .before .before .before .before
+
+  abbrev upper : Lower → Upper
+  upper c = c .before .before .before .before .before .before .before .before .before .before .before .before .before
+
+  abbrev lower : Done → Lower
+  lower c = c .before .before .before .before .before .before .before .before
+
+  -- a block above P(2)
+  sized : (c : Halved) → Halving (start c .args .level) (length (start c .args .perm .now))
+  sized c = halving (start c .args .level) (start c .pre .1 .1 .0) (some-below (c .if1 .taken))
+
+  -- the scratch has the size of the block once the level is stored
+  scratch-size : (c : Levelled) → length (c .program-level .last .1 .0) ≡ length (start (halved (counted c)) .args .perm .now)
+  scratch-size c = c .program-level .kept .1 .0 ∙ start (halved (counted c)) .pre .1 .1 .0 .scratchSize
+
+  mark-size : (c : Levelled) → length (c .program-level .last .1 .1 .0) ≡ length (start (halved (counted c)) .args .perm .now)
+  mark-size c = c .program-level .kept .1 .1 .0 ∙ start (halved (counted c)) .pre .1 .1 .0 .marksSize
+
+  for-count : program-block-lts.Need-row-count-requires (block-calls t) (block-at t) program-block.Post
+  for-count c κs = (sized c .half, few-levels (sized c))
+
+  upper-place : program-block-lts.Need-add-upper (block-calls t) (block-at t) program-block.Post
+  upper-place c = upper-place-fits (sized (halved c)) (start (halved c) .args .start) (start (halved c) .pre .1 .1 .1)
+
+  for-level : program-block-lts.Need-program-level-requires (block-calls t) (block-at t) program-block.Post
+  for-level c κs =
+      let n = c .before .before .before .before in
+      let s = start (halved n) in (
+        s .pre .1 .0,
+        (
+          level-room (s .args .level) (s .pre .1 .1 .0) (some-below (halved n .if1 .taken)),
+          level-bits-fit (sized (halved n)) (s .args .start) (s .pre .1 .1 .1) (n .row-count .result) (n .row-count .ensures .count-is),
+        ),
+      )
+
+  for-upper : program-block-lts.Need-program-half-requires (block-calls t) (block-at t) program-block.Post
+  for-upper c κs =
+      let v = c .before .before .before .before .before .before .before .before .before .before in
+      let h = halved (counted v) in
+      let s = start h in
+      let l = some-below (h .if1 .taken) in
+      let room = s .pre .1 .1 .0 in (
+        half-falls (h .if1 .taken) (s .pre .0),
+        (
+          upper-perm {level = s .args .level} (s .pre .1 .0) room l (v .program-level .ensures) (scratch-size v),
+          (half-room (s .args .level) 0 room l (upper-within (sized h)) (scratch-size v) refl (mark-size v), upper-bits-fit (sized h) (s .args .start) (s .pre .1 .1 .1)),
+        ),
+      )
+
+  lower-fits : program-block-lts.Need-add-program-half (block-calls t) (block-at t) program-block.Post
+  lower-fits c =
+      let n = counted (levelled (c .before .before .before .before .before .before .before .before .before .before .before .before)) in
+      let s = start (halved n) in
+      lower-place-fits (sized (halved n)) (s .args .start) (s .pre .1 .1 .1) (n .row-count .result) (n .row-count .ensures .count-is)
+
+  for-lower : program-block-lts.Need-program-half-requires-2 (block-calls t) (block-at t) program-block.Post
+  for-lower c κs =
+      let u = c .before .before .before .before .before .before .before .before .before .before .before .before in
+      let v = levelled u in
+      let h = halved (counted v) in
+      let s = start h in
+      let l = some-below (h .if1 .taken) in
+      let room = s .pre .1 .1 .0 in
+      let half = u .program-half in (
+        half-falls (h .if1 .taken) (s .pre .0),
+        (
+          lower-perm {level = s .args .level} (s .pre .1 .0) room l (v .program-level .ensures) (scratch-size v)
+              (half .last .0) (half .kept .0) (half .ensures .1),
+          (
+            half-room (s .args .level) _ room l (lower-within (sized h)) (half .kept .0 ∙ scratch-size v) (half .kept .1 .0) (half .kept .1 .1 .0 ∙ mark-size v),
+            lower-bits-fit (sized h) (s .args .start) (s .pre .1 .1 .1) (counted v .row-count .result) (counted v .row-count .ensures .count-is),
+          ),
+        ),
+      )
+
+  -- no call changes a length
+  same-perm : program-block-lts.Need-same-length (block-calls t) (block-at t) program-block.Post
+  same-perm c = let w = lower c in w .program-half2 .kept .1 .0 ∙ upper w .program-half .kept .1 .0
+
+  same-scratch : program-block-lts.Need-same-length-2 (block-calls t) (block-at t) program-block.Post
+  same-scratch c = let w = lower c in w .program-half2 .kept .0 ∙ upper w .program-half .kept .0 ∙ levelled (upper w) .program-level .kept .1 .0
+
+  same-marks : program-block-lts.Need-same-length-3 (block-calls t) (block-at t) program-block.Post
+  same-marks c = let w = lower c in w .program-half2 .kept .1 .1 .0 ∙ upper w .program-half .kept .1 .1 .0 ∙ levelled (upper w) .program-level .kept .1 .1 .0
+
+  same-program : program-block-lts.Need-same-length-4 (block-calls t) (block-at t) program-block.Post
+  same-program c =
+      let w = lower c in
+      w .program-half2 .kept .1 .1 .1 .0 ∙ upper w .program-half .kept .1 .1 .1 .0 ∙ levelled (upper w) .program-level .kept .1 .1 .1 .0
+
+  stored : program-block-lts.Need-returns (block-calls t) (block-at t) program-block.Post
+  stored c =
+      let w = lower c in
+      let u = upper w in
+      let v = levelled u in
+      let n = counted v in
+      let s = start (halved n) in
+      let half = u .program-half in
+      let bytes : AreBytes (s .args .program .now) = record { each = λ i. halved n .before .slice-known4 .given i .fits } in
+      block-stored {level = s .args .level} (s .pre .1 .0) (s .pre .1 .1 .0) (some-below (halved n .if1 .taken)) (v .program-level .ensures) (scratch-size v)
+      (half .last .0) (half .kept .0) (half .ensures .1) bytes (n .row-count .ensures .count-is) (half .ensures .0) (w .program-half2 .ensures .0)
+
+for-pair : (t : ℕ) → program-block-lts.Need-program-pair-requires (block-calls t) (block-at t) program-block.Post
+for-pair t c κs =
+    let s = c .before .before .before .before .before .before .before in
+    ((s .pre .1 .0, s .pre .1 .1 .0 .size, c .before .before .if1 .left), s .pre .1 .1 .1)
+
+paired : (t : ℕ) → program-block-lts.Need-returns-2 (block-calls t) (block-at t) program-block.Post
+paired t c = c .before .before .program-pair .ensures
+
+for-block : (t : ℕ) → program-half-lts.Need-program-block-requires (half-calls t) (half-at t) program-half.Post
+for-block t c κs =
+    let s = c .before .before .before .before .before .before .before .before in
+    let a = s .args in (
+      block-falls (a .level) (s .pre .0),
+      (
+        rw (part-size (a .at) (length (a .perm .now))) (s .pre .1 .0),
+        (part-room (a .perm .now) (a .scratch .now) (a .mark .now) (s .pre .1 .1 .0) refl, s .pre .1 .1 .1),
+      ),
+    )
+
+module _ (t : ℕ) where
+  -- the place where a half is done, what it was given, and its block
+  abbrev HalfDone : Type 0
+  HalfDone = program-half-lts.After-slice-known8 (half-calls t) (half-at t) program-half.Post
+
+  abbrev Given : Type 0
+  Given = program-half-lts.Start (half-calls t) (half-at t) program-half.Post
+
+  abbrev Blocked : Type 0
+  Blocked = program-half-lts.After-program-block (half-calls t) (half-at t) program-half.Post
+
+  abbrev given : HalfDone → Given
+  given c = c .before .before .before .before .before .before .before .before .before .before .before .before .before .before .before .before .before
+
+  abbrev blocked : HalfDone → Blocked
+  blocked c = c .before .before .before .before .before .before .before .before
+
+  abbrev size : HalfDone → ℕ
+  size c = given c .args .at + length (given c .args .perm .now) / 2 - given c .args .at
+
+  -- the parts come back, and no array's length changes
+  part-perm : program-half-lts.Need-same-length (half-calls t) (half-at t) program-half.Post
+  part-perm c =
+      let b = blocked c .program-block in
+      same-len-mid (given c .args .at) (size c) (given c .args .perm .now) (b .last .0) (b .kept .0)
+
+  part-scratch : program-half-lts.Need-same-length-2 (half-calls t) (half-at t) program-half.Post
+  part-scratch c =
+      let b = blocked c .program-block in
+      same-len-mid (given c .args .at) (size c) (given c .args .scratch .now) (b .last .1 .0) (b .kept .1 .0)
+
+  part-marks : program-half-lts.Need-same-length-3 (half-calls t) (half-at t) program-half.Post
+  part-marks c =
+      let b = blocked c .program-block in
+      same-len-mid (given c .args .at) (size c) (given c .args .mark .now) (b .last .1 .1 .0) (b .kept .1 .1 .0)
+
+  half-stored : program-half-lts.Need-returns (half-calls t) (half-at t) program-half.Post
+  half-stored c =
+      let s = given c in
+      let a = s .args in
+      let end = a .at + length (a .perm .now) / 2 in
+      let b = blocked c .program-block in (
+        b .ensures ∙ ap (λ k. storeBits (a .program .now) (a .start) (listBits (a .level) (take k (drop (a .at) (a .perm .now))))) (part-size (a .at) (length (a .perm .now))),
+        drop-put (a .at) end (a .perm .now) (b .last .0) (le-add-right (a .at) (length (a .perm .now) / 2)) (s .pre .1 .1 .0 .within)
+            (b .kept .0 ∙ mid-len (a .at) end (a .perm .now) (s .pre .1 .1 .0 .within)),
+      )
+
+pub +program-block+program-half-spec : {M : Type 1} → statement M
++program-block+program-half-spec =
+    close μ-program-block μ-program-half
+    (λ t. program-block-lts.spec (block-calls t) (block-at t) program-block.Post
+    (λ c. some-below (c .if1 .taken)) (for-count t) (upper-place t) (for-level t) (for-upper t) (lower-fits t) (for-lower t) (for-pair t)
+    (same-perm t) (same-scratch t) (same-marks t) (same-program t)
+    (stored t) (λ c. refl) (λ c. c .before .before .program-pair .kept .1 .0) (paired t))
+    λ t. program-half-lts.spec (half-calls t) (half-at t) program-half.Post
+    (λ c. end-fits (c .before .before .before .before .pre .1 .1 .0)) (λ c. place-fits (c .before .before .before .before .pre .1 .1 .0)) (λ c. le-add-right _ _) (λ c. le-add-right _ _)
+    (λ c. c .before .before .before .before .pre .1 .1 .0 .within)
+    (λ c. place-fits (c .before .before .before .before .before .pre .1 .1 .0)) (λ c. le-add-right _ _) (λ c. le-add-right _ _)
+    (λ c. in-scratch (c .before .before .before .before .before .pre .1 .1 .0))
+    (λ c. le-add-right _ _) (λ c. le-add-right _ _) (λ c. in-marks (c .before .before .before .before .before .before .pre .1 .1 .0))
+    (for-block t) (part-perm t) (part-scratch t) (part-marks t)
+    (λ c. c .before .before .before .before .before .before .before .before .program-block .kept .1 .1 .1 .0) (half-stored t)

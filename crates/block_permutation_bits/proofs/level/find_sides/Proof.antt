@@ -1,0 +1,26 @@
+-- `block_permutation_bits::level::find_sides` meets its contract: the inverse first, then the sides by it. Assumes nothing.
+use mathlib.Core.Path.{sym, ap, _∙_}
+use borrow.Author.Needs.{needs}
+use Prim.Native.Nat.{_/_}
+use lib.ListN.{length}
+use Rattle.block_loops.specs.Mappings.{Paired, sideList, inverseList}
+use Rattle.block_loops.proofs.MappingsLaws.{paired}
+use Rattle.block_permutation_bits.proofs.level.find_sides.Statement.{statement}
+use Rattle.block_permutation_bits.proofs.level.find_sides.Tie as tie
+
+for-marks : tie.Need-mark-sides-requires
+for-marks c κs =
+    let s = c .before .before .before .before .before .before .before .before .before in
+    let room = s .pre .1 in
+    let p = s .args .perm .now in
+    let G : Paired p (inverseList p) = paired (length p / 2) (sym (room .even)) (s .pre .0) in
+    (rw (c .before .before .before .before .invert .ensures) G, (room .small, room .marksSize))
+
+found : tie.Need-returns
+found c =
+    let inverted = c .before .before .before .before .before .before .before .invert .ensures in
+    let p = c .before .before .before .before .before .before .before .before .before .before .before .before .args .perm .now in
+    (inverted, c .before .before .mark-sides .ensures ∙ ap (sideList p) inverted)
+
+pub find-sides-spec : {M : Type 1} → statement M
+find-sides-spec = tie.close (tie.spec (λ c κs. search needs) for-marks (λ c. search needs) (λ c. search needs) found)

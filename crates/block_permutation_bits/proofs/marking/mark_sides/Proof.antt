@@ -1,0 +1,50 @@
+-- `block_permutation_bits::marking::mark_sides` meets its contract. The loop's invariant: the loops that the first k pairs taken lead are marked, and no
+-- others. Assumes nothing.
+use mathlib.Core.Path.{sym, _∙_}
+use Prim.Native.Nat.{_-_, _≤_}
+use native.Mathlib.Omega.{arith}
+use borrow.Author.Needs.{needs}
+use Rattle.block_bits.proofs.StoreLaws.{bytes-filled}
+use Rattle.block_loops.proofs.MarkingLaws.{filled-whole, Swept, swept-none, swept-more, swept-all, start-below, leads}
+use Rattle.block_permutation_bits.proofs.marking.mark_sides.Statement.{statement}
+use Rattle.block_permutation_bits.proofs.marking.mark_sides.Tie as tie
+
+abbrev Inv-loop : tie.InvT-loop
+Inv-loop perm inverse mark₀ pairs k₀ mark k = (k ≤ pairs) × Swept perm inverse k mark
+
+abbrev μ-loop : tie.MeasureT-loop
+μ-loop perm inverse mark₀ pairs k₀ mark k = pairs - k
+
+holds : tie.Need-loop-holds Inv-loop μ-loop
+holds c =
+    let s = c .before .before .before .before .before .before .before in
+    let filled = c .before .before .fill-bytes .ensures ∙ bytes-filled _ 2 (s .args .mark .now) (omega arith) ∙ filled-whole 2 (s .args .mark .now) (s .pre .1 .1) in
+    (omega arith, rw filled (swept-none (s .args .perm .now) (s .args .inverse .now)))
+
+for-visit : tie.Need-visit-requires Inv-loop μ-loop
+for-visit c κs =
+    let at = c .before .before .before in
+    let pre = at .before .before .before .before .before .before .before .before .pre in
+    let S = at .loop .inv .1 in
+    let k = c .before .before .loop-test .taken in
+    let o = c .before .start-of .ensures in
+    (pre .0, (pre .1 .0, (S .size, (rw (S .size) (start-below (pre .0) k S o), leads (pre .0) k S o))))
+
+again : tie.Need-loop-again Inv-loop μ-loop
+again c =
+    let at = c .before .before .before .before .before .before in
+    let k = c .before .before .before .before .before .loop-test .taken in
+    let o = c .before .before .before .before .start-of .ensures in
+    (omega arith, swept-more (at .before .before .before .before .before .before .before .before .pre .0) k (at .loop .inv .1) o (c .before .before .visit .ensures))
+
+same : tie.Need-same-length Inv-loop μ-loop
+same c = c .before .loop .inv .1 .size ∙ sym (c .before .before .before .before .before .before .before .before .before .pre .1 .1)
+
+all : tie.Need-returns Inv-loop μ-loop
+all c = swept-all (c .before .before .before .before .before .before .before .before .before .pre .0) (c .loop-test .left) (c .before .loop .inv .1)
+
+pub mark-sides-spec : {M : Type 1} → statement M
+mark-sides-spec =
+    tie.close
+    (tie.spec Inv-loop μ-loop
+    (λ c κs. search needs) holds (λ c κs. search needs) for-visit (λ c. search needs) (λ c. search needs) again same all)

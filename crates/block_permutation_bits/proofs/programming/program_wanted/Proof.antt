@@ -1,0 +1,87 @@
+-- `block_permutation_bits::programming::program_wanted` meets its contract: the loaded mapping's bits, stored in the part from the first bit's byte on, are
+-- the bits stored from the first bit on. Assumes nothing.
+use mathlib.Core.Path.{_≡_, sym, ap, _∙_}
+use Prim.Native.Nat.{_+_, _-_, _*_, _/_, _%_, _^_}
+use native.Mathlib.Omega.{arith}
+use borrow.Author.Needs.{needs}
+use borrow.Rule.Slice.PartMut.{midOf, putMid}
+use lib.ListN.{length, take, replicate}
+use lib.Seq.{length-take-le}
+use Rattle.block_elements.specs.Bits.{storeBits}
+use Rattle.block_networks.specs.Wanted.{wantedBits}
+use Rattle.block_sizes.specs.Sizes.{maxSize, levelOf}
+use Rattle.block_bits.proofs.StoreLaws.{store-part}
+use Rattle.block_loops.specs.Mappings.{listBits}
+use Rattle.block_program_checks.proofs.ChecksLaws.{few-bits}
+use Rattle.block_permutation_bits.proofs.ProgramLaws.{front-perm, front-bits}
+use Rattle.block_permutation_bits.proofs.programming.program_wanted.Statement.{statement}
+use Rattle.block_permutation_bits.proofs.programming.program_wanted.Tie as tie
+
+for-mapping : tie.Need-load-mapping-requires
+for-mapping c κs =
+    let s = c .before .before .before in
+    let W = s .pre .0 .1 in
+    let size = s .pre .0 .0 in
+    let len = W .size in
+    (rw len W, omega arith)
+
+perm-part : tie.Need-slice-aggregate-program-block
+perm-part c =
+    let s = c .before .before .before .before .before .before in
+    let size = s .pre .0 .0 in
+    let load = c .before .before .load-mapping in
+    let kept = load .kept .1 .0 in
+    sym (length-take-le (s .args .n) (load .last .1 .0) (omega arith))
+
+inverse-part : tie.Need-slice-aggregate-program-block-2
+inverse-part c =
+    let s = c .before .before .before .before .before .before .before in
+    sym (length-take-le (s .args .n) (replicate maxSize 0) (s .pre .0 .0 .most))
+
+mark-part : tie.Need-slice-aggregate-program-block-3
+mark-part c =
+    let s = c .before .before .before .before .before .before .before .before in
+    sym (length-take-le (s .args .n) (replicate maxSize 0) (s .pre .0 .0 .most))
+
+for-block : tie.Need-program-block-requires
+for-block c κs =
+    let s = c .before .before .before .before .before .before .before .before .before .before in
+    let size = s .pre .0 .0 in
+    let n = s .args .n in
+    let load = c .before .before .before .before .before .before .load-mapping in
+    let kept = load .kept .1 .0 in
+    let e = c .level-of .ensures in
+    let lp = length-take-le n (load .last .1 .0) (omega arith) in (
+      front-perm (replicate maxSize 0) (s .pre .0 .1) (load .ensures),
+      (
+        record {
+          size = lp ∙ sym (size .power) ∙ ap (λ k. 2 ^ k) (sym e);
+          few = rw e (size .level);
+          scratchSize = length-take-le n (replicate maxSize 0) (size .most) ∙ sym lp;
+          marksSize = length-take-le n (replicate maxSize 0) (size .most) ∙ sym lp;
+        },
+        rw e (omega (arith, few-bits size)),
+      ),
+    )
+
+stored : tie.Need-returns
+stored c =
+    let block = c .before .before .before .before .before in
+    let s = block .before .before .before .before .before .before .before .before .before .before .before in
+    let a = s .args in
+    let whole = a .program .now in
+    let byte = a .start / 8 in
+    let load = block .before .before .before .before .before .before .before .load-mapping in
+    let bits = ap (λ l. listBits l (take (a .n) (load .last .1 .0))) (block .before .level-of .ensures) ∙ front-bits (replicate maxSize 0) (s .pre .0 .1) (load .ensures) _ in
+    let wanted = wantedBits (levelOf (a .n)) (a .wanted .now) in
+    let split : 8 * byte + a .start % 8 ≡ a .start = omega arith in
+    ap (putMid byte (length whole - byte) whole) (block .program-block .ensures ∙ ap (storeBits (midOf byte (length whole - byte) whole) (a .start % 8)) bits)
+    ∙ store-part whole byte (a .start % 8) wanted (omega (arith, s .pre .1))
+    ∙ ap (λ p. storeBits whole p wanted) split
+
+pub program-wanted-spec : {M : Type 1} → statement M
+program-wanted-spec =
+    tie.close
+    (tie.spec
+    (λ c. search needs) for-mapping (λ c. search needs) perm-part (λ c. search needs) inverse-part (λ c. search needs) mark-part (λ c. search needs)
+    (λ c. search needs) (λ c. search needs) (λ c κs. search needs) for-block (λ c. search needs) stored)

@@ -1,0 +1,3 @@
+pub mod HalvesLaws
+pub mod LevelsLaws
+pub mod WriteLaws

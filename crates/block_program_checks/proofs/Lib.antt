@@ -1,0 +1,3 @@
+pub mod BitsLaws
+-- when they pass
+pub mod ChecksLaws

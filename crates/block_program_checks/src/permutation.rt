@@ -1,0 +1,71 @@
+// The checks of programming P.
+ghost use mathlib.Core.Path.{_≡_};
+ghost use Prim.Native.Nat.{_≤_};
+ghost use lib.ListN.{length};
+ghost use Rattle.fault.specs.Number.{answerNumber};
+ghost use Rattle.block_networks.specs.Selection.{Selected};
+ghost use Rattle.block_sizes.specs.Sizes.{maxSize};
+ghost use Rattle.block_program_checks.specs.Checks.{twiceFault, sourceFault, wantedFault, programAtFault};
+use crate::bits::check_bits;
+use crate::selection::check_selected;
+use block_rows::wide;
+use block_sizes::MAX_SIZE;
+use block_sizes::permutation_count;
+use block_sizes::size_allowed;
+use fault::Answer;
+use fault::Fault;
+
+// The places of the largest block.
+const PLACES: usize = MAX_SIZE as usize;
+
+// The checks 2, 12, 9 and 11, the last for bits from bit `start` on in a program of `room` bytes.
+pub fn check_permutation(n: u32, wanted: &[u16], start: usize, room: usize) -> Answer
+    ensures { λ r. ⌜ answerNumber r ≡ programAtFault n (now (wanted .entry)) start room ⌝ }
+{
+    match check_wanted(n, wanted) {
+        Answer::Refused(f) => Answer::Refused(f),
+        Answer::Done => check_bits(permutation_count(n) as u32, start, room),
+    }
+}
+
+// The checks 2, 12 and 9.
+fn check_wanted(n: u32, wanted: &[u16]) -> Answer
+    ensures { λ r. ⌜ answerNumber r ≡ wantedFault n (now (wanted .entry)) ⌝ }
+{
+    if !size_allowed(n) {
+        return Answer::Refused(Fault::Inputs);
+    }
+    if wanted.len() != n as usize {
+        return Answer::Refused(Fault::Contact);
+    }
+    check_sources(n as usize, wanted)
+}
+
+// The check 9: each wanted input is in 1 to n, and none comes twice.
+fn check_sources(n: usize, wanted: &[u16]) -> Answer
+    requires { ⌜ n ≤ maxSize ⌝ }
+    ensures { λ r. ⌜ answerNumber r ≡ sourceFault n (now (wanted .entry)) ⌝ }
+{
+    match check_selected(n, wanted) {
+        Answer::Refused(f) => Answer::Refused(f),
+        Answer::Done => check_once(wanted),
+    }
+}
+
+// The second part of check 9: no wanted input comes twice. The marks, an array of the check's own, say which have come.
+fn check_once(wanted: &[u16]) -> Answer
+    requires { ⌜ Selected maxSize (length (now wanted)) (now wanted) ⌝ }
+    ensures { λ r. ⌜ answerNumber r ≡ twiceFault (now (wanted .entry)) ⌝ }
+{
+    let mut mark = [0u8; PLACES];
+    let mut i: usize = 0;
+    while i < wanted.len() {
+        let x = wide(wanted[i]) - 1;
+        if mark[x] != 0 {
+            return Answer::Refused(Fault::Source);
+        }
+        mark[x] = 1;
+        i += 1;
+    }
+    Answer::Done
+}

@@ -1,0 +1,63 @@
+// Rows in the table of 16-bit entries. `put_row` and `row_place` alone know how many entries a row has and in which order.
+ghost use mathlib.Core.Path.{_≡_};
+ghost use Prim.Native.Nat.{_*_, _≤_};
+ghost use lib.ListN.{length};
+ghost use Rattle.fault.specs.Buffers.{over};
+ghost use Rattle.block_elements.specs.Rows.{stride, flat};
+ghost use Rattle.elements.specs.Elements.{kindNumber};
+ghost use Rattle.block_rows.specs.Rows.{rowPut, rowsPut, pairRows};
+use crate::wires::wire_at;
+use elements::FabricWire;
+use elements::Kind;
+
+// The entries of a table before its rows: its numbers of inputs, outputs and rows.
+pub const HEADER: usize = 3;
+
+// The entries of a row: its kind, its left wire, its right wire.
+const STRIDE: usize = 3;
+
+// The entries that so many rows take, which is the place of the row behind them.
+pub fn row_place(rows: u32) -> usize
+    ensures { λ r. ⌜ r ≡ stride * rows ⌝ }
+{
+    STRIDE * rows as usize
+}
+
+// One row at the front of a part of the table.
+pub fn put_row(rows: &mut [u16], kind: Kind, left: FabricWire, right: FabricWire)
+    ensures { λ _. ⌜ now (rows .exit) ≡ rowPut (kindNumber kind) (left .0) (right .0) (now (rows .entry)) ⌝ }
+{
+    if STRIDE <= rows.len() {
+        rows[0] = kind.number();
+        rows[1] = (left.0 % 65_536) as u16;
+        rows[2] = (right.0 % 65_536) as u16;
+    }
+}
+
+// So many rows of a kind from the front of a part of the table on, if it has room for them. Row i takes the wires at place step * i of two lists.
+pub fn put_pairs(rows: &mut [u16], kind: Kind, count: u32, lefts: &[u16], rights: &[u16], step: u16)
+    ensures { λ _. ⌜ now (rows .exit) ≡ rowsPut (pairRows kind count (now (lefts .entry)) (now (rights .entry)) step) (now (rows .entry)) ⌝ }
+{
+    if row_place(count) <= rows.len() {
+        put_all(rows, kind, count, lefts, rights, step);
+    }
+}
+
+// The same where there is room.
+fn put_all(rows: &mut [u16], kind: Kind, count: u32, lefts: &[u16], rights: &[u16], step: u16)
+    requires { ⌜ stride * count ≤ length (now rows) ⌝ }
+    ensures { λ _. ⌜ now (rows .exit) ≡ over (flat (pairRows kind count (now (lefts .entry)) (now (rights .entry)) step)) (now (rows .entry)) ⌝ }
+{
+    let mut i: u32 = 0;
+    while i < count {
+        let place = row_place(i);
+        let at = step as usize * i as usize;
+        put_row(
+            &mut rows[place..],
+            kind,
+            wire_at(lefts, at),
+            wire_at(rights, at),
+        );
+        i += 1;
+    }
+}

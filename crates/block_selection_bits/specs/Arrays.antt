@@ -1,0 +1,126 @@
+-- What the programming's inner calls find and leave in their arrays. Inputs, outputs and positions count from 0; the wanted inputs of a list
+-- count from 1, so that 0 marks a place where none stands yet.
+use Prim.Native.Nat.{ℕ, zero, suc, _+_, _-_, _*_, _≤_, _<_}
+use mathlib.Core.Path.{_≡_}
+use mathlib.Core.Logic.{_≢_}
+use mathlib.Core.Bool.{Bool, cond, _&&_}
+use mathlib.Core.List.{List, _++_}
+use lib.Dec.{eqb, ltb}
+use lib.ListN.{length, getD, set, take}
+use Rattle.lists.specs.Lists.{listOf}
+use Rattle.block_networks.specs.Permutation.{permutationCount, Perm}
+use Rattle.block_networks.specs.Wanted.{Wanted, mapping, takerOf, wantedBits, wantedOf}
+use Rattle.lists.specs.Counting.{oneIf}
+use Rattle.block_networks.specs.Completion.{completed, RisingCompletion}
+use Rattle.block_networks.specs.Selection.{Selected, wanting, copies, headOf, positionOf, copyOf}
+use Rattle.block_sizes.specs.Sizes.{maxSize, levelOf, SizeIs}
+
+-- the wanted inputs of a block of N positions
+pub record Demand (N : ℕ) (wanted : List ℕ) : Type 0 where
+  pub inputs : Selected N (length wanted) wanted
+  pub few : length wanted ≤ N
+  pub most : N ≤ maxSize
+
+-- an array with a place for each of the largest block's positions; place i holds f i, which is 0 past the end
+pub record Holds (f : ℕ → ℕ) (array : List ℕ) : Type 0 where
+  pub size : length array ≡ maxSize
+  pub each : (i : ℕ) → getD array i 0 ≡ f i
+
+-- none of its places is used yet
+abbrev pub Blank : List ℕ → Type 0
+Blank array = Holds (λ i. 0) array
+
+-- ---- positions, by counts: `counts` tells for each input how many outputs want it
+
+abbrev pub isCounted : List ℕ → ℕ → Bool
+isCounted counts j = ltb 0 (getD counts j 0)
+
+-- the head of input j
+unfoldable pub headBy : List ℕ → ℕ → ℕ
+headBy counts zero = 0
+headBy counts (suc j) = headBy counts j + getD counts j 0
+
+-- the heads are positions
+pub record HeadsFit (counts : List ℕ) : Type 0 where
+  pub size : length counts ≡ maxSize
+  pub each : (j : ℕ) → headBy counts j ≤ maxSize
+
+-- which of the first k inputs has its head at p, counted from 1; 0 where none has
+unfoldable pub headInput : List ℕ → ℕ → ℕ → ℕ
+headInput counts zero p = 0
+headInput counts (suc k) p = cond (isCounted counts k && eqb (headBy counts k) p) (suc k) (headInput counts k p)
+
+-- the position of input j
+abbrev pub positionBy : List ℕ → ℕ → ℕ → ℕ
+positionBy counts N j = completed N (isCounted counts) (headBy counts) j
+
+-- the positions are one to one, and follow the rule
+pub record Positioned (N : ℕ) (counts : List ℕ) : Type 0 where
+  pub once : Perm N (takerOf N (positionBy counts N)) (positionBy counts N)
+  pub rule : RisingCompletion N (isCounted counts) (headBy counts) (positionBy counts N)
+
+-- some input from `from` on is idle
+pub record IdleFrom (counts : List ℕ) (from : ℕ) : Type 0 where
+  pub input : ℕ
+  pub behind : from ≤ input
+  pub within : input < length counts
+  pub idle : getD counts input 0 ≡ 0
+
+-- x is the first idle input from `from` on
+pub record NextIdle (counts : List ℕ) (from x : ℕ) : Type 0 where
+  pub behind : from ≤ x
+  pub within : x < length counts
+  pub idle : getD counts x 0 ≡ 0
+  pub first : (y : ℕ) → from ≤ y → y < x → getD counts y 0 ≢ 0
+
+-- place p after one step: a head keeps its input, and another place gets the next idle input from `from` on; `next` is where the idle
+-- inputs go on
+pub record Placed (counts : List ℕ) (p from : ℕ) (old new : List ℕ) (next : ℕ) : Type 0 where
+  pub head : getD old p 0 ≢ 0 → (new ≡ old) × (next ≡ from)
+  pub free : getD old p 0 ≡ 0 → (new ≡ set old p next) × (1 ≤ next) × NextIdle counts from (next - 1)
+
+-- ---- a network and the chain
+
+-- the wanted inputs of a P whose program has room from bit `start` on
+pub record NetworkRoom (list : List ℕ) (start room : ℕ) : Type 0 where
+  pub size : SizeIs (length list)
+  pub names : Wanted (length list) list
+  pub fits : start + permutationCount (levelOf (length list)) ≤ 8 * room
+
+-- the bits of P for the list
+abbrev pub networkBits : List ℕ → List ℕ
+networkBits list = wantedBits (levelOf (length list)) list
+
+-- the bit of the Y at position i + 1: the input there is a wanted one
+abbrev pub chainBit : List ℕ → List ℕ → ℕ → ℕ
+chainBit counts list i = oneIf (isCounted counts (getD list (i + 1) 0 - 1))
+
+abbrev pub chainBits : List ℕ → List ℕ → List ℕ
+chainBits counts list = listOf (length list - 1) (chainBit counts list)
+
+-- the bits of the first network and the chain, for the list of the inputs of the positions
+abbrev pub firstBits : List ℕ → List ℕ → List ℕ
+firstBits counts list = networkBits list ++ chainBits counts list
+
+abbrev pub firstCount : ℕ → ℕ
+firstCount N = permutationCount (levelOf N) + (N - 1)
+
+-- the bits of the second network of N positions
+abbrev pub secondBits : ℕ → List ℕ → List ℕ
+secondBits N wanted = wantedBits (levelOf N) (wantedOf N (copyOf (mapping wanted) (length wanted)))
+
+-- ---- copies
+
+-- after the first o outputs, the position of the next copy of an input stands at the input's place; here of the input that output x wants
+pub record NextCopies (wanted : List ℕ) (o : ℕ) (heads : List ℕ) : Type 0 where
+  pub size : length heads ≡ maxSize
+  pub each : o ≤ length wanted → (x : ℕ) → x < length wanted → let j : ℕ = mapping wanted x in
+      getD heads j 0 ≡ headOf (mapping wanted) (length wanted) j + wanting (mapping wanted) o j
+
+-- ---- all that is found before a bit is stored
+
+pub record Found (N : ℕ) (wanted counts heads list : List ℕ) : Type 0 where
+  pub counted : Holds (copies (mapping wanted) (length wanted)) counts
+  pub headed : NextCopies wanted 0 heads
+  pub listSize : length list ≡ maxSize
+  pub listed : take N list ≡ wantedOf N (takerOf N (positionOf (mapping wanted) (length wanted) N))

@@ -1,0 +1,63 @@
+// Writing S: its rows into the lent table, its output wires into the second buffer. Checks come first and touch no buffer.
+ghost use mathlib.Core.Path.{_≡_};
+ghost use lib.ListN.{length};
+ghost use Rattle.fault.specs.Number.{answerNumber};
+ghost use Rattle.fault.specs.Buffers.{over};
+ghost use Rattle.block_elements.specs.Rows.{flat};
+ghost use Rattle.block_networks.specs.Selection.{selectionRows, selectionOuts};
+ghost use Rattle.block_write_checks.specs.WriteChecks.{selectionWriteFault, SelectionWritePasses};
+ghost use Rattle.block_selection_rows.specs.WriteCalls.{selectionWrittenRows, selectionWrittenOutputs};
+use crate::block::write_block;
+use block_rows::copy_wires;
+use block_sizes::MAX_SIZE;
+use block_sizes::selection_size;
+use block_write_checks::check_selection_write;
+use elements::FabricWire;
+use fault::Answer;
+
+// The places of the largest block.
+const PLACES: usize = MAX_SIZE as usize;
+
+// S(m, n) on the input wires, where `next` is the next unmade wire.
+pub fn write_selection(
+    m: u32,
+    n: u32,
+    inputs: &[u16],
+    next: FabricWire,
+    rows: &mut [u16],
+    outputs: &mut [u16],
+) -> Answer
+    ensures answered { λ r. ⌜ answerNumber r ≡ selectionWriteFault m n (now (inputs .entry)) (next .0) (length (now (rows .entry))) (length (now (outputs .entry))) ⌝ }
+    ensures rows { λ _. ⌜ now (rows .exit) ≡ selectionWrittenRows m n (now (inputs .entry)) (next .0) (now (rows .entry)) (now (outputs .entry)) ⌝ }
+    ensures outputs { λ _. ⌜ now (outputs .exit) ≡ selectionWrittenOutputs m n (now (inputs .entry)) (next .0) (now (rows .entry)) (now (outputs .entry)) ⌝ }
+{
+    match check_selection_write(m, n, inputs, next, rows.len(), outputs.len()) {
+        Answer::Refused(f) => Answer::Refused(f),
+        Answer::Done => {
+            put_selection(m, n, inputs, next, rows, outputs);
+            Answer::Done
+        }
+    }
+}
+
+// S(m, n) where all checks pass. The call's own lists of wires take 2,048 bytes; inputs past m stay wire 0.
+fn put_selection(
+    m: u32,
+    n: u32,
+    inputs: &[u16],
+    next: FabricWire,
+    rows: &mut [u16],
+    outputs: &mut [u16],
+)
+    requires { ⌜ SelectionWritePasses m n (now inputs) (next .0) (length (now rows)) (length (now outputs)) ⌝ }
+    ensures { λ _. ⌜ now (rows .exit) ≡ over (flat (selectionRows m n (now (inputs .entry)) (next .0))) (now (rows .entry)) ⌝ }
+    ensures { λ _. ⌜ now (outputs .exit) ≡ over (selectionOuts m n (now (inputs .entry)) (next .0)) (now (outputs .entry)) ⌝ }
+{
+    let mut from = [0u16; PLACES];
+    let mut to = [0u16; PLACES];
+    let size = selection_size(m, n) as u32;
+    let end = n as usize;
+    copy_wires(inputs, &mut from);
+    write_block(size, next, rows, &mut from, &mut to);
+    copy_wires(&to[..end], outputs);
+}

@@ -1,0 +1,37 @@
+-- `block_sizes::check_sides` meets its contract: each test in its turn. Assumes nothing.
+use native.Mathlib.Omega.{arith}
+use borrow.Author.Tests.{le-leb, lt-leb}
+use Rattle.block_sizes.specs.Sizes.{maxSize, sideAllowed, sidesFault}
+use Rattle.block_sizes.proofs.check_sides.Statement.{statement}
+use Rattle.block_sizes.proofs.check_sides.Tie as tie
+
+no-input : tie.Need-returns
+unfolding sidesFault sideAllowed
+no-input c = rw (c .if1 .taken)
+
+inputs : tie.Need-returns-2
+unfolding sidesFault sideAllowed
+inputs c =
+    let m = c .before .before .args .m in
+    rw (le-leb 1 m (omega arith), lt-leb m maxSize (omega arith))
+
+no-output : tie.Need-returns-3
+unfolding sidesFault sideAllowed
+no-output c =
+    let m = c .before .before .before .args .m in
+    rw (le-leb 1 m (omega arith), le-leb m maxSize (omega arith), c .if3 .taken)
+
+outputs : tie.Need-returns-4
+unfolding sidesFault sideAllowed
+outputs c =
+    let a = c .before .before .before .before .args in
+    rw (le-leb 1 (a .m) (omega arith), le-leb (a .m) maxSize (omega arith), le-leb 1 (a .n) (omega arith), lt-leb (a .n) maxSize (omega arith))
+
+allowed : tie.Need-returns-5
+unfolding sidesFault sideAllowed
+allowed c =
+    let a = c .before .before .before .before .args in
+    rw (le-leb 1 (a .m) (omega arith), le-leb (a .m) maxSize (omega arith), le-leb 1 (a .n) (omega arith), le-leb (a .n) maxSize (omega arith))
+
+pub check-sides-spec : {M : Type 1} → statement M
+check-sides-spec = tie.close (tie.spec no-input inputs no-output outputs allowed)

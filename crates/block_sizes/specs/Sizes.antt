@@ -1,0 +1,48 @@
+-- Document 01, block library, checks 2 and 4: "2 if P's N is not a power of two from 1 to 512, or S's m not 1 to 512; 4 if n is not 1 to 512".
+use Prim.Native.Nat.{ℕ, _*_, _^_, _≤_}
+use mathlib.Core.Bool.{Bool, _&&_}
+use lib.Dec.{leb, eqb}
+use Rattle.fault.specs.declared.Fault.{Fault}
+use Rattle.fault.specs.Checks.{unless, andThen}
+use Rattle.powers.specs.Powers.{ceilLog, ceilPower}
+use mathlib.Core.Path.{_≡_}
+use Rattle.block_networks.specs.Permutation.{permutationCount}
+
+abbrev pub maxSize : ℕ
+maxSize = 512
+
+-- its logarithm
+abbrev pub maxLevel : ℕ
+maxLevel = 9
+
+unfoldable pub sizeAllowed : ℕ → Bool
+sizeAllowed N = leb 1 N && (leb N maxSize && eqb (ceilPower N) N)
+
+-- the level n of P(N), N = 2 ^ n
+abbrev pub levelOf : ℕ → ℕ
+levelOf N = ceilLog N
+
+-- a number of inputs or outputs of S
+unfoldable pub sideAllowed : ℕ → Bool
+sideAllowed n = leb 1 n && leb n maxSize
+
+-- 2, then 4
+unfoldable pub sidesFault : ℕ → ℕ → ℕ
+sidesFault m n = andThen (unless (sideAllowed m) Fault.Inputs) (unless (sideAllowed n) Fault.Outputs)
+
+pub record SizeIs (N : ℕ) : Type 0 where
+  pub power : 2 ^ levelOf N ≡ N
+  pub level : levelOf N ≤ maxLevel
+  pub some : 1 ≤ N
+  pub most : N ≤ maxSize
+
+pub record Sides (m n : ℕ) : Type 0 where
+  pub someInputs : 1 ≤ m
+  pub inputs : m ≤ maxSize
+  pub someOutputs : 1 ≤ n
+  pub outputs : n ≤ maxSize
+
+-- a number of rows
+pub record CountIs (level count : ℕ) : Type 0 where
+  pub count-is : count ≡ permutationCount level
+  pub most-rows : count ≤ maxLevel * maxSize

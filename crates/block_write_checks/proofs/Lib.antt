@@ -1,0 +1,2 @@
+pub mod WiresLaws
+pub mod WriteChecksLaws

@@ -1,8 +1,0 @@
--- Document 01, "The plan": the steps of reading a plan file, in reading order.
--- reading steps and how one follows another
-pub mod Parsing
-pub mod ParsingLaws
--- the fields of the file, and a gate
-pub mod Fields
--- what the answers of the steps say
-pub mod Answers

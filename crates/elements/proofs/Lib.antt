@@ -1,0 +1,2 @@
+-- what counting answers, refused or not
+pub mod CountLaws

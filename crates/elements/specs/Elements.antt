@@ -1,0 +1,41 @@
+-- Document 01, "Elements and their table": the limit of wires and the numbers of the kinds; and what counting says.
+use Prim.Native.Nat.{ℕ, zero, suc}
+use mathlib.Core.Path.{_≡_}
+use Rattle.fault.specs.Number.{faultNumber}
+use Rattle.elements.specs.declared.Kind.{Kind}
+use Rattle.elements.specs.declared.Kind.the-variants.{X, Y, G}
+use Rattle.elements.specs.declared.Counts.{Counts}
+use Rattle.elements.specs.declared.CountAnswer.{CountAnswer}
+
+-- a fabric has at most so many wires: 0 to 65,535
+abbrev pub maxWires : ℕ
+maxWires = 65536
+
+-- document 01's number of a kind
+abbrev pub kindNumber : Kind → ℕ
+kindNumber X = 1
+kindNumber Y = 2
+kindNumber G = 3
+
+-- what counting says: the number of the refusal, 0 for none; rows, wires and program bits, all 0 on a refusal
+pub record CountOutcome : Type 0 where
+  pub number : ℕ
+  pub rows : ℕ
+  pub wires : ℕ
+  pub bits : ℕ
+
+-- what each case of counting's answer says
+abbrev pub countOutcome : CountAnswer → CountOutcome
+countOutcome (CountAnswer.Counted c) = record { number = 0; rows = c .rows; wires = c .wires; bits = c .bits }
+countOutcome (CountAnswer.Refused f) = record { number = faultNumber f; rows = 0; wires = 0; bits = 0 }
+
+-- these counts where the checks gave 0
+abbrev pub countsUnless : ℕ → ℕ → ℕ → ℕ → CountOutcome
+countsUnless zero rows wires bits = record { number = 0; rows = rows; wires = wires; bits = bits }
+countsUnless (suc n) rows wires bits = record { number = suc n; rows = 0; wires = 0; bits = 0 }
+
+-- the counts are these
+pub record CountsAre (rows wires bits : ℕ) (c : Counts) : Type 0 where
+  pub isRows : c .rows ≡ rows
+  pub isWires : c .wires ≡ wires
+  pub isBits : c .bits ≡ bits

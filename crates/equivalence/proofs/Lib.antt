@@ -1,0 +1,4 @@
+-- the demand holds
+pub mod ThirdDemandLaws
+-- the call's checks, and that its two results are equal
+pub mod BothLaws

@@ -1,6 +1,0 @@
--- Document 01, plan evaluation, in reading order.
--- what a plan gives on a row of inputs
-pub mod Evaluation
-pub mod EvaluationLaws
--- unused places never matter
-pub mod AgreeLaws

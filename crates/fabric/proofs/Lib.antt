@@ -1,0 +1,2 @@
+-- the fabric's table is well formed, a plan's program exact, and their run gives what the plan gives
+pub mod FabricTableLaws

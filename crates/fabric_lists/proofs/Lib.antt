@@ -1,0 +1,2 @@
+pub mod GateListsLaws
+pub mod WantedListsLaws

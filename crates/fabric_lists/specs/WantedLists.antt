@@ -1,0 +1,31 @@
+-- What a selection block is asked for, from a list of the pins' operands. Gates and pins count from 0.
+use Prim.Native.Nat.{ℕ, _+_, _-_}
+use mathlib.Core.Bool.{Bool, cond, _&&_}
+use mathlib.Core.List.{List, []}
+use lib.Dec.{leb, ltb}
+use lib.ListN.{getD}
+use Rattle.lists.specs.Lists.{listOf}
+use Rattle.fabric_universal.specs.Universal.{Gates}
+use Rattle.fabric_universal.specs.Fabric.{wantedInput}
+
+-- the gates of which the lists have the operands, pin by pin, and the tables; their wires follow `before` others
+abbrev pub gatesIn : ℕ → List ℕ → List ℕ → Gates
+gatesIn before pins tables = record { before = before; operand = λ q. getD pins q 0; table = λ g. getD tables g 0 }
+
+-- the same where the tables do not matter
+abbrev pub pinsIn : ℕ → List ℕ → Gates
+pinsIn before pins = gatesIn before pins []
+
+-- ---- what is wanted
+
+-- of the inputs, by the first pins
+unfoldable pub inputsWanted : ℕ → List ℕ → ℕ → List ℕ
+inputsWanted u pins count = listOf count (λ q. wantedInput u (getD pins q 0))
+
+-- the wire w is one of h behind so many others
+unfoldable pub isAmong : ℕ → ℕ → ℕ → Bool
+isAmong before h w = ltb before w && leb w (before + h)
+
+-- which of them, counted from 1; if it is none, the first
+unfoldable pub wantedAmong : ℕ → ℕ → ℕ → ℕ
+wantedAmong before h w = cond (isAmong before h w) (w - before) 1

@@ -1,0 +1,51 @@
+// The plan's gates as a list of operands, pin by pin, and a list of tables; and the bits of a table. Gates and pins count from 0.
+ghost use mathlib.Core.Path.{_≡_};
+ghost use Rattle.block_elements.specs.Bits.{storeBits};
+ghost use Rattle.fabric_universal.specs.Universal.{tableProgram};
+ghost use Rattle.fabric_lists.specs.GateLists.{LoadedCount, loadedPins, loadedTables};
+use block_bits::smaller;
+use block_bits::store_bit;
+use elements::GATE_BITS;
+use plan::Plan;
+
+// The operands of the plan's gates, and their tables, from the front of two lists, as far as the record and the lists have places. What stands
+// behind them stays.
+pub fn load_gates(plan: Plan, pins: &mut [u16], tables: &mut [u16])
+    ensures operands { λ _. ⌜ now (pins .exit) ≡ loadedPins plan (now (pins .entry)) (now (tables .entry)) ⌝ }
+    ensures tables { λ _. ⌜ now (tables .exit) ≡ loadedTables plan (now (pins .entry)) (now (tables .entry)) ⌝ }
+{
+    let count = loaded_gates(plan.gate_count, pins.len(), tables.len());
+    let mut i: usize = 0;
+    while i < count {
+        let gate = plan.gates[i];
+        pins[2 * i] = gate.first.0;
+        pins[2 * i + 1] = gate.second.0;
+        tables[i] = gate.table;
+        i += 1;
+    }
+}
+
+// How many of so many gates the record and two lists of so many entries have places for.
+fn loaded_gates(gates: u16, pins: usize, tables: usize) -> usize
+    ensures { λ r. ⌜ LoadedCount gates pins tables r ⌝ }
+{
+    smaller(
+        gates as usize,
+        smaller(Plan::MAX_GATES, smaller(pins / 2, tables)),
+    )
+}
+
+// A gate's table, the lowest bit first, stored from bit `start` on as far as the program goes.
+pub fn store_table(table: u16, program: &mut [u8], start: u32)
+    ensures { λ _. ⌜ now (program .exit) ≡ storeBits (now (program .entry)) start (tableProgram table) ⌝ }
+{
+    let mut i: u32 = 0;
+    while i < GATE_BITS {
+        store_bit(
+            program,
+            start as usize + i as usize,
+            ((table >> i) & 1) as u8,
+        );
+        i += 1;
+    }
+}

@@ -1,0 +1,9 @@
+// The parts of a fabric in lent buffers: U's elements besides its selection block, and the selection blocks. Every call takes all inputs: what does
+// not fit is not stored.
+mod selections;
+mod universal;
+
+pub use selections::put_outputs;
+pub use selections::put_selection;
+pub use universal::write_gate;
+pub use universal::write_mix;

@@ -1,0 +1,154 @@
+// The run: every wire's bit into the work buffer, row by row, then the outputs' bits into the result. A program bit is read by shift and mask.
+ghost use mathlib.Core.Path.{_≡_};
+ghost use mathlib.Core.List.{[], _∷_};
+ghost use Prim.Native.Nat.{_+_, _<_, _≤_};
+ghost use lib.ListN.{length};
+ghost use Rattle.fault.specs.Number.{answerNumber};
+ghost use Rattle.fault.specs.Buffers.{over};
+ghost use Rattle.block_elements.specs.Rows.{X, Y, Gate, rowOf, choose};
+ghost use Rattle.fabric_run.specs.Running.{runWires};
+ghost use Rattle.fabric_run_checks.specs.RunFault.{runFault};
+ghost use Rattle.fabric_run.specs.RunCalls.{runWork, runResult};
+ghost use Rattle.fabric_table_checks.specs.Counting.{kindWires};
+ghost use Rattle.fabric_run.specs.RunRows.{Runnable, RowRoom, OutputRoom, outputsOn, leftOf, rightOf, rowDone};
+use block_bits::read_bit;
+use block_rows::wide;
+use elements::FabricWire;
+use elements::KIND_X;
+use elements::KIND_Y;
+use fabric_run_checks::check_run;
+use fabric_table_checks::INPUTS;
+use fabric_table_checks::OUTPUTS;
+use fabric_table_checks::ROWS;
+use fabric_table_checks::counts_of;
+use fabric_table_checks::row_place;
+use fabric_table_checks::wire_of;
+use fault::Answer;
+
+// The run of a table with a program on a row of inputs: every wire's bit into the work buffer, the outputs' bits into the result.
+pub fn run(table: &[u16], program: &[u8], row: &[u8], work: &mut [u8], result: &mut [u8]) -> Answer
+    ensures answered { λ r. ⌜ answerNumber r ≡ runFault (now (table .entry)) (now (program .entry)) (now (row .entry)) (length (now (work .entry))) (length (now (result .entry))) ⌝ }
+    ensures worked { λ _. ⌜ now (work .exit) ≡ runWork (now (table .entry)) (now (program .entry)) (now (row .entry)) (now (work .entry)) (now (result .entry)) ⌝ }
+    ensures written { λ _. ⌜ now (result .exit) ≡ runResult (now (table .entry)) (now (program .entry)) (now (row .entry)) (now (work .entry)) (now (result .entry)) ⌝ }
+{
+    match check_run(table, program, row, work.len(), result.len()) {
+        Answer::Refused(f) => Answer::Refused(f),
+        Answer::Done => {
+            run_rows(table, program, row, work);
+            write_outputs(table, work, result);
+            Answer::Done
+        }
+    }
+}
+
+// All wires' bits: wire 0, the inputs, then row by row.
+fn run_rows(table: &[u16], program: &[u8], row: &[u8], work: &mut [u8])
+    requires { ⌜ Runnable (now table) (now row) (length (now work)) ⌝ }
+    ensures { λ _. ⌜ now (work .exit) ≡ over (runWires (now (table .entry)) (now (program .entry)) (now (row .entry))) (now (work .entry)) ⌝ }
+{
+    start_wires(row, work);
+    let rows = table[ROWS];
+    let mut made = 1 + wide(table[INPUTS]);
+    let mut bit: usize = 0;
+    let mut i: u16 = 0;
+    while i < rows {
+        let at = row_place(i);
+        let kind = table[at];
+        run_row(table, at, kind, program, bit, made, work);
+        let own = counts_of(kind);
+        made += own.wires;
+        bit += own.bits;
+        i += 1;
+    }
+}
+
+// Wire 0, which is 0, and the inputs.
+fn start_wires(row: &[u8], work: &mut [u8])
+    requires { ⌜ length (now row) < length (now work) ⌝ }
+    ensures { λ _. ⌜ now (work .exit) ≡ over (0 ∷ now (row .entry)) (now (work .entry)) ⌝ }
+{
+    work[0] = 0;
+    let mut i: usize = 0;
+    while i < row.len() {
+        work[i + 1] = row[i];
+        i += 1;
+    }
+}
+
+// The row of a kind at a place of the table, with the program from a bit on: its outputs' bits behind the wires that are made.
+fn run_row(
+    table: &[u16],
+    at: usize,
+    kind: u16,
+    program: &[u8],
+    bit: usize,
+    made: usize,
+    work: &mut [u8],
+)
+    requires { ⌜ RowRoom (kindWires kind) (now table) at bit made (now work) ⌝ }
+    ensures { λ _. ⌜ now (work .exit) ≡ rowDone (rowOf kind (leftOf (now (table .entry)) at) (rightOf (now (table .entry)) at)) (now (program .entry)) bit made (now (work .entry)) ⌝ }
+{
+    if kind == KIND_X {
+        run_x(table, at, program, bit, made, work);
+        return;
+    }
+    if kind == KIND_Y {
+        run_y(table, at, program, bit, made, work);
+        return;
+    }
+    run_g(table, at, program, bit, made, work);
+}
+
+// X: bit 0 straight, bit 1 crossed.
+fn run_x(table: &[u16], at: usize, program: &[u8], bit: usize, made: usize, work: &mut [u8])
+    requires { ⌜ RowRoom 2 (now table) at bit made (now work) ⌝ }
+    ensures { λ _. ⌜ now (work .exit) ≡ rowDone (X (leftOf (now (table .entry)) at) (rightOf (now (table .entry)) at)) (now (program .entry)) bit made (now (work .entry)) ⌝ }
+{
+    let b = read_bit(program, bit);
+    let first = work[chosen(table, at, b).0 as usize];
+    let second = work[chosen(table, at, 1 - b).0 as usize];
+    work[made] = first;
+    work[made + 1] = second;
+}
+
+// Y: bit 0 gives the left, 1 the right.
+fn run_y(table: &[u16], at: usize, program: &[u8], bit: usize, made: usize, work: &mut [u8])
+    requires { ⌜ RowRoom 1 (now table) at bit made (now work) ⌝ }
+    ensures { λ _. ⌜ now (work .exit) ≡ rowDone (Y (leftOf (now (table .entry)) at) (rightOf (now (table .entry)) at)) (now (program .entry)) bit made (now (work .entry)) ⌝ }
+{
+    let b = read_bit(program, bit);
+    work[made] = work[chosen(table, at, b).0 as usize];
+}
+
+// G: its table is the next four program bits, and gives bit 2a + b.
+fn run_g(table: &[u16], at: usize, program: &[u8], bit: usize, made: usize, work: &mut [u8])
+    requires { ⌜ RowRoom 1 (now table) at bit made (now work) ⌝ }
+    ensures { λ _. ⌜ now (work .exit) ≡ rowDone (Gate (leftOf (now (table .entry)) at ∷ rightOf (now (table .entry)) at ∷ [])) (now (program .entry)) bit made (now (work .entry)) ⌝ }
+{
+    let a = work[wire_of(table[at + 1]).0 as usize];
+    let b = work[wire_of(table[at + 2]).0 as usize];
+    work[made] = read_bit(program, bit + (2 * a + b) as usize);
+}
+
+// The wire that a bit chooses of the row at a place: the left one for 0, the right one for 1. An index and no branch: which bits
+// a program has cannot be foretold.
+fn chosen(table: &[u16], at: usize, b: u8) -> FabricWire
+    requires { ⌜ (at + 2 < length (now table)) × (b ≤ 1) ⌝ }
+    ensures { λ r. ⌜ r .0 ≡ choose b (leftOf (now (table .entry)) at) (rightOf (now (table .entry)) at) ⌝ }
+{
+    wire_of(table[at + 1 + b as usize])
+}
+
+// The bits on the output wires, into the first entries of the result.
+fn write_outputs(table: &[u16], work: &[u8], result: &mut [u8])
+    requires { ⌜ OutputRoom (now table) (length (now work)) (length (now result)) ⌝ }
+    ensures { λ _. ⌜ now (result .exit) ≡ over (outputsOn (now (table .entry)) (now (work .entry))) (now (result .entry)) ⌝ }
+{
+    let first = row_place(table[ROWS]);
+    let count = wide(table[OUTPUTS]);
+    let mut j: usize = 0;
+    while j < count {
+        result[j] = work[wire_of(table[first + j]).0 as usize];
+        j += 1;
+    }
+}

@@ -1,0 +1,18 @@
+-- Packed bits are an exact program.
+use mathlib.Core.Path.{_≡_, _∙_}
+use mathlib.Core.List.{List}
+use Prim.Native.Nat.{ℕ, _+_}
+use native.Mathlib.Omega.{arith}
+use lib.ListN.{length, List·getD-eq-default}
+use Rattle.fault.proofs.ChecksLaws.{unless-zero, and-then-zero, first-of-zero, eqb-iff}
+use Rattle.block_elements.specs.Bits.{AreBits, pack, bitAt}
+use Rattle.block_elements.proofs.BitsLaws.{length-pack, bitAt-pack}
+use Rattle.fabric_run_checks.specs.RunFault.{givenProgramFault}
+
+-- packed bits are an exact program
+pub pack-exact : (bs : List ℕ) → AreBits bs → givenProgramFault (length bs) (pack bs) ≡ 0
+unfolding givenProgramFault
+pack-exact bs bits =
+    let spare : (i : ℕ) → bitAt (pack bs) (length bs + i) ≡ 0
+    = λ i. bitAt-pack bs bits (length bs + i) ∙ List·getD-eq-default bs 0 {n = length bs + i} (omega arith) in
+    simp (and-then-zero, first-of-zero, unless-zero, eqb-iff) (length-pack bs, λ i l. spare i)

@@ -1,0 +1,32 @@
+-- Document 01, the checks of the run of a table with a program on a row of input contacts, in their order.
+use Prim.Native.Nat.{ℕ, _+_, _-_, _*_}
+use mathlib.Core.List.{List}
+use Rattle.fault.specs.Checks.{andThen, roomFault, unless, firstOf}
+use Rattle.plan_evaluation_checks.specs.EvaluationChecks.{contactFault}
+use Rattle.fabric_sizes.specs.Layout.{inputsIn, outputsIn, wiresIn, bitsIn}
+use Rattle.fabric_table_checks.specs.TableFault.{tableFault}
+use lib.Dec.{eqb}
+use lib.ListN.{length}
+use Rattle.fault.specs.declared.Fault.{Fault}
+use Rattle.block_elements.specs.Bits.{bytesFor, bitAt}
+
+-- 11: a work buffer and a result of so many entries, where there are so many wires and outputs
+abbrev pub roomsFault : ℕ → ℕ → ℕ → ℕ → ℕ
+roomsFault wires outputs work result = andThen (roomFault wires work) (roomFault outputs result)
+
+-- the bits of the last byte that hold none of n bits
+abbrev pub spareBits : ℕ → ℕ
+spareBits n = 8 * bytesFor n - n
+
+-- another length than that of n bits; a spare bit set
+unfoldable pub givenProgramFault : ℕ → List ℕ → ℕ
+givenProgramFault n program =
+    andThen (unless (eqb (length program) (bytesFor n)) Fault.Program)
+    (firstOf (λ i. unless (eqb (bitAt program (n + i)) 0) Fault.Program) (spareBits n))
+
+-- 13, 14, 12, 11: the work buffer has one byte per wire, the result one per output
+unfoldable pub runFault : List ℕ → List ℕ → List ℕ → ℕ → ℕ → ℕ
+runFault table program row work result =
+    andThen (tableFault table)
+    (andThen (givenProgramFault (bitsIn table) program)
+    (andThen (contactFault (inputsIn table) row) (roomsFault (wiresIn table) (outputsIn table) work result)))

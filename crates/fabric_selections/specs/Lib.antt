@@ -1,5 +1,0 @@
--- The fabric's selection blocks in lent buffers.
--- wires from a place of the table on
-pub mod Copied
--- Laws of what the calls store.
-pub mod PutLaws

@@ -1,0 +1,5 @@
+pub mod CountingLaws
+pub mod LayoutLaws
+-- Laws of the definitions.
+pub mod PartsLaws
+pub mod FabricChecksLaws

@@ -1,0 +1,118 @@
+-- The parts of a fabric of counts of 16 bits are small, and a power of two above 1 has a half of the level below.
+use mathlib.Core.Path.{_≡_, refl, sym, ap, _∙_}
+use Prim.Native.Nat.{ℕ, zero, suc, _+_, _-_, _*_, _/_, _^_, _<_, _≤_}
+use native.Mathlib.Nat.{mul-le-mul}
+use native.Mathlib.Omega.{arith}
+use lib.Pow.{pow-mono, pow-pos}
+use Rattle.powers.proofs.PowersLaws.{ceilLog-least, ceilLog-power}
+use Rattle.plan.specs.Record.{maxGates}
+use Rattle.block_networks.specs.Selection.{selectionLevel, wholeCount, wholeWires, selectionCount, selectionWires}
+use Rattle.block_networks.proofs.SelectionLaws.{level-least}
+use Rattle.block_sizes.proofs.SizesLaws.{count-most}
+use Rattle.fabric_universal.specs.Selector.{selection}
+use Rattle.fabric_universal.proofs.SelectorLaws.{double}
+use Rattle.fabric_universal.specs.Universal.{universalCount, universalWires, universalTakes}
+use Rattle.fabric_universal.proofs.UniversalLaws.{universal-takes, universal-count, universal-made}
+use Rattle.fabric_universal.specs.Fabric.{gateLevel}
+use Rattle.fabric_sizes.specs.Parts.{topLevel, blockLimit, PlacesAre, SidesWithin, UniversalIs}
+
+-- ---- K
+
+pub places-are : {k places : ℕ} → k ≤ 2 ^ topLevel → places ≡ 2 ^ gateLevel k → PlacesAre k places
+places-are {k} h e =
+    record { isPlaces = e; some = rw e (pow-pos (gateLevel k)); most = rw e (pow-mono (ceilLog-least k topLevel h)) }
+
+-- the limit of k, 2 to the power 8, is one of K too
+pub few-places : (k : ℕ) → k ≤ maxGates → 2 ^ gateLevel k ≤ maxGates
+few-places k h = pow-mono (ceilLog-least k 8 h)
+
+-- K is its own K
+pub same-level : (k : ℕ) → gateLevel (2 ^ gateLevel k) ≡ gateLevel k
+same-level k = ceilLog-power (gateLevel k)
+
+-- ---- a power of two and its half
+
+-- U(1) is at level 0
+pub one-gate : {gates : ℕ} → gates ≤ 1 → gateLevel gates ≡ 0
+one-gate {gates} h = omega (arith, ceilLog-least gates 0 h)
+
+pub record Halved (gates half : ℕ) : Type 0 where
+  pub twice : gates ≡ 2 * half
+  pub level : gateLevel gates ≡ suc (gateLevel half)
+  pub power : half ≡ 2 ^ gateLevel half
+  pub some : 1 ≤ half
+
+halved-at : (gates n : ℕ) → gateLevel gates ≡ n → gates ≡ 2 ^ n → 1 < gates → Halved gates (gates / 2)
+halved-at gates zero at e l = absurd (omega arith)
+halved-at gates (suc n) at e l =
+    let half : gates / 2 ≡ 2 ^ n = omega (arith, double n) in
+    let level : gateLevel (gates / 2) ≡ n = ap gateLevel half ∙ ceilLog-power n in
+    record {
+      twice = omega (arith, double n);
+      level = at ∙ ap suc (sym level);
+      power = half ∙ ap (λ m. 2 ^ m) (sym level);
+      some = omega (arith, pow-pos n);
+    }
+
+pub halved : {gates : ℕ} → gates ≡ 2 ^ gateLevel gates → 1 < gates → Halved gates (gates / 2)
+halved {gates} e l = halved-at gates (gateLevel gates) refl e l
+
+-- ---- S
+
+pub record FewSelected (m n : ℕ) : Type 0 where
+  pub rows : selectionCount m n ≤ blockLimit
+  pub wires : selectionWires m n ≤ blockLimit
+
+pub few-selected : {m n : ℕ} → SidesWithin m n → FewSelected m n
+unfolding selectionCount selectionWires wholeCount wholeWires
+few-selected {m} {n} s =
+    let level : ℕ = selectionLevel m n in
+    let low : level ≤ suc topLevel = level-least m n (suc topLevel) (s .inputs) (s .outputs) in
+    let one = count-most level (suc topLevel) low in
+    let size : 2 ^ level ≤ 2 ^ suc topLevel = pow-mono low in
+    record { rows = omega arith; wires = omega arith }
+
+-- ---- U: what the closed forms are computed from
+
+pub record Products (n gates : ℕ) : Type 0 where
+  pub low : n ≤ topLevel
+  pub square : n * n ≤ topLevel * topLevel
+  pub rows : gates * (n * n + n) ≤ 2 ^ topLevel * (topLevel * topLevel + topLevel)
+  pub wires : gates * (n * n) ≤ 2 ^ topLevel * (topLevel * topLevel)
+  pub isRows : universalCount selection n + 1 ≡ gates * (n * n + n) + 2 * gates
+  pub isWires : universalWires selection n + 3 ≡ 2 * (gates * (n * n)) + 4 * gates
+  pub isBits : universalTakes selection n ≡ universalCount selection n + 3 * gates
+
+pub products : {k gates n : ℕ} → k ≤ 2 ^ topLevel → PlacesAre k gates → n ≡ gateLevel k → Products n gates
+products {k} {gates} {n} h p at =
+    let low : n ≤ topLevel = rw at (ceilLog-least k topLevel h) in
+    let square : n * n ≤ topLevel * topLevel = mul-le-mul low low in
+    let more : n * n + n ≤ topLevel * topLevel + topLevel = omega arith in
+    let power : gates ≡ 2 ^ n = p .isPlaces ∙ ap (λ m. 2 ^ m) (sym at) in
+    record {
+      low = low;
+      square = square;
+      rows = mul-le-mul (p .most) more;
+      wires = mul-le-mul (p .most) square;
+      isRows = rw power (universal-count n);
+      isWires = rw power (universal-made n);
+      isBits = rw power (universal-takes selection n);
+    }
+
+pub universal-is : {k gates n : ℕ} → Products n gates → n ≡ gateLevel k → PlacesAre k gates
+    → UniversalIs (gateLevel k) (record {
+      rows = gates * (n * n + n) + 2 * gates - 1;
+      wires = 2 * (gates * (n * n)) + 4 * gates - 3;
+      bits = gates * (n * n + n) + 2 * gates - 1 + 3 * gates;
+    })
+universal-is {k} {gates} {n} p at places =
+    let few = places .most in
+    let some = places .some in
+    rw (← at) (record {
+      isRows = omega (arith, p .isRows);
+      isWires = omega (arith, p .isWires);
+      isBits = omega (arith, p .isRows, p .isBits);
+      fewRows = omega (arith, p .rows);
+      fewWires = omega (arith, p .wires);
+      fewBits = omega (arith, p .rows);
+    })

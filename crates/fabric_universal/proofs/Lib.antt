@@ -1,0 +1,17 @@
+-- the fabric's counts: rows, wires, bits
+pub mod FabricLaws
+-- the fabric's promise, over values of any type: its outputs are the plan's
+pub mod FabricRun
+-- a plan's values are as the gates of U say
+pub mod PlanValues
+-- document 01's S(K/2, K) keeps what the selection block must promise
+pub mod SelectorLaws
+-- U's counts: rows, wires, bits; its rows' wires are made before them
+pub mod UniversalLaws
+-- what U is programmed for
+pub mod UniversalProgram
+-- U's promise: its outputs are the gates' values
+pub mod UniversalRun
+-- The laws of the definitions.
+-- the views of r ++ s
+pub mod ViewsLaws

@@ -1,0 +1,46 @@
+-- Laws of buffers that are written from the front.
+use mathlib.Core.Path.{_≡_, refl, sym, ap, _∙_}
+use mathlib.Core.List.{List, [], _∷_, _++_, append-assoc}
+use Prim.Native.Nat.{ℕ, zero, suc, _+_, _<_}
+use native.Mathlib.Omega.{arith}
+use native.Mathlib.Numerals.{add-one}
+use lib.ListN.{length, getD, set, drop, length-append}
+use lib.Seq.{set-at, drop-cons}
+use Rattle.lists.specs.Lists.{listOf}
+use Rattle.lists.proofs.ListsLaws.{length-listOf}
+use Rattle.fault.specs.declared.Fault.{Fault}
+use Rattle.fault.specs.Number.{faultNumber}
+use Rattle.fault.proofs.ChecksLaws.{number-positive}
+use Rattle.fault.specs.Buffers.{over, filled}
+
+-- one entry more
+pub over-more : {A : Type 0} (new old : List A) (x : A) → length new < length old → set (over new old) (length new) x ≡ over (new ++ (x ∷ [])) old
+over-more new old x h =
+    rw (length-append new (x ∷ []), append-assoc new (x ∷ []), add-one (length new), drop-cons old (length new) x h)
+    (set-at new (getD old (length new) x) (drop (suc (length new)) old) x (length new) refl)
+
+-- one entry more of a list that is given place by place
+pub listOf-over : {A : Type 0} (n : ℕ) (f : ℕ → A) (old : List A) → n < length old
+    → set (over (listOf n f) old) n (f n) ≡ over (listOf (n + 1) f) old
+unfolding listOf
+listOf-over n f old h =
+    let l = length-listOf n f in
+    rw (add-one n) (ap (λ m. set (over (listOf n f) old) m (f n)) (sym l) ∙ over-more (listOf n f) old (f n) (omega arith))
+
+-- the same, with what stands in the buffer and what is stored given by equations
+pub list-step : {A : Type 0} (old : List A) {l : List A} (i : ℕ) {v : A} (f : ℕ → A) → l ≡ over (listOf i f) old → v ≡ f i → i < length old
+    → set l i v ≡ over (listOf (i + 1) f) old
+list-step old i f held e room = rw (held, e) (listOf-over i f old room)
+
+-- on a refusal the buffer is as it was
+pub filled-refused : {A : Type 0} (f : Fault) (n : ℕ) (new old : List A) → faultNumber f ≡ n → old ≡ filled n new old
+filled-refused f zero new old e = absurd (omega (arith, number-positive f))
+filled-refused f (suc n) new old e = refl
+
+-- where no check fails it begins with what was written
+pub filled-done : {A : Type 0} (n : ℕ) (new old : List A) → 0 ≡ n → over new old ≡ filled n new old
+filled-done n new old e = rw (← e)
+
+-- a buffer that begins with what is written is as the call leaves it where no check fails
+pub is-filled : {A : Type 0} (n : ℕ) (new old l : List A) → l ≡ over new old → 0 ≡ n → l ≡ filled n new old
+is-filled n new old l e z = e ∙ filled-done n new old z

@@ -1,0 +1,4 @@
+-- a table that passes a computed test holds
+pub mod FigureLaws
+-- the starred figures hold
+pub mod StatedFiguresLaws

@@ -1,0 +1,121 @@
+-- Counts grow with the limit, by one where a number passes; so a later number that passes has more before it, and the n-th is the only one.
+use mathlib.Core.Path.{_≡_, refl, sym, ap, _∙_}
+use mathlib.Core.Logic.{_⊎_, inl, inr}
+use mathlib.Core.Bool.{Bool, true, false, cond, not, _&&_, _||_}
+use Prim.Native.Nat.{ℕ, zero, suc, _+_, _≤_, _<_}
+use native.Mathlib.Nat.{le-refl, le-step, le-of-suc-le-suc, not-suc-le-zero, eq-or-lt-of-le}
+use native.Mathlib.Decide.{ℕ-discrete, decLt}
+use native.Mathlib.Omega.{arith}
+use borrow.Author.Tests.{eq-eqb, ne-eqb, lt-ltb, le-ltb}
+use lib.Dec.{eqb, ltb}
+use Rattle.lists.specs.Counting.{oneIf, countOf, nthOf}
+
+-- ---- tests
+
+-- a test is passed or not
+pub passed : (b : Bool) → (b ≡ true) ⊎ (b ≡ false)
+passed true = inl refl
+passed false = inr refl
+
+pub both-ways : {b : Bool} → b ≡ true → b ≡ false → ⊥
+both-ways t f = let z : _≡_ {A = ℕ} 1 0 = ap oneIf (sym t ∙ f) in omega arith
+
+pub not-fails : {b : Bool} → not b ≡ true → b ≡ false
+not-fails {b} e = elim (passed b) [ inl t ↦ absurd (both-ways e (ap not t)) | inr f ↦ f ]
+
+-- one or the other counts at most for both
+pub or-le : (a b : Bool) → oneIf (a || b) ≤ oneIf b + oneIf a
+or-le true true = omega arith
+or-le true false = omega arith
+or-le false b = omega arith
+
+pub one-lt : (b : Bool) → oneIf b < 2
+one-lt true = omega arith
+one-lt false = omega arith
+
+one-rest : (b : Bool) → oneIf b + oneIf (not b) ≡ 1
+one-rest true = refl
+one-rest false = refl
+
+-- ---- counting
+
+module _ (test : ℕ → Bool) where
+  pub count-le : (n : ℕ) → countOf test n ≤ n
+  unfolding countOf
+  count-le zero = omega arith
+  count-le (suc n) = omega (arith, count-le n, one-lt (test n))
+
+  pub count-none : ((i : ℕ) → test i ≡ false) → (n : ℕ) → countOf test n ≡ 0
+  unfolding countOf
+  count-none e zero = refl
+  count-none e (suc n) = rw (count-none e n, e n)
+
+  -- those that pass and those that do not
+  pub count-rest : (n : ℕ) → countOf test n + countOf (λ i. not (test i)) n ≡ n
+  unfolding countOf
+  count-rest zero = refl
+  count-rest (suc n) = omega (arith, count-rest n, one-rest (test n))
+
+  count-mono : (a b : ℕ) → a ≤ b → countOf test a ≤ countOf test b
+  unfolding countOf
+  count-mono a zero h = let e : a ≡ 0 = omega arith in rw e (le-refl _)
+  count-mono a (suc b) h = go (count-mono a b) (eq-or-lt-of-le h)
+    where
+      go : (a ≤ b → countOf test a ≤ countOf test b) → (a ≡ suc b) ⊎ (a < suc b) → countOf test a ≤ countOf test b + oneIf (test b)
+      go rec (inl e) = rw e (le-refl _)
+      go rec (inr l) = omega (arith, rec (le-of-suc-le-suc l))
+
+  -- a number that passes counts for the later ones
+  pub count-before : (a b : ℕ) → a < b → test a ≡ true → countOf test a < countOf test b
+  unfolding countOf
+  count-before a b l e = let h = count-mono (suc a) b l in omega (arith, rw e at h)
+
+  -- so with more before it a number comes later
+  pub count-later : (a b : ℕ) → countOf test a < countOf test b → a < b
+  count-later a b l = let f : ¬ (b ≤ a) = λ h. omega (arith, count-mono b a h) in omega arith
+
+  -- y passes the test after just r others
+  pub record NthOf (n r y : ℕ) : Type 0 where
+    pub low : y < n
+    pub passes : test y ≡ true
+    pub rank : countOf test y ≡ r
+
+  pub nth-at : (n r : ℕ) → r < countOf test n → NthOf n r (nthOf test n r)
+  unfolding countOf nthOf
+  nth-at zero r h = absurd (not-suc-le-zero h)
+  nth-at (suc n) r h = go (nth-at n r) (passed (test n)) (ℕ-discrete (countOf test n) r)
+    where
+      wider : {y : ℕ} → NthOf n r y → NthOf (suc n) r y
+      wider t = record { low = le-step (t .low); passes = t .passes; rank = t .rank }
+
+      go : (r < countOf test n → NthOf n r (nthOf test n r)) → (test n ≡ true) ⊎ (test n ≡ false) → Dec (countOf test n ≡ r)
+          → NthOf (suc n) r (cond (test n && eqb (countOf test n) r) n (nthOf test n r))
+      go rec (inl e) (yes q) = rw (e, eq-eqb (countOf test n) r q) (record { low = le-refl (suc n); passes = e; rank = q })
+      go rec (inl e) (no f) = rw (e, ne-eqb (countOf test n) r f) (wider (rec (omega (arith, rw e at h))))
+      go rec (inr e) d = rw e (wider (rec (omega (arith, rw e at h))))
+
+-- one test counts for two, or at most for two
+pub count-sum : (a b c : ℕ → Bool) → ((i : ℕ) → oneIf (a i) ≡ oneIf (b i) + oneIf (c i)) → (n : ℕ) → countOf a n ≡ countOf b n + countOf c n
+unfolding countOf
+count-sum a b c e zero = refl
+count-sum a b c e (suc n) = omega (arith, e n, count-sum a b c e n)
+
+pub count-cover : (a b c : ℕ → Bool) → ((i : ℕ) → oneIf (a i) ≤ oneIf (b i) + oneIf (c i)) → (n : ℕ) → countOf a n ≤ countOf b n + countOf c n
+unfolding countOf
+count-cover a b c e zero = omega arith
+count-cover a b c e (suc n) = omega (arith, e n, count-cover a b c e n)
+
+-- below suc m is below m, or m
+pub one-more : (v m : ℕ) → oneIf (ltb v (suc m)) ≡ oneIf (ltb v m) + oneIf (eqb v m)
+one-more v m = go (decLt v m) (ℕ-discrete v m)
+  where
+    go : Dec (v < m) → Dec (v ≡ m) → oneIf (ltb v (suc m)) ≡ oneIf (ltb v m) + oneIf (eqb v m)
+    go (yes l) d = rw (lt-ltb v (suc m) (le-step l), lt-ltb v m l, ne-eqb v m (λ e. absurd (omega arith)))
+    go (no f) (yes e) = rw (lt-ltb v (suc m) (omega arith), le-ltb v m (omega arith), eq-eqb v m e)
+    go (no f) (no g) = rw (le-ltb v (suc m) (omega arith), le-ltb v m (omega arith), ne-eqb v m g)
+
+-- at most one number is v
+pub count-single : (v n : ℕ) → countOf (eqb v) n ≡ oneIf (ltb v n)
+unfolding countOf
+count-single v zero = rw (le-ltb v 0 (omega arith))
+count-single v (suc n) = rw (count-single v n) (sym (one-more v n))

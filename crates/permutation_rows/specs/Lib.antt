@@ -1,7 +1,0 @@
--- Document 01, the block library, writing P: the call, and when it succeeds.
-pub mod WriteCalls
-pub mod WriteLaws
--- one level of P by its halves
-pub mod Levels
-pub mod LevelsLaws
-pub mod HalvesLaws

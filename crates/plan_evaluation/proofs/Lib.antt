@@ -1,0 +1,3 @@
+-- unused places never matter
+pub mod AgreeLaws
+pub mod EvaluationLaws

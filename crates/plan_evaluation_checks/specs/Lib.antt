@@ -1,0 +1,2 @@
+-- Document 01, "Plan evaluation: plan faults, 12, 11": the checks, and when they pass.
+pub mod EvaluationChecks

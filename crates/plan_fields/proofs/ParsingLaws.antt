@@ -1,0 +1,62 @@
+-- What a field gives in each of its three cases, and reading n items by one more item at a time: a refusal stays the answer.
+use mathlib.Core.Path.{_≡_, refl}
+use mathlib.Core.Bool.{Bool, true, false, cond}
+use mathlib.Core.List.{List, [], _∷_, _++_}
+use Prim.Native.Nat.{ℕ, zero, suc, _+_, _-_, _<_, _≤_}
+use native.Mathlib.Omega.{arith}
+use native.Mathlib.Decide.{ℕ-discrete}
+use borrow.Author.Tests.{lt-ltb, le-ltb}
+use lib.Dec.{ltb}
+use lib.ListN.{length}
+use Rattle.fault.specs.declared.Fault.{Fault}
+use Rattle.plan_fields.specs.Parsing.{got, refused, refuse, Step, field, inOrder}
+
+-- v is the field's value, and r says whether it is allowed
+module _ (width : ℕ) (value : List ℕ → ℕ → ℕ) (allowed : ℕ → Bool) (f : Fault) (s : List ℕ) (at : ℕ) where
+  pub field-cut : length s - at < width → refuse Fault.Cut at ≡ field width value allowed f s at
+  unfolding field
+  field-cut h = rw (lt-ltb (length s - at) width h)
+
+  pub field-got : (v : ℕ) (r : Bool) → v ≡ value s at → r ≡ allowed v → width ≤ length s - at → r ≡ true
+      → got v (at + width) ≡ field width value allowed f s at
+  unfolding field
+  field-got v r e a h t = rw (le-ltb (length s - at) width h, ← e, ← a, t)
+
+  pub field-bad : (v : ℕ) (r : Bool) → v ≡ value s at → r ≡ allowed v → width ≤ length s - at → r ≡ false
+      → refuse f at ≡ field width value allowed f s at
+  unfolding field
+  field-bad v r e a h t = rw (le-ltb (length s - at) width h, ← e, ← a, t)
+
+  -- a value that was read is allowed
+  pub field-allowed : (v next : ℕ) → got v next ≡ field width value allowed f s at → allowed v ≡ true
+  unfolding field
+  field-allowed v next = go (ltb (length s - at) width) (allowed (value s at)) refl
+    where
+      go : (short fine : Bool) → allowed (value s at) ≡ fine
+          → got v next ≡ cond short (refuse Fault.Cut at) (cond fine (got (value s at) (at + width)) (refuse f at)) → allowed v ≡ true
+      go true fine a e = let z : _≡_ {A = ℕ} 0 1 = cc in absurd (omega arith)
+      go false true a e = let same : v ≡ value s at = cc in rw same a
+      go false false a e = let z : _≡_ {A = ℕ} 0 1 = cc in absurd (omega arith)
+
+module _ {A : Type 0} (item : ℕ → Step A) (s : List ℕ) (at : ℕ) where
+  -- one item more
+  pub item-got : (n : ℕ) (xs : List A) (x : A) (a b : ℕ)
+      → inOrder item n s at ≡ got xs a → item n s a ≡ got x b → inOrder item (suc n) s at ≡ got (xs ++ (x ∷ [])) b
+  unfolding inOrder
+  item-got n xs x a b h e = rw (h, e)
+
+  pub item-refused : (n : ℕ) (xs : List A) (a m o : ℕ)
+      → inOrder item n s at ≡ got xs a → item n s a ≡ refused m o → inOrder item (suc n) s at ≡ refused m o
+  unfolding inOrder
+  item-refused n xs a m o h e = rw (h, e)
+
+  -- a refusal of the first n items is the answer for any more
+  pub still-refused : (k n m o : ℕ) → n ≤ k → inOrder item n s at ≡ refused m o → inOrder item k s at ≡ refused m o
+  unfolding inOrder
+  still-refused zero n m o h e = let z : n ≡ zero = omega arith in rw z at e
+  still-refused (suc k) n m o h e =
+      let ih = still-refused k n m o in
+      elim (ℕ-discrete n (suc k)) [
+        | yes y ↦ rw y at e
+        | no d ↦ rw (ih (omega arith) e)
+      ]

@@ -1,0 +1,22 @@
+-- `plan_fields::cursor::Cursor::count` meets its contract: the three cases of a field of two bytes. Assumes nothing.
+use native.Mathlib.Omega.{arith}
+use borrow.Author.Needs.{needs}
+use Rattle.plan_fields.proofs.ParsingLaws.{field-cut, field-got, field-bad}
+use Rattle.plan_fields.proofs.cursor.Cursor.count.Statement.{statement}
+use Rattle.plan_fields.proofs.cursor.Cursor.count.Tie as tie
+
+cut : tie.Need-returns
+cut c = field-cut _ _ _ _ _ _ (omega arith)
+
+value : tie.Need-returns-2
+value c =
+    field-got _ _ _ _ _ _ _ _ (c .before .before .word-at .ensures) (c .before .count-allowed .ensures) (omega arith) (c .if2 .taken)
+
+bad : tie.Need-returns-3
+bad c =
+    field-bad _ _ _ _ _ _ _ _ (c .before .before .word-at .ensures) (c .before .count-allowed .ensures) (omega arith) (c .if2 .left)
+
+pub count-spec : {M : Type 1} → statement M
+count-spec =
+    tie.close
+    (tie.spec (λ c κs. search needs) cut (λ c κs. search needs) (λ c. search needs) (λ c κs. search needs) (λ c. search needs) value bad)

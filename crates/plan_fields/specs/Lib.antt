@@ -1,0 +1,9 @@
+-- Document 01, "The plan": the steps of reading a plan file, in reading order.
+-- reading steps and how one follows another
+pub mod Parsing
+-- the fields of the file, and a gate
+pub mod Fields
+-- what the answers of the steps say
+pub mod Answers
+-- Document 01, "The plan": what the answer of reading a gate says.
+pub mod GateAnswer

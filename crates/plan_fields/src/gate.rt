@@ -1,0 +1,101 @@
+// A gate of a plan file: one map byte, then only the fields whose map bit stands. For any bytes and any place in them the call says, with
+// proof, which gate stands there and where the next field begins, or which fault it has and where.
+ghost use mathlib.Core.Path.{_≡_};
+ghost use Prim.Native.Nat.{_-_, _<_};
+ghost use Rattle.plan_fields.specs.Parsing.{standing};
+ghost use Rattle.plan_fields.specs.Fields.{mapBit, operandField, tableField, gateFields, gateStep};
+ghost use Rattle.plan_fields.specs.Answers.{operandAnswer, tableAnswer};
+ghost use Rattle.plan_fields.specs.GateAnswer.{gateAnswer};
+use crate::cursor::Cursor;
+use crate::cursor::MapStep;
+use crate::cursor::OperandStep;
+use crate::cursor::TableStep;
+use fault::Refusal;
+use plan::Gate;
+use plan::PlanWire;
+
+// A gate with the next cursor, or its refusal.
+pub enum GateStep {
+    Gate(Gate, Cursor),
+    Refused(Refusal),
+}
+
+// The gate whose own wire is own: the map byte, then the fields that it says stand.
+pub fn read_gate(file: &[u8], c: Cursor, own: PlanWire) -> GateStep
+    ensures { λ r. ⌜ gateAnswer r ≡ gateStep (own .0) (now (file .entry)) (c .at) ⌝ }
+{
+    match c.map_byte(file) {
+        MapStep::Refused(x) => GateStep::Refused(x),
+        MapStep::Map(map, next) => read_fields(file, next, own, map),
+    }
+}
+
+// The wire just before a wire, 0 before 0.
+fn wire_before(own: PlanWire) -> PlanWire
+    ensures { λ r. ⌜ r .0 ≡ own .0 - 1 ⌝ }
+{
+    if own.0 == 0 {
+        return own;
+    }
+    PlanWire(own.0 - 1)
+}
+
+// The fields of a gate with this map byte.
+fn read_fields(file: &[u8], c: Cursor, own: PlanWire, map: u8) -> GateStep
+    ensures { λ r. ⌜ gateAnswer r ≡ gateFields (own .0) map (now (file .entry)) (c .at) ⌝ }
+{
+    match standing_operand(file, c, map, 0, own, wire_before(own)) {
+        OperandStep::Refused(x) => GateStep::Refused(x),
+        OperandStep::Operand(first, c1) => match standing_operand(file, c1, map, 1, own, first) {
+            OperandStep::Refused(x) => GateStep::Refused(x),
+            OperandStep::Operand(second, c2) => match standing_table(file, c2, map, 2) {
+                TableStep::Refused(x) => GateStep::Refused(x),
+                TableStep::Table(table, c3) => GateStep::Gate(
+                    Gate {
+                        first: first,
+                        second: second,
+                        table: table,
+                    },
+                    c3,
+                ),
+            },
+        },
+    }
+}
+
+// Whether a bit of a map byte stands.
+fn map_bit(map: u8, place: u8) -> bool
+    requires { ⌜ place < 8 ⌝ }
+    ensures { λ r. ⌜ r ≡ mapBit map place ⌝ }
+{
+    (map >> place) & 1 == 1
+}
+
+// An operand if its map bit stands, its default if not.
+fn standing_operand(
+    file: &[u8],
+    c: Cursor,
+    map: u8,
+    place: u8,
+    own: PlanWire,
+    default: PlanWire,
+) -> OperandStep
+    requires { ⌜ place < 8 ⌝ }
+    ensures { λ r. ⌜ operandAnswer r ≡ standing (mapBit map place) (operandField (own .0)) (default .0) (now (file .entry)) (c .at) ⌝ }
+{
+    if map_bit(map, place) {
+        return c.operand(file, own);
+    }
+    OperandStep::Operand(default, c)
+}
+
+// A table if its map bit stands, AND if not.
+fn standing_table(file: &[u8], c: Cursor, map: u8, place: u8) -> TableStep
+    requires { ⌜ place < 8 ⌝ }
+    ensures { λ r. ⌜ tableAnswer r ≡ standing (mapBit map place) tableField 8 (now (file .entry)) (c .at) ⌝ }
+{
+    if map_bit(map, place) {
+        return c.table(file);
+    }
+    TableStep::Table(8, c)
+}

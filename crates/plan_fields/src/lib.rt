@@ -1,0 +1,13 @@
+// The cursor of a plan file. For any bytes and any place in them, each step says, with proof, which field stands there and where the
+// next one begins, or which fault it has and where.
+mod cursor;
+mod gate;
+
+pub use cursor::CountStep;
+pub use cursor::Cursor;
+pub use cursor::MapStep;
+pub use cursor::OperandStep;
+pub use cursor::OutputStep;
+pub use cursor::TableStep;
+pub use gate::GateStep;
+pub use gate::read_gate;

@@ -1,0 +1,76 @@
+-- A file of an accepted plan is of bytes: its counts and wires are below 65536, its map bytes and tables below 256.
+use Prim.Native.Nat.{ℕ, zero, suc, _<_}
+use native.Mathlib.Omega.{arith}
+use mathlib.Core.Path.{_≡_}
+use mathlib.Core.Bool.{Bool, true, false}
+use mathlib.Core.List.{List, [], _∷_, _++_}
+use lib.Dec.{lit≤}
+use Rattle.plan.specs.declared.record.Gate.{Gate}
+use Rattle.plan.specs.declared.record.Plan.{Plan}
+use Rattle.plan.specs.Record.{maxInputs, maxGates, maxOutputs, gateAt, outputAt, gateWire}
+use Rattle.plan.specs.Rules.{operandAllowed}
+use Rattle.plan.specs.Faults.{Accepted}
+use Rattle.plan.proofs.RulesLaws.{count-bounds, map-bound, operand-bounds, table-bound, source-bounds}
+use Rattle.plan.proofs.FaultsLaws.{AllowedGate, accepted-allowed}
+use Rattle.plan_fields.specs.Fields.{mapBit}
+use Rattle.plan_files.specs.Encoding.{byte, word, whereStanding, encodeGate, joined, encode, LeavesOutDefaults, Choice, OfBytes}
+
+-- numbers written in one and two bytes
+byte-bytes : (n : ℕ) → n < 256 → OfBytes (byte n)
+byte-bytes n h zero = h
+byte-bytes n h (suc i) = lit≤ tt
+
+word-bytes : (n : ℕ) → n < 65536 → OfBytes (word n)
+word-bytes n h zero = omega arith
+word-bytes n h (suc zero) = omega arith
+word-bytes n h (suc (suc i)) = lit≤ tt
+
+-- bytes put together
+standing-bytes : (stands : Bool) (e : List ℕ) → OfBytes e → OfBytes (whereStanding stands e)
+standing-bytes true e h = h
+standing-bytes false e h = λ i. lit≤ tt
+
+append-bytes : (e f : List ℕ) → OfBytes e → OfBytes f → OfBytes (e ++ f)
+append-bytes [] f he hf i = hf i
+append-bytes (x ∷ e) f he hf zero = he 0
+append-bytes (x ∷ e) f he hf (suc i) = append-bytes e f (λ j. he (suc j)) hf i
+
+joined-bytes : (f : ℕ → List ℕ) (n : ℕ) → ((i : ℕ) → i < n → OfBytes (f i)) → OfBytes (joined n f)
+unfolding joined
+joined-bytes f zero h = λ i. lit≤ tt
+joined-bytes f (suc n) h = append-bytes (joined n f) (f n) (joined-bytes f n (λ i l. h i (omega arith))) (h n (omega arith))
+
+-- an operand of the gate whose own wire is `own`
+operand-bytes : (stands : Bool) (own w : ℕ) → own < 65536 → operandAllowed own w ≡ true → OfBytes (whereStanding stands (word w))
+operand-bytes stands own w h allowed = standing-bytes stands (word w) (word-bytes w (omega (arith, operand-bounds own w allowed .1)))
+
+-- a gate
+gate-bytes : (own m : ℕ) (g : Gate) → own < 65536 → AllowedGate own g → LeavesOutDefaults own m g → OfBytes (encodeGate m g)
+gate-bytes own m g h ok left =
+    let first = whereStanding (mapBit m 0) (word (g .first .0)) in
+    let second = whereStanding (mapBit m 1) (word (g .second .0)) in
+    let table = whereStanding (mapBit m 2) (byte (g .table)) in
+    append-bytes (byte m) (first ++ (second ++ table)) (byte-bytes m (omega (arith, map-bound m (left .isMap))))
+    (append-bytes first (second ++ table) (operand-bytes (mapBit m 0) own (g .first .0) h (ok .first))
+    (append-bytes second table (operand-bytes (mapBit m 1) own (g .second .0) h (ok .second))
+    (standing-bytes (mapBit m 2) (byte (g .table)) (byte-bytes (g .table) (omega (arith, table-bound (g .table) (ok .table)))))))
+
+-- the whole file
+pub encode-bytes : (maps : ℕ → ℕ) (p : Plan) → Accepted p → Choice maps p → OfBytes (encode maps p)
+unfolding encode
+encode-bytes maps p ok choice =
+    let allowed = accepted-allowed p .0 ok in
+    let u = p .inputs in
+    let k = p .«gate_count» in
+    let v = p .«output_count» in
+    let inputs = count-bounds maxInputs u (allowed .inputs) in
+    let gates = count-bounds maxGates k (allowed .gates) in
+    let outputs = count-bounds maxOutputs v (allowed .outputs) in
+    let gs = joined k (λ i. encodeGate (maps i) (gateAt p i)) in
+    let os = joined v (λ j. word (outputAt p j .0)) in
+    append-bytes (word u) (word k ++ (word v ++ (gs ++ os))) (word-bytes u (omega arith))
+    (append-bytes (word k) (word v ++ (gs ++ os)) (word-bytes k (omega arith))
+    (append-bytes (word v) (gs ++ os) (word-bytes v (omega arith))
+    (append-bytes gs os
+    (joined-bytes _ k (λ i l. gate-bytes (gateWire u i) (maps i) (gateAt p i) (omega arith) (allowed .gate i l) (choice i l)))
+    (joined-bytes _ v (λ j l. word-bytes (outputAt p j .0) (omega (arith, source-bounds u k (outputAt p j .0) (allowed .output j l) .1)))))))

@@ -1,0 +1,254 @@
+-- Forward: where a plan's file stands, each field is read as it was written. Backward: each field that is read stands in the file, so the
+-- file is one of the plan's. The file in which every field stands is a plan's longest.
+use Prim.Native.Nat.{ℕ, _+_, _-_, _*_, _≤_}
+use native.Mathlib.Omega.{arith}
+use mathlib.Core.Path.{_≡_, refl, ap, ap₂}
+use mathlib.Core.Logic.{_↔_}
+use mathlib.Core.Bool.{Bool, true, false, true≢false}
+use mathlib.Core.List.{List, []}
+use lib.Dec.{ltb, lit≤}
+use lib.ListN.{length, getD, replicate, length-append, getD-replicate}
+use borrow.Author.Tests.{ltb-false, lt-ltb, le-ltb}
+use Rattle.fault.specs.declared.Fault.{Fault}
+use Rattle.plan.specs.declared.record.Gate.{Gate}
+use Rattle.plan.specs.declared.record.Plan.{Plan}
+use Rattle.plan.specs.declared.record.PlanWire.{PlanWire}
+use Rattle.plan.specs.Record.{maxInputs, maxGates, maxOutputs, wire, zeroGate, planOf, gateAt, outputAt, gateWire}
+use Rattle.plan.proofs.RecordLaws.{getD-places}
+use Rattle.plan.specs.Rules.{countAllowed, mapAllowed, operandAllowed, tableAllowed, sourceAllowed}
+use Rattle.plan.specs.Faults.{Accepted}
+use Rattle.plan.proofs.RulesLaws.{count-bounds, default-allowed}
+use Rattle.plan.proofs.FaultsLaws.{AllowedGate, AllowedPlan, accepted-allowed}
+use Rattle.plan_fields.specs.Parsing.{Parsed, got}
+use Rattle.plan_fields.specs.Fields.{mapBit, gateStep}
+use Rattle.plan_reading.specs.PlanFile.{outputStep, notStub, atEnd, planFile, outcome, planRead}
+use Rattle.plan_files.specs.Encoding.{byte, word, whereStanding, encodeGate, joined, encode, LeavesOutDefaults, Choice, used, OfBytes, Encoded}
+use Rattle.plan_files.proofs.ListLaws.{joined-length, joined-shorter, used-places}
+use Rattle.plan_files.proofs.ReadingLaws.{Stands, stands-append, stands-split, nothing-stands, whole-stands, stands-to-end, stands-length}
+use Rattle.plan_files.proofs.ReadingLaws.{byte-coded, word-coded, field-reads, standing-reads, in-order-reads}
+use Rattle.plan_files.proofs.ReadingLaws.{Gives, gives, refuses, gives-then, by-test, field-gives, standing-gives, Items, in-order-gives}
+
+-- a gate is read where its bytes stand
+gate-reads : (s : List ℕ) (own m : ℕ) (g : Gate) (at next : ℕ) → AllowedGate own g → LeavesOutDefaults own m g
+    → Stands s at (encodeGate m g) next → gateStep own s at ≡ got g next
+unfolding gateStep
+gate-reads s own m g at next ok left x =
+    let (a, map, rest) = stands-split (byte m) _ x in
+    let (b, first, rest) = stands-split (whereStanding (mapBit m 0) (word (g .first .0))) _ rest in
+    let (c, second, table) = stands-split (whereStanding (mapBit m 1) (word (g .second .0))) _ rest in
+    let operand = standing-reads word-coded s (operandAllowed own) Fault.Operand in
+    rw (
+      field-reads byte-coded s mapAllowed Fault.Map at a m map (left .isMap),
+      operand (mapBit m 0) (own - 1) a b (g .first .0) first (ok .first) (left .first),
+      operand (mapBit m 1) (g .first .0) b c (g .second .0) second (ok .second) (left .second),
+      standing-reads byte-coded s tableAllowed Fault.Table (mapBit m 2) 8 c next (g .table) table (ok .table) (left .table),
+    )
+
+-- a plan is read where its file stands, from 0 to the end
+file-reads : (s : List ℕ) (maps : ℕ → ℕ) (p : Plan) → AllowedPlan p → Choice maps p → Stands s 0 (encode maps p) (length s)
+    → planFile s 0 ≡ got (used p) (length s)
+unfolding planFile notStub atEnd encode
+file-reads s maps p ok choice x =
+    let u = p .inputs in
+    let k = p .«gate_count» in
+    let v = p .«output_count» in
+    let (a, inputs, rest) = stands-split (word u) _ x in
+    let (b, gates, rest) = stands-split (word k) _ rest in
+    let (c, outputs, rest) = stands-split (word v) _ rest in
+    let (d, each-gate, each-output) = stands-split (joined k (λ i. encodeGate (maps i) (gateAt p i))) _ rest in
+    rw (
+      le-ltb (length s) 6 (omega (arith, stands-length x)),
+      field-reads word-coded s (countAllowed maxInputs) Fault.Inputs 0 a u inputs (ok .inputs),
+      field-reads word-coded s (countAllowed maxGates) Fault.Gates a b k gates (ok .gates),
+      field-reads word-coded s (countAllowed maxOutputs) Fault.Outputs b c v outputs (ok .outputs),
+      in-order-reads s (λ i. gateStep (gateWire u i)) (gateAt p) (λ i. encodeGate (maps i) (gateAt p i)) k
+          (λ i at next l. gate-reads s (gateWire u i) (maps i) (gateAt p i) at next (ok .gate i l) (choice i l)) c d each-gate,
+      in-order-reads s (λ _. outputStep u k) (outputAt p) (λ j. word (outputAt p j .0)) v
+          (λ j at next l y. rw (field-reads word-coded s (sourceAllowed u k) Fault.Source at next (outputAt p j .0) y (ok .output j l)))
+          d (length s) each-output,
+      le-ltb (length s) (length s) (omega arith),
+    )
+
+-- every file of an accepted plan is read, and gives the plan with its unused places zero
+pub read-encoded : (maps : ℕ → ℕ) (p : Plan) → Accepted p → Choice maps p
+    → planRead (encode maps p) ≡ record { number = 0; at = 0; plan = used p }
+unfolding planRead
+read-encoded maps p ok choice = rw (file-reads (encode maps p) maps p (accepted-allowed p .0 ok) choice whole-stands)
+
+-- what holds of gate i and its map byte, and of an output, in a plan with u inputs and k gates
+GateOf : ℕ → ℕ → ℕ → Gate → Type 0
+GateOf u i m g = LeavesOutDefaults (gateWire u i) m g × AllowedGate (gateWire u i) g
+
+OutputOf : ℕ → ℕ → ℕ → ℕ → PlanWire → Type 0
+OutputOf u k j _ w = sourceAllowed u k (w .0) ≡ true
+
+-- the parts of a file that were read make it a file of the plan
+encoded : (s : List ℕ) (u k v : ℕ) (gs : List Gate) (os : List PlanWire) (a b c d e : ℕ)
+    → (countAllowed maxInputs u ≡ true) × Stands s 0 (word u) a
+    → (countAllowed maxGates k ≡ true) × Stands s a (word k) b
+    → (countAllowed maxOutputs v ≡ true) × Stands s b (word v) c
+    → Items (GateOf u) encodeGate zeroGate s c k gs d
+    → Items (OutputOf u k) (λ _ w. word (w .0)) (wire 0) s d v os e
+    → length s ≤ e → Encoded s (planOf u k v gs os)
+unfolding GateOf OutputOf encode
+encoded s u k v gs os a b c d e inputs gates outputs each-gate each-output end = record {
+  accepted = accepted-allowed (planOf u k v gs os) .1 (record {
+    inputs = inputs .0;
+    gates = gates .0;
+    outputs = outputs .0;
+    gate = λ i l. rw getD-places (each-gate .each i l .1);
+    output = λ j l. rw getD-places (each-output .each j l);
+  });
+  zeroed = ap₂ (planOf u k v) (used-places maxGates zeroGate gs k (each-gate .count)) (used-places maxOutputs (wire 0) os v (each-output .count));
+  maps = λ i. getD (each-gate .choices) i 0;
+  choice = λ i l. rw getD-places (each-gate .each i l .0);
+  file =
+      let items = stands-append (each-gate .stands) (each-output .stands) in
+      simp getD-places (stands-to-end (stands-append (inputs .1) (stands-append (gates .1) (stands-append (outputs .1) items))) end);
+}
+
+-- what each step gives: a gate, if its default operand is allowed
+gate-gives : (s : List ℕ) (own at : ℕ) → OfBytes s → 2 ≤ own
+    → Gives (λ g next. (m : ℕ) × (LeavesOutDefaults own m g × AllowedGate own g) × Stands s at (encodeGate m g) next) (gateStep own s at)
+unfolding gateStep tableAllowed
+gate-gives s own at small h =
+    let operand = standing-gives word-coded s (operandAllowed own) Fault.Operand in
+    gives-then _ s (field-gives byte-coded s mapAllowed Fault.Map at small) λ m a map.
+    gives-then _ s (operand (mapBit m 0) (own - 1) a small (default-allowed own h)) λ x b first.
+    gives-then _ s (operand (mapBit m 1) x b small (first .1)) λ y c second.
+    gives-then _ s (standing-gives byte-coded s tableAllowed Fault.Table (mapBit m 2) 8 c small refl) λ t next table.
+    gives (
+      m,
+      (
+        record { isMap = map .0; first = first .0; second = second .0; table = table .0 },
+        record { first = first .1; second = second .1; table = table .1 },
+      ),
+      stands-append (map .1) (stands-append (first .2) (stands-append (second .2) (table .2))),
+    )
+
+-- an output
+output-gives : (s : List ℕ) (u k j at : ℕ) → OfBytes s
+    → Gives (λ w next. (c : ℕ) × OutputOf u k j c w × Stands s at (word (w .0)) next) (outputStep u k s at)
+unfolding OutputOf
+output-gives s u k j at small =
+    gives-then _ s (field-gives word-coded s (sourceAllowed u k) Fault.Source at small) λ w next x. gives (0, x .0, x .1)
+
+-- the start of a file that is no stub, before any byte
+start-gives : (s : List ℕ) → Gives (λ _ next. Stands s 0 [] next) (notStub s 0)
+unfolding notStub
+start-gives s = by-test (ltb (length s) 6) (λ stub. rw stub (refuses (lit≤ tt))) (λ long. rw long (gives nothing-stands))
+
+-- the end
+end-gives : (s : List ℕ) (at : ℕ) → Gives (λ _ _. length s ≤ at) (atEnd s at)
+unfolding atEnd
+end-gives s at =
+    by-test (ltb at (length s)) (λ tail. rw tail (refuses (lit≤ tt))) (λ none. rw none (gives (ltb-false at (length s) none)))
+
+-- the whole file
+file-gives : (s : List ℕ) → OfBytes s → Gives (λ p next. Encoded s p) (planFile s 0)
+unfolding planFile GateOf
+file-gives s small =
+    gives-then _ s (start-gives s) λ _ o start.
+    gives-then _ s (field-gives word-coded s (countAllowed maxInputs) Fault.Inputs o small) λ u a inputs.
+    gives-then _ s (field-gives word-coded s (countAllowed maxGates) Fault.Gates a small) λ k b gates.
+    gives-then _ s (field-gives word-coded s (countAllowed maxOutputs) Fault.Outputs b small) λ v c outputs.
+    let own : (i : ℕ) → 2 ≤ gateWire u i = λ i. omega (arith, count-bounds maxInputs u (inputs .0)) in
+    gives-then _ s (in-order-gives (GateOf u) encodeGate zeroGate s (λ i. gateStep (gateWire u i)) k
+    (λ i at _. gate-gives s (gateWire u i) at small (own i)) c) λ gs d each-gate.
+    gives-then _ s (in-order-gives (OutputOf u k) (λ _ w. word (w .0)) (wire 0) s (λ _. outputStep u k) v
+    (λ j at _. output-gives s u k j at small) d) λ os e each-output.
+    gives-then _ s (end-gives s e) λ _ _ end.
+    gives (encoded s u k v gs os a b c d e (inputs .0, stands-append start (inputs .1)) gates outputs each-gate each-output end)
+
+-- what is read is a file of an accepted plan whose unused places are zero
+pub read-is-encoded : (s : List ℕ) → OfBytes s → planRead s .number ≡ 0 → Encoded s (planRead s .plan)
+unfolding planRead
+read-is-encoded s small = done (file-gives s small)
+  where
+    done : {o : Parsed Plan} → Gives (λ p next. Encoded s p) o → outcome o .number ≡ 0 → Encoded s (outcome o .plan)
+    done (gives x) h = x
+    done (refuses l) h = absurd (omega arith)
+
+-- both: p is read from its files and from no others
+pub reads-exactly : (s : List ℕ) (p : Plan) → OfBytes s → (planRead s ≡ record { number = 0; at = 0; plan = p }) ↔ Encoded s p
+reads-exactly s p small = (
+  λ h. rw h at (read-is-encoded s small (ap (λ r. r .number) h)),
+  λ x. rw (x .file, read-encoded (x .maps) p (x .accepted) (x .choice), x .zeroed),
+)
+
+-- a field that is left out is shorter
+standing-length : (stands : Bool) (e : List ℕ) → length (whereStanding stands e) ≤ length e
+standing-length true e = omega arith
+standing-length false e = omega arith
+
+-- a gate is longest where every field stands
+gate-length : (m : ℕ) (g : Gate) → length (encodeGate m g) ≤ length (encodeGate 7 g)
+gate-length m g =
+    let first = standing-length (mapBit m 0) (word (g .first .0)) in
+    let second = standing-length (mapBit m 1) (word (g .second .0)) in
+    let table = standing-length (mapBit m 2) (byte (g .table)) in
+    simp length-append (omega arith)
+
+-- the length of the file in which every field stands
+pub full-length : (p : Plan) → length (encode (λ _. 7) p) ≡ 6 + p .«gate_count» * 6 + p .«output_count» * 2
+unfolding encode
+full-length p =
+    let gates = joined-length (λ i. encodeGate 7 (gateAt p i)) 6 (p .«gate_count») (λ i. refl) in
+    let outputs = joined-length (λ j. word (outputAt p j .0)) 2 (p .«output_count») (λ j. refl) in
+    simp length-append (omega arith)
+
+-- no file of the plan is longer
+pub full-longest : (maps : ℕ → ℕ) (p : Plan) → length (encode maps p) ≤ length (encode (λ _. 7) p)
+unfolding encode
+full-longest maps p =
+    let g = gateAt p in
+    let gates = joined-shorter (λ i. encodeGate (maps i) (g i)) (λ i. encodeGate 7 (g i)) (p .«gate_count») (λ i. gate-length (maps i) (g i)) in
+    simp length-append (omega arith)
+
+-- "Longest plan: 1,670 bytes"
+pub longest : (maps : ℕ → ℕ) (p : Plan) → Accepted p → length (encode maps p) ≤ 1670
+longest maps p ok =
+    let allowed = accepted-allowed p .0 ok in
+    let gates = count-bounds maxGates (p .«gate_count») (allowed .gates) in
+    let outputs = count-bounds maxOutputs (p .«output_count») (allowed .outputs) in
+    omega (arith, full-longest maps p, full-length p)
+
+-- no longer file is read
+pub longest-read : (s : List ℕ) → OfBytes s → planRead s .number ≡ 0 → length s ≤ 1670
+longest-read s small h =
+    let x = read-is-encoded s small h in
+    omega (arith, ap length (x .file), longest (x .maps) (planRead s .plan) (x .accepted))
+
+-- every field may stand
+pub full-choice : (p : Plan) → Choice (λ _. 7) p
+unfolding mapAllowed
+full-choice p i l = record {
+  isMap = refl;
+  first = λ e. absurd (true≢false e);
+  second = λ e. absurd (true≢false e);
+  table = λ e. absurd (true≢false e);
+}
+
+-- a plan with one input and as many gates and outputs as there may be: the input AND itself, 256 times, and the first gate, 64 times
+andGate : Gate
+andGate = record { first = wire 1; second = wire 1; table = 8 }
+
+pub largest : Plan
+largest = planOf 1 maxGates maxOutputs (replicate maxGates andGate) (replicate maxOutputs (wire 2))
+
+pub largest-accepted : Accepted largest
+unfolding largest andGate countAllowed operandAllowed tableAllowed sourceAllowed
+largest-accepted = accepted-allowed largest .1 (record {
+  inputs = refl;
+  gates = refl;
+  outputs = refl;
+  gate = λ i l.
+      let below : ltb 1 (gateWire 1 i) ≡ true = lt-ltb 1 (gateWire 1 i) (omega arith) in
+      rw (getD-places, getD-replicate) (record { first = below; second = below; table = refl });
+  output = λ j l. rw (getD-places, getD-replicate);
+})
+
+-- the bound is met: with every field standing, that plan's file has 1670 bytes
+pub longest-met : (p : Plan) × Accepted p × Choice (λ _. 7) p × (length (encode (λ _. 7) p) ≡ 1670)
+unfolding largest
+longest-met = (largest, largest-accepted, full-choice largest, full-length largest)

@@ -1,0 +1,72 @@
+-- Document 01, "The plan": the files of a plan. A choice of standing fields gives one file.
+use Prim.Native.Nat.{ℕ, zero, suc, _<_, _-_, _/_, _%_}
+use mathlib.Core.Path.{_≡_}
+use mathlib.Core.Bool.{Bool, true, false, cond}
+use mathlib.Core.List.{List, [], _∷_, _++_}
+use lib.ListN.{getD}
+use Rattle.lists.specs.Lists.{listOf}
+use Rattle.plan.specs.declared.record.Gate.{Gate}
+use Rattle.plan.specs.declared.record.Plan.{Plan}
+use Rattle.plan.specs.Record.{gateAt, outputAt, gateWire, planOf}
+use Rattle.plan.specs.Rules.{mapAllowed}
+use Rattle.plan.specs.Faults.{Accepted}
+use Rattle.plan_fields.specs.Fields.{mapBit}
+
+-- a one-byte number
+abbrev pub byte : ℕ → List ℕ
+byte n = n ∷ []
+
+-- a two-byte number, low byte first
+abbrev pub word : ℕ → List ℕ
+word n = n % 256 ∷ n / 256 ∷ []
+
+-- a field's bytes, if it stands
+abbrev pub whereStanding : Bool → List ℕ → List ℕ
+whereStanding stands bytes = cond stands bytes []
+
+-- a gate with the map byte m: the byte, then only the fields whose map bit stands
+abbrev pub encodeGate : ℕ → Gate → List ℕ
+encodeGate m g =
+    byte m
+    ++ (whereStanding (mapBit m 0) (word (g .first .0))
+    ++ (whereStanding (mapBit m 1) (word (g .second .0)) ++ whereStanding (mapBit m 2) (byte (g .table))))
+
+-- the bytes of items 0 to n - 1, one after another
+unfoldable pub joined : ℕ → (ℕ → List ℕ) → List ℕ
+joined zero f = []
+joined (suc n) f = joined n f ++ f n
+
+-- the file of a plan with the map byte `maps i` for gate i
+unfoldable pub encode : (ℕ → ℕ) → Plan → List ℕ
+encode maps p =
+    word (p .inputs) ++ (word (p .«gate_count») ++ (word (p .«output_count»)
+    ++ (joined (p .«gate_count») (λ i. encodeGate (maps i) (gateAt p i)) ++ joined (p .«output_count») (λ j. word (outputAt p j .0)))))
+
+-- a map byte for the gate whose own wire is `own` that leaves out only fields that equal their defaults
+pub record LeavesOutDefaults (own m : ℕ) (g : Gate) : Type 0 where
+  pub isMap : mapAllowed m ≡ true
+  pub first : mapBit m 0 ≡ false → g .first .0 ≡ own - 1
+  pub second : mapBit m 1 ≡ false → g .second .0 ≡ g .first .0
+  pub table : mapBit m 2 ≡ false → g .table ≡ 8
+
+-- a choice of standing fields for a plan, one map byte a gate
+abbrev pub Choice : (ℕ → ℕ) → Plan → Type 0
+Choice maps p = (i : ℕ) → i < p .«gate_count» → LeavesOutDefaults (gateWire (p .inputs) i) (maps i) (gateAt p i)
+
+-- the plan with its unused places zero
+abbrev pub used : Plan → Plan
+used p =
+    planOf (p .inputs) (p .«gate_count») (p .«output_count»)
+    (listOf (p .«gate_count») (λ i. gateAt p i)) (listOf (p .«output_count») (λ j. outputAt p j))
+
+-- a file: every number of it is a byte
+abbrev pub OfBytes : List ℕ → Type 0
+OfBytes s = (i : ℕ) → getD s i 0 < 256
+
+-- s is a file of the accepted plan p, whose unused places are zero
+pub record Encoded (s : List ℕ) (p : Plan) : Type 0 where
+  pub accepted : Accepted p
+  pub zeroed : used p ≡ p
+  pub maps : ℕ → ℕ
+  pub choice : Choice maps p
+  pub file : s ≡ encode maps p

@@ -1,0 +1,113 @@
+-- Laws of the parts. A loop that reads n items to their places has, after i of them, read the first i items and holds them with the other
+-- places zero; the header, then the body, is the whole file.
+use mathlib.Core.Path.{_≡_, refl, sym, ap, _∙_}
+use mathlib.Core.List.{List, [], _∷_, _++_}
+use Prim.Native.Nat.{ℕ, suc, _+_, _<_, _≤_}
+use borrow.Author.Tests.{lt-ltb, le-ltb}
+use native.Mathlib.Numerals.{add-one}
+use lib.ListN.{length, set, length-append}
+use Rattle.fault.specs.declared.Fault.{Fault}
+use Rattle.plan.specs.declared.record.Gate.{Gate}
+use Rattle.plan.specs.declared.record.Plan.{Plan}
+use Rattle.plan.specs.declared.record.PlanWire.{PlanWire}
+use Rattle.plan.specs.Record.{maxGates, maxOutputs, wire, zeroGate, places, planOf}
+use Rattle.plan.proofs.RecordLaws.{places-more}
+use Rattle.plan.specs.Rules.{countAllowed}
+use Rattle.plan.proofs.RulesLaws.{count-bounds}
+use Rattle.plan_fields.specs.Parsing.{Parsed, got, refused, refuse, Step, followed, _>>=_, wordAt, inOrder}
+use Rattle.plan_fields.proofs.ParsingLaws.{field-allowed, item-got, item-refused, still-refused}
+use Rattle.plan_fields.specs.Fields.{countField}
+use Rattle.plan_reading.specs.declared.reading.Header.{Header}
+use Rattle.plan_reading.specs.PlanFile.{gateSteps, outputSteps, atEnd, planFile}
+use Rattle.plan_reading.specs.Parts.{countsPart, headerPart, bodyPart}
+
+-- i items are read, from the cursor `start` up to `at`, and stand in their places
+pub record ReadSoFar {A : Type 0} (item : ℕ → Step A) (s : List ℕ) (start n : ℕ) (none : A) (i : ℕ) (held : List A) (at : ℕ) : Type 0 where
+  pub items : List A
+  pub count : length items ≡ i
+  pub parsed : inOrder item i s start ≡ got items at
+  pub placed : held ≡ places n none items
+
+module _ {A : Type 0} (item : ℕ → Step A) (s : List ℕ) (start n : ℕ) (none : A) where
+  pub none-read : (held : List A) → held ≡ places n none [] → ReadSoFar item s start n none 0 held start
+  unfolding inOrder
+  none-read held e = record { items = []; count = refl; parsed = refl; placed = e }
+
+  pub one-more : (i : ℕ) (held : List A) (at next : ℕ) (x : A) → i < n
+      → ReadSoFar item s start n none i held at → got x next ≡ item i s at → ReadSoFar item s start n none (i + 1) (set held i x) next
+  one-more i held at next x h r e = record {
+    items = r .items ++ (x ∷ []);
+    count = length-append (r .items) (x ∷ []) ∙ ap (λ m. m + 1) (r .count);
+    parsed = rw (add-one i) (item-got item s start i (r .items) x at next (r .parsed) (sym e));
+    placed = ap (λ l. set l i x) (r .placed) ∙ places-more n none (r .items) x i (r .count) h;
+  }
+
+  pub one-refused : (k i : ℕ) (held : List A) (at m o : ℕ) → i < k
+      → ReadSoFar item s start n none i held at → refused m o ≡ item i s at → refused m o ≡ inOrder item k s start
+  one-refused k i held at m o h r e =
+      sym (still-refused item s start k (suc i) m o h (item-refused item s start i (r .items) at m o (r .parsed) (sym e)))
+
+  pub all-read : (k i : ℕ) (held : List A) (at : ℕ) → i ≡ k → (r : ReadSoFar item s start n none i held at)
+      → got (r .items) at ≡ inOrder item k s start
+  all-read k i held at e r = rw (← e) (sym (r .parsed))
+
+-- the counts of a record
+pub record Counted (u k v : ℕ) (p : Plan) : Type 0 where
+  pub inputs : p .inputs ≡ u
+  pub gates : p .«gate_count» ≡ k
+  pub outputs : p .«output_count» ≡ v
+
+-- a record is made of its counts, gates and outputs
+pub plan-held : (u k v : ℕ) (gs : List Gate) (os : List PlanWire) (p : Plan) → Counted u k v p → p .gates ≡ places maxGates zeroGate gs
+    → p .outputs ≡ places maxOutputs (wire 0) os → p ≡ planOf u k v gs os
+plan-held u k v gs os p c e o = λ i. record {
+  inputs = c .inputs i;
+  «gate_count» = c .gates i;
+  «output_count» = c .outputs i;
+  gates = e i;
+  outputs = o i;
+}
+
+-- a count that was read is within its limit
+pub count-within : (limit : ℕ) (f : Fault) (s : List ℕ) (at n next : ℕ) → got n next ≡ countField limit f s at → n ≤ limit
+count-within limit f s at n next e = count-bounds limit n (field-allowed 2 wordAt (countAllowed limit) f s at n next e) .1
+
+-- the end of a file, and a tail
+at-end : (s : List ℕ) (at : ℕ) → length s ≤ at → got tt at ≡ atEnd s at
+unfolding atEnd
+at-end s at h = rw (le-ltb at (length s) h)
+
+at-tail : (s : List ℕ) (at : ℕ) → at < length s → refuse Fault.Tail at ≡ atEnd s at
+unfolding atEnd
+at-tail s at h = rw (lt-ltb at (length s) h)
+
+-- what the body gives, by the first of its parts that is refused
+module _ (h : Header) (s : List ℕ) (at : ℕ) where
+  pub gates-refused : (m o : ℕ) → refused m o ≡ gateSteps (h .inputs) (h .gates) s at → refused m o ≡ bodyPart h s at
+  unfolding bodyPart
+  gates-refused m o e = ap (followed _ s) e
+
+  module _ (gs : List Gate) (at₁ : ℕ) (e₁ : got gs at₁ ≡ gateSteps (h .inputs) (h .gates) s at) where
+    pub outputs-refused : (m o : ℕ) → refused m o ≡ outputSteps (h .inputs) (h .gates) (h .outputs) s at₁ → refused m o ≡ bodyPart h s at
+    unfolding bodyPart
+    outputs-refused m o e = ap (followed _ s) e ∙ ap (followed _ s) e₁
+
+    module _ (os : List PlanWire) (at₂ : ℕ) (e₂ : got os at₂ ≡ outputSteps (h .inputs) (h .gates) (h .outputs) s at₁) where
+      pub tail-refused : at₂ < length s → refuse Fault.Tail at₂ ≡ bodyPart h s at
+      unfolding bodyPart
+      tail-refused l = ap (followed _ s) (at-tail s at₂ l) ∙ ap (followed _ s) e₂ ∙ ap (followed _ s) e₁
+
+      pub body-read : length s ≤ at₂ → got (planOf (h .inputs) (h .gates) (h .outputs) gs os) at₂ ≡ bodyPart h s at
+      unfolding bodyPart
+      body-read l = ap (followed _ s) (at-end s at₂ l) ∙ ap (followed _ s) e₂ ∙ ap (followed _ s) e₁
+
+-- steps may be grouped either way
+assoc : {A B C : Type 0} (f : A → Step B) (g : B → Step C) (s : List ℕ) (x : Parsed A)
+    → followed g s (followed f s x) ≡ followed (λ a s at. followed g s (f a s at)) s x
+assoc f g s (got a at) = refl
+assoc f g s (refused n at) = refl
+
+-- the header, then the body
+pub whole-file : (s : List ℕ) → planFile s 0 ≡ (headerPart >>= bodyPart) s 0
+unfolding planFile headerPart countsPart bodyPart
+whole-file s = simp assoc

@@ -1,0 +1,149 @@
+// Reading a plan file: the header, each gate, each output, the end. The first failing check decides, and a refusal leaves no trace of
+// the file in the record.
+ghost use mathlib.Core.Path.{_≡_};
+ghost use Rattle.plan.specs.Record.{zeroPlan};
+ghost use Rattle.plan_reading.specs.PlanFile.{planRead, outcome};
+ghost use Rattle.plan_reading.specs.Answers.{readAnswer};
+ghost use Rattle.plan_reading.specs.Parts.{Limited, HeaderRead, countsPart, headerPart, bodyPart};
+use fault::Fault;
+use fault::Refusal;
+use plan::Plan;
+use plan::gate_wire;
+use plan_fields::CountStep;
+use plan_fields::Cursor;
+use plan_fields::GateStep;
+use plan_fields::OutputStep;
+use plan_fields::read_gate;
+
+pub enum ReadAnswer {
+    Accepted,
+    Refused(Refusal),
+}
+
+// The answer of reading, with the plan: all zero where it is refused.
+pub struct PlanRead {
+    pub answer: ReadAnswer,
+    pub plan: Plan,
+}
+
+// The three counts of a file.
+pub(crate) struct Header {
+    pub inputs: u16,
+    pub gates: u16,
+    pub outputs: u16,
+}
+
+pub(crate) enum HeaderStep {
+    Header(Header, Cursor),
+    Refused(Refusal),
+}
+
+// The plan that a file holds.
+pub fn read_plan(file: &[u8]) -> PlanRead
+    ensures { λ r. ⌜ readAnswer r ≡ planRead (now (file .entry)) ⌝ }
+{
+    match read_header(file) {
+        HeaderStep::Refused(x) => refused_read(x),
+        HeaderStep::Header(header, next) => read_body(file, next, header),
+    }
+}
+
+// A refusal with the all-zero record.
+fn refused_read(x: Refusal) -> PlanRead
+    ensures { λ r. ⌜ r ≡ record { answer = ReadAnswer.Refused x; plan = zeroPlan } ⌝ }
+{
+    PlanRead {
+        answer: ReadAnswer::Refused(x),
+        plan: Plan::zero(),
+    }
+}
+
+// The three counts of a file that is long enough for them.
+fn read_header(file: &[u8]) -> HeaderStep
+    ensures { λ r. ⌜ HeaderRead headerPart (now (file .entry)) 0 r ⌝ }
+{
+    if file.len() < 6 {
+        return HeaderStep::Refused(Refusal {
+            fault: Fault::Stub,
+            at: 0,
+        });
+    }
+    read_counts(file, Cursor { at: 0 })
+}
+
+// The three counts.
+fn read_counts(file: &[u8], c: Cursor) -> HeaderStep
+    ensures { λ r. ⌜ HeaderRead countsPart (now (file .entry)) (c .at) r ⌝ }
+{
+    match c.count(file, Plan::MAX_INPUTS, Fault::Inputs) {
+        CountStep::Refused(x) => HeaderStep::Refused(x),
+        CountStep::Count(u, c1) => match c1.count(file, Plan::MAX_GATES, Fault::Gates) {
+            CountStep::Refused(x) => HeaderStep::Refused(x),
+            CountStep::Count(k, c2) => match c2.count(file, Plan::MAX_OUTPUTS, Fault::Outputs) {
+                CountStep::Refused(x) => HeaderStep::Refused(x),
+                CountStep::Count(v, c3) => HeaderStep::Header(
+                    Header {
+                        inputs: u,
+                        gates: k,
+                        outputs: v,
+                    },
+                    c3,
+                ),
+            },
+        },
+    }
+}
+
+// The gates and the outputs, each to its place in the one record, and the end of the file, where no byte may stand.
+fn read_body(file: &[u8], c: Cursor, header: Header) -> PlanRead
+    requires { ⌜ Limited header ⌝ }
+    ensures { λ r. ⌜ readAnswer r ≡ outcome (bodyPart header (now (file .entry)) (c .at)) ⌝ }
+{
+    let inputs = header.inputs;
+    let gates = header.gates;
+    let outputs = header.outputs;
+    let gate_count = gates as usize;
+    let output_count = outputs as usize;
+    let mut plan = Plan::zero();
+    plan.inputs = inputs;
+    plan.gate_count = gates;
+    plan.output_count = outputs;
+    let mut at = c;
+    let mut i: usize = 0;
+    while i < gate_count {
+        match read_gate(file, at, gate_wire(inputs, i)) {
+            GateStep::Refused(x) => {
+                return refused_read(x);
+            }
+            GateStep::Gate(gate, next) => {
+                plan.gates[i] = gate;
+                at = next;
+            }
+        }
+        i += 1;
+    }
+    let mut j: usize = 0;
+    while j < output_count {
+        match at.output(file, inputs, gates) {
+            OutputStep::Refused(y) => {
+                return refused_read(y);
+            }
+            OutputStep::Output(wire, next) => {
+                plan.outputs[j] = wire;
+                at = next;
+            }
+        }
+        j += 1;
+    }
+    let end = at.at;
+    if end < file.len() {
+        return refused_read(Refusal {
+            fault: Fault::Tail,
+            at: end,
+        });
+    }
+    PlanRead {
+        answer: ReadAnswer::Accepted,
+        plan: plan,
+    }
+}

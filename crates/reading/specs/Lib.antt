@@ -1,8 +1,0 @@
--- Document 01, "The plan": the plan file, and reading it.
--- the plan file and the order of its checks
-pub mod PlanFile
--- what the answers of reading say
-pub mod Answers
--- the plan file in the parts that the code reads
-pub mod Parts
-pub mod PartsLaws

@@ -1,3 +1,0 @@
--- Document 01, the block library, checks 2 and 4: the sizes of blocks.
-pub mod Sizes
-pub mod SizesLaws

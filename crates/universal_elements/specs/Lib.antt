@@ -1,3 +1,0 @@
--- The elements of U besides its selection block.
--- Laws of the definitions that the calls cite.
-pub mod ElementLaws
