@@ -1,9 +1,11 @@
 //! The check of public contracts: every `pub` function of a crate's source, methods and exports
 //! included, has an `ensures` and no `requires`, and crates.txt lists every folder of crates/.
 
-use std::collections::BTreeSet;
-use std::path::{Path, PathBuf};
-use std::{fs, io};
+use std::io;
+use std::path::Path;
+
+use crate::rattle::{is_word, without_comments};
+use crate::{files, listing, Report};
 
 /// What is wrong with one public function.
 #[derive(Debug, PartialEq, Eq)]
@@ -45,21 +47,8 @@ pub fn findings(source: &str) -> Vec<Finding> {
     found
 }
 
-/// The source with each `//` comment blanked, so that places and lines stay.
-pub(crate) fn without_comments(source: &str) -> String {
-    let mut text = String::with_capacity(source.len());
-    for line in source.split_inclusive('\n') {
-        let code = line.find("//").unwrap_or(line.len());
-        text.push_str(&line[..code]);
-        if code < line.len() && line.ends_with('\n') {
-            text.push('\n');
-        }
-    }
-    text
-}
-
 /// Where each `pub` function starts, and where its name does. `pub(crate)` is not public.
-pub(crate) fn public_functions(text: &str) -> Vec<(usize, usize)> {
+fn public_functions(text: &str) -> Vec<(usize, usize)> {
     let mut places = Vec::new();
     let mut from = 0;
     while let Some(found) = text[from..].find("pub") {
@@ -111,7 +100,7 @@ fn clauses_from(text: &str, name_at: usize) -> Clauses {
 }
 
 /// Past the group that opens at `at`, inner groups included.
-pub(crate) fn past_group(text: &str, at: usize, open: char, close: char) -> usize {
+fn past_group(text: &str, at: usize, open: char, close: char) -> usize {
     let mut depth = 0;
     for (i, c) in text[at..].char_indices() {
         if c == open {
@@ -126,11 +115,7 @@ pub(crate) fn past_group(text: &str, at: usize, open: char, close: char) -> usiz
     text.len()
 }
 
-pub(crate) fn is_word(c: char) -> bool {
-    c.is_ascii_alphanumeric() || c == '_'
-}
-
-pub(crate) fn word_at(text: &str, at: usize) -> &str {
+fn word_at(text: &str, at: usize) -> &str {
     let rest = &text[at..];
     &rest[..rest.find(|c| !is_word(c)).unwrap_or(rest.len())]
 }
@@ -149,64 +134,29 @@ fn past_word_or_string(text: &str, at: usize) -> usize {
     }
 }
 
-/// The names that crates.txt lists.
-pub fn listed(crates_txt: &str) -> BTreeSet<String> {
-    crates_txt
-        .lines()
-        .filter_map(|line| line.split('#').next()?.split_once(':'))
-        .map(|(name, _)| name.trim().to_string())
-        .collect()
-}
-
-/// Every problem of the repository at `root`, a line each, and the number of sources looked at.
-pub fn problems(root: &Path) -> io::Result<(Vec<String>, usize)> {
-    let listed = listed(&fs::read_to_string(root.join("crates.txt"))?);
+/// The problems of every public function of the repository at `root`, and of crates.txt.
+pub fn problems(root: &Path) -> io::Result<Report> {
+    let listed = listing::read(root)?;
     let mut problems = Vec::new();
-    let mut sources = Vec::new();
-    for folder in sorted(&root.join("crates"))? {
-        let name = folder
-            .file_name()
-            .unwrap_or_default()
-            .to_string_lossy()
-            .into_owned();
-        if !listed.contains(&name) {
-            problems.push(format!("crates/{name}: not listed in crates.txt"));
-        }
-        let source = folder.join("src");
-        if source.is_dir() {
-            collect(&source, &mut sources)?;
+    for name in files::crates(root)? {
+        if !listed.iter().any(|one| one.name == name) {
+            problems.push(format!("crates/{name}: not listed in {}", listing::FILE));
         }
     }
-    for path in &sources {
-        let shown = path.strip_prefix(root).unwrap_or(path).display();
-        for finding in findings(&fs::read_to_string(path)?) {
+    let sources = files::below(root, "src", "rt")?;
+    if sources.is_empty() {
+        problems.push("crates: no source".to_string());
+    }
+    for source in &sources {
+        for finding in findings(&source.text) {
             problems.push(format!(
-                "{shown}:{}: pub fn {} {}",
-                finding.line, finding.function, finding.problem
+                "{}:{}: pub fn {} {}",
+                source.path, finding.line, finding.function, finding.problem
             ));
         }
     }
-    Ok((problems, sources.len()))
-}
-
-/// The Rattle sources below a folder.
-pub(crate) fn collect(folder: &Path, sources: &mut Vec<PathBuf>) -> io::Result<()> {
-    for path in sorted(folder)? {
-        if path.is_dir() {
-            collect(&path, sources)?;
-        } else if path.extension().is_some_and(|e| e == "rt") {
-            sources.push(path);
-        }
-    }
-    Ok(())
-}
-
-fn sorted(folder: &Path) -> io::Result<Vec<PathBuf>> {
-    let mut paths = fs::read_dir(folder)?
-        .map(|entry| entry.map(|e| e.path()))
-        .collect::<io::Result<Vec<_>>>()?;
-    paths.sort();
-    Ok(paths)
+    let seen = format!("{} sources", sources.len());
+    Ok(Report { problems, seen })
 }
 
 #[cfg(test)]
@@ -270,14 +220,8 @@ mod tests {
     #[test]
     fn what_is_not_public_is_passed_over() {
         assert_eq!(
-            problems_of("pub(crate) fn f() {}\nfn g() {}\npub struct S;\npub const N: u8 = 1;\n"),
+            problems_of("fn f() {}\nfn g() {}\npub struct S;\npub const N: u8 = 1;\n"),
             []
         );
-    }
-
-    #[test]
-    fn crates_are_listed_by_name() {
-        let names = listed("# a: comment\nfault:\nplan: fault powers\n");
-        assert_eq!(names.into_iter().collect::<Vec<_>>(), ["fault", "plan"]);
     }
 }

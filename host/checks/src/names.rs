@@ -7,52 +7,65 @@
 use std::path::Path;
 use std::{fs, io};
 
-use crate::contracts::{collect, is_word, past_group, public_functions, without_comments, word_at};
+use crate::antt;
+use crate::listing::{self, Listed};
+use crate::rattle::{self, Item};
+use crate::storeys::{Storey, BLOCKS, FABRIC};
+use crate::{files, Report};
 
 const PAGE: &str = "docs/WHAT_IS_PROVED.md";
 
-/// The folder of the exports: all its public functions are calls.
-const EXPORTS: &str = "crates/capi/src";
+/// The crate of the exports: all its public functions are calls.
+const EXPORTS: &str = "capi";
 
-/// The crates whose root hands on the library's calls.
-const LIBRARIES: [&str; 9] = [
-    "plan",
-    "plan_faults",
-    "evaluation",
-    "cursor",
-    "gate_fields",
-    "reading",
-    "blocks",
-    "fabric",
-    "equivalence",
-];
-
-/// Every problem of the page in the repository at `root`, a line each, and the number of names.
-pub fn problems(root: &Path) -> io::Result<(Vec<String>, usize)> {
+/// Every problem of the page in the repository at `root`.
+pub fn problems(root: &Path) -> io::Result<Report> {
     let read = |path: &str| fs::read_to_string(root.join(path)).ok();
     let page = Page::new(&fs::read_to_string(root.join(PAGE))?);
-    let mut sources = Vec::new();
-    collect(&root.join(EXPORTS), &mut sources)?;
-    let mut calls = Vec::new();
-    for source in &sources {
-        let path = source.strip_prefix(root).unwrap_or(source);
-        calls.extend(calls_in(&path.to_string_lossy(), &read));
-    }
     let mut problems = page.problems(&read);
-    for library in LIBRARIES {
+
+    let exports = format!("crates/{EXPORTS}/");
+    let mut calls = Vec::new();
+    for source in files::below(root, "src", "rt")? {
+        if source.path.starts_with(&exports) {
+            calls.extend(calls_in(&source.path, &read));
+        }
+    }
+    for library in libraries(&listing::read(root)?, &read) {
         match handed_on(library, &read) {
             Ok(more) => calls.extend(more),
             Err(problem) => problems.push(problem),
         }
     }
+    // A door hands on what another one does.
+    calls.sort();
+    calls.dedup();
     problems.extend(page.missing(&calls));
-    Ok((problems, page.names.len()))
+    let seen = format!("{} names, {} calls", page.names.len(), calls.len());
+    Ok(Report { problems, seen })
 }
 
-/// A public function and the file that declares it.
+/// The crates whose calls stand on the page, beside the exports: the doors of the block library and
+/// of the fabrics, the plans' crates, and the libraries above.
+fn libraries<'a>(crates: &'a [Listed], read: &impl Fn(&str) -> Option<String>) -> Vec<&'a str> {
+    let is_program = |name: &str| read(&format!("crates/{name}/src/main.rt")).is_some();
+    let is_library = |name: &&str| match Storey::of(name) {
+        Storey::Foundations => false,
+        Storey::Blocks => *name == BLOCKS,
+        Storey::Plans => true,
+        Storey::Fabrics => *name == FABRIC,
+        Storey::Above => *name != EXPORTS && !is_program(name),
+    };
+    let names = crates.iter().map(|one| one.name.as_str());
+    names.filter(is_library).collect()
+}
+
+/// A public function and where it is declared.
+#[derive(PartialEq, Eq, PartialOrd, Ord)]
 struct Call {
-    name: String,
     file: String,
+    line: usize,
+    name: String,
 }
 
 /// A name on the page, with the file that the page gives for it.
@@ -124,74 +137,39 @@ impl Page {
         let is = |call: &Call, named: &Named| named.name == call.name && named.file == call.file;
         let on_page = |call: &Call| self.names.iter().any(|named| is(call, named));
         let missing = calls.iter().filter(|call| !on_page(call));
-        let problem = |call: &Call| format!("{}: `{}` is not on {PAGE}", call.file, call.name);
+        let problem =
+            |Call { name, file, line }: &Call| format!("{file}:{line}: `{name}` is not on {PAGE}");
         missing.map(problem).collect()
     }
 }
 
-/// The public names that a source declares: definitions and theorems in antt, functions in Rattle.
+/// The public names that a source declares: in antt fields too, in Rattle methods too.
 fn declared(file: &str, text: &str) -> Vec<String> {
     match file.rsplit_once('.') {
-        Some((_, "antt")) => text.lines().filter_map(antt_name).collect(),
-        Some((_, "rt")) => functions(text),
+        Some((_, "antt")) => {
+            let declared = antt::declared(text).into_iter();
+            declared.map(|one| one.name.to_string()).collect()
+        }
+        Some((_, "rt")) => public_items(text).map(|item| item.name).collect(),
         _ => Vec::new(),
     }
 }
 
-/// The name that a line of antt declares `pub`: of a definition, theorem, field, record or data.
-fn antt_name(line: &str) -> Option<String> {
-    let is_mark = |word: &&str| ["unfoldable", "abbrev"].contains(word);
-    let mut words = line.split_whitespace().skip_while(is_mark);
-    if words.next()? != "pub" {
-        return None;
-    }
-    match words.next()? {
-        "record" | "data" => words.next().map(str::to_string),
-        name => (words.next()? == ":").then(|| name.to_string()),
-    }
+fn public_items(text: &str) -> impl Iterator<Item = Item> {
+    rattle::items(text)
+        .into_iter()
+        .filter(|item| item.is_public)
 }
 
-/// The public functions of a Rattle source. A method has its type before it, as in `Plan::zero`.
-fn functions(source: &str) -> Vec<String> {
-    let text = without_comments(source);
-    let types = implementations(&text);
-    let named = |(start, name_at): (usize, usize)| {
-        let name = word_at(&text, name_at);
-        let mut blocks = types.iter();
-        match blocks.find(|block| block.from < start && start < block.to) {
-            Some(block) => format!("{}::{name}", block.of),
-            None => name.to_string(),
-        }
-    };
-    public_functions(&text).into_iter().map(named).collect()
-}
-
-/// A type's block of methods, by its places in the text.
-struct Implementation<'a> {
-    of: &'a str,
-    from: usize,
-    to: usize,
-}
-
-fn implementations(text: &str) -> Vec<Implementation<'_>> {
-    let block = |(from, keyword): (usize, &str)| {
-        let at = from + text[from..].find('{').unwrap_or(0);
-        Implementation {
-            of: word_at(text, from + keyword.len()),
-            from,
-            to: past_group(text, at, '{', '}'),
-        }
-    };
-    text.match_indices("\nimpl ").map(block).collect()
-}
-
+/// The public functions of a Rattle source.
 fn calls_in(file: &str, read: &impl Fn(&str) -> Option<String>) -> Vec<Call> {
-    let names = functions(&read(file).unwrap_or_default());
-    let call = |name| Call {
-        name,
+    let items = public_items(&read(file).unwrap_or_default());
+    let call = |item: Item| Call {
+        name: item.name,
         file: file.to_string(),
+        line: item.line,
     };
-    names.into_iter().map(call).collect()
+    items.filter(|item| item.is_function).map(call).collect()
 }
 
 /// The calls of a library: what its root declares and, by `pub use`, hands on; of a type its
@@ -199,9 +177,10 @@ fn calls_in(file: &str, read: &impl Fn(&str) -> Option<String>) -> Vec<Call> {
 fn handed_on(library: &str, read: &impl Fn(&str) -> Option<String>) -> Result<Vec<Call>, String> {
     let root = format!("crates/{library}/src/lib.rt");
     let mut calls = calls_in(&root, read);
-    for (from, item) in uses(&read(&root).ok_or_else(|| format!("{root} is no file"))?) {
-        let file = source_of(library, &from, &item, read)
-            .ok_or_else(|| format!("{root}: {from}::{item} is not found"))?;
+    let text = read(&root).ok_or_else(|| format!("{root} is no file"))?;
+    for Use { line, from, item } in uses(&text) {
+        let file = source_of(library, from, item, read)
+            .ok_or_else(|| format!("{root}:{line}: {from}::{item} is not found"))?;
         let methods = format!("{item}::");
         let mut found = calls_in(&file, read);
         found.retain(|call| call.name == item || call.name.starts_with(&methods));
@@ -210,44 +189,41 @@ fn handed_on(library: &str, read: &impl Fn(&str) -> Option<String>) -> Result<Ve
     Ok(calls)
 }
 
-/// The `pub use FROM::ITEM;` lines of a crate's root.
-fn uses(root: &str) -> Vec<(String, String)> {
-    let used = |line: &str| {
-        let path = line.strip_prefix("pub use ")?.strip_suffix(';')?;
-        let (from, item) = path.split_once("::")?;
-        Some((from.to_string(), item.to_string()))
-    };
-    root.lines().filter_map(used).collect()
+/// A line `pub use FROM::ITEM;`.
+struct Use<'a> {
+    line: usize,
+    from: &'a str,
+    item: &'a str,
 }
 
-/// The file of an item that a crate's root uses: a module of its own, or in the crate `from`.
+fn uses(root: &str) -> impl Iterator<Item = Use<'_>> {
+    (1..).zip(root.lines()).filter_map(|(line, text)| {
+        let path = text.strip_prefix("pub use ")?.trim_end_matches(';');
+        let (from, item) = path.split_once("::")?;
+        Some(Use { line, from, item })
+    })
+}
+
+/// The file that declares an item that a crate's root uses: a module of its own, or, from door to
+/// door, one of the crate `from`.
 fn source_of(
     library: &str,
     from: &str,
     item: &str,
     read: &impl Fn(&str) -> Option<String>,
 ) -> Option<String> {
+    let declares = |text: &str| public_items(text).any(|one| one.name == item);
     let module = format!("crates/{library}/src/{from}.rt");
-    if read(&module).is_some() {
-        return Some(module);
+    if let Some(text) = read(&module) {
+        return declares(&text).then_some(module);
     }
     let file = format!("crates/{from}/src/lib.rt");
-    let root = read(&file)?;
-    match uses(&root).into_iter().find(|(_, used)| used == item) {
-        Some((next, item)) => source_of(from, &next, &item, read),
-        None => has_item(&root, item).then_some(file),
+    let root = read(&file).filter(|_| from != library)?;
+    let used = uses(&root).find(|used| used.item == item);
+    match used {
+        Some(next) => source_of(from, next.from, item, read),
+        None => declares(&root).then_some(file),
     }
-}
-
-/// Whether a source declares a public function or type of this name.
-fn has_item(source: &str, item: &str) -> bool {
-    let is_item = |line: &str| {
-        let words: Vec<&str> = line.split(|c| !is_word(c)).take(3).collect();
-        ["fn", "struct", "enum"]
-            .iter()
-            .any(|kind| words == ["pub", kind, item])
-    };
-    source.lines().any(is_item)
 }
 
 #[cfg(test)]
@@ -266,6 +242,7 @@ hidden : ℕ
 ";
 
     const SOURCE: &str = "\
+pub const MOST: u8 = 3;
 pub struct Plan { pub size: u8 }
 impl Plan {
     pub fn zero() -> Self
@@ -292,13 +269,23 @@ fn inner(plan: Plan) -> u32 {
     fn read(path: &str) -> Option<String> {
         let text = match path {
             "crates/plan/specs/Faults.antt" => SPEC,
+            "crates/plan/proofs/Laws.antt" => "pub law : planFault ≡ 0\n",
             "crates/plan/src/record.rt" => SOURCE,
-            "crates/plan/src/lib.rt" => "mod record;\n\npub use record::Plan;\n",
-            "crates/blocks/src/lib.rt" => "pub use plan::Plan;\npub fn own() {}\n",
+            "crates/plan/src/lib.rt" => {
+                "mod record;\n\npub use record::Plan;\npub use record::MOST;\n"
+            }
+            "crates/blocks/src/lib.rt" => {
+                "pub use plan::Plan;\npub use plan::MOST;\npub fn own() {}\n"
+            }
             "crates/fabric/src/lib.rt" => "pub use plan::Missing;\n",
-            "crates/equivalence/src/lib.rt" => "pub use fault::Answer;\n",
+            "crates/equivalence/src/lib.rt" => "pub use fault::Answer;\npub use blocks::Plan;\n",
             "crates/fault/src/lib.rt" => ANSWER,
             "crates/capi/src/lib.rt" => EXPORT,
+            "crates/hidden/src/lib.rt" => "mod inner;\n\npub use inner::own;\n",
+            "crates/hidden/src/inner.rt" => "pub(crate) fn own() {}\n",
+            "crates/many/src/lib.rt" => "pub use plan::{Plan, MOST};\n",
+            "crates/loop/src/lib.rt" => "pub use loop::own;\n",
+            "crates/twintest/src/main.rt" => "fn main() {}\n",
             "docs/NOTES.md" => "plan_fault\n",
             _ => return None,
         };
@@ -320,7 +307,8 @@ fn inner(plan: Plan) -> u32 {
 # `plan_fault` in `crates/plan/src/record.rt`
 
 - `planFault`, `planRead` and `Plan` in `crates/plan/specs/Faults.antt`, `Plan::zero` in `crates/plan/src/record.rt`.
-- `third-demand` in `crates/plan/specs/Faults.antt`: see `docs/NOTES.md`.
+- `third-demand`, `size` in `crates/plan/specs/Faults.antt`, `law` in `crates/plan/proofs/Laws.antt`: see `docs/NOTES.md`.
+- `MOST`, `Plan` in `crates/plan/src/record.rt`.
 
     rt check twintest
 ";
@@ -390,7 +378,7 @@ fn inner(plan: Plan) -> u32 {
         let page = Page::new(&format!(
             "`plan_fault` in `{source}`\n`Plan::zero` in `other.rt`\n"
         ));
-        let problem = format!("{source}: `Plan::zero` is not on {PAGE}");
+        let problem = format!("{source}:4: `Plan::zero` is not on {PAGE}");
         assert_eq!(page.missing(&calls), [problem]);
         let whole = Page::new(&format!("`plan_fault`, `Plan::zero` in `{source}`\n"));
         assert_eq!(whole.missing(&calls), [""; 0]);
@@ -414,10 +402,45 @@ fn inner(plan: Plan) -> u32 {
         let number = "crates/fault/src/lib.rt Answer::number";
         assert_eq!(names("plan"), Ok(zero.to_string()));
         assert_eq!(names("blocks"), Ok(format!("{own}, {zero}")));
-        assert_eq!(names("equivalence"), Ok(number.to_string()));
-        let fabric = "crates/fabric/src/lib.rt: plan::Missing is not found";
-        assert_eq!(names("fabric"), Err(fabric.to_string()));
-        let reading = "crates/reading/src/lib.rt is no file";
-        assert_eq!(names("reading"), Err(reading.to_string()));
+        assert_eq!(names("equivalence"), Ok(format!("{number}, {zero}")));
+        for (library, problem) in [
+            (
+                "fabric",
+                "crates/fabric/src/lib.rt:1: plan::Missing is not found",
+            ),
+            ("reading", "crates/reading/src/lib.rt is no file"),
+            (
+                "hidden",
+                "crates/hidden/src/lib.rt:3: inner::own is not found",
+            ),
+            (
+                "many",
+                "crates/many/src/lib.rt:1: plan::{Plan, MOST} is not found",
+            ),
+            ("loop", "crates/loop/src/lib.rt:1: loop::own is not found"),
+        ] {
+            assert_eq!(names(library), Err(problem.to_string()));
+        }
+    }
+
+    #[test]
+    fn the_libraries_are_the_doors_the_plans_crates_and_those_above() {
+        let crates = "\
+lists:
+blocks:
+block_rows:
+plan:
+plan_faults:
+fabric:
+fabric_rows:
+equivalence:
+capi:
+twintest:
+";
+        let crates = listing::listed(crates);
+        assert_eq!(
+            libraries(&crates, &read),
+            ["blocks", "plan", "plan_faults", "fabric", "equivalence"]
+        );
     }
 }
