@@ -9,6 +9,7 @@ use std::path::Path;
 
 pub mod contracts;
 pub mod names;
+pub mod specs;
 pub mod storeys;
 
 mod antt;
@@ -28,8 +29,9 @@ pub struct Report {
 pub type Check = fn(&Path) -> io::Result<Report>;
 
 /// Every check by its name.
-pub const CHECKS: [(&str, Check); 3] = [
+pub const CHECKS: [(&str, Check); 4] = [
     ("contracts", contracts::problems),
     ("names", names::problems),
+    ("specs", specs::problems),
     ("storeys", storeys::problems),
 ];
