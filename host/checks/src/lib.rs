@@ -7,6 +7,7 @@
 use std::io;
 use std::path::Path;
 
+pub mod apart;
 pub mod contracts;
 pub mod names;
 pub mod specs;
@@ -29,9 +30,10 @@ pub struct Report {
 pub type Check = fn(&Path) -> io::Result<Report>;
 
 /// Every check by its name.
-pub const CHECKS: [(&str, Check); 4] = [
+pub const CHECKS: [(&str, Check); 5] = [
     ("contracts", contracts::problems),
     ("names", names::problems),
     ("specs", specs::problems),
     ("storeys", storeys::problems),
+    ("names apart", apart::problems),
 ];
