@@ -10,6 +10,7 @@ use std::path::Path;
 pub mod apart;
 pub mod contracts;
 pub mod names;
+pub mod reading_order;
 pub mod specs;
 pub mod storeys;
 
@@ -30,10 +31,11 @@ pub struct Report {
 pub type Check = fn(&Path) -> io::Result<Report>;
 
 /// Every check by its name.
-pub const CHECKS: [(&str, Check); 5] = [
+pub const CHECKS: [(&str, Check); 6] = [
     ("contracts", contracts::problems),
     ("names", names::problems),
     ("specs", specs::problems),
     ("storeys", storeys::problems),
     ("names apart", apart::problems),
+    ("reading order", reading_order::problems),
 ];
