@@ -446,6 +446,8 @@ fn print_arrays() {
 
 #[cfg(test)]
 mod tests {
+    use std::path::Path;
+
     use super::*;
 
     /// A call that holds an array of N bytes.
@@ -460,6 +462,16 @@ mod tests {
         let large = stack(&(), (), &holds::<9_000>);
         assert!((1_000..1_600).contains(&small), "{small}");
         assert!((9_000..9_600).contains(&large), "{large}");
+    }
+
+    #[test]
+    fn the_sources_of_the_arrays_are_there() {
+        let root = Path::new(env!("CARGO_MANIFEST_DIR")).join("../..");
+        for call in Call::OF_PLANS.into_iter().chain([Call::ProgramP]) {
+            for (_, source) in call.arrays() {
+                assert!(root.join(source).is_file(), "{source}");
+            }
+        }
     }
 
     /// The measured stack has the arrays in it.
