@@ -2,7 +2,7 @@
 //!
 //! Between the heading `## Reading order` and the next one of its rank each file of crates/*/specs/,
 //! Lib.antt left out, has exactly one row: its path in backticks, its number of lines as `wc -l`
-//! prints it, and a sentence. Together they stay below [`MOST_LINES`].
+//! prints it, and a sentence. Together the files stay below 3,500 lines.
 
 use std::collections::HashSet;
 use std::path::Path;

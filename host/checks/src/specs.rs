@@ -1,7 +1,8 @@
 //! The check of crates/*/specs/: definitions and statements alone.
 //!
-//! The rule: outside comments, which begin at `--`, none of the words of [`PROOF_WORDS`] stands in a
-//! file as a whole word, and no `use` names a path into a `proofs` module.
+//! The rule: outside comments, from `--` to the line's end, none of omega, simp, rw, search, elim,
+//! absurd, cc and refl stands in a file as a whole word, and no `use` names a path into a `proofs`
+//! module.
 
 use std::io;
 use std::path::Path;

@@ -205,7 +205,7 @@ impl PlanFile {
             self.put(Field::Operand { own }, gate.second);
         }
         if table {
-            self.put(Field::Table, u16::from(gate.table));
+            self.put(Field::Table, gate.table);
         }
     }
 
