@@ -1,19 +1,15 @@
 #!/usr/bin/env bash
-# All tests of the repository, from nothing: rt's own gate, the Rust package, the comparison of the library with the Rust implementation, the
-# checks of public contracts and of the names in docs/WHAT_IS_PROVED.md, the block library by itself. Where all pass, the last line is the
-# verdict of rt's gate again.
+# All tests of the repository, from nothing: its text and formats, in seconds; rt's own gate; the Rust packages, the comparison of the library
+# with the Rust implementation, the block library by itself. Where all pass, the last line is the verdict of rt's gate again.
 set -euo pipefail
 cd "$(dirname "$0")"
 
-fail() {
-    echo "test: $*" >&2
-    exit 1
-}
-
-command -v rt >/dev/null || fail "the Rattle kit is absent: no command rt"
-command -v cargo >/dev/null || fail "the Rust toolchain is absent: no command cargo"
-command -v rustc >/dev/null || fail "the Rust toolchain is absent: no command rustc"
-command -v cc >/dev/null || fail "the C compiler is absent: no command cc"
+for command in rt cargo rustc rustfmt cc; do
+    if ! command -v "$command" >/dev/null; then
+        echo "test: no command $command: the Rattle kit, Rust and a C compiler are needed" >&2
+        exit 1
+    fi
+done
 
 recorded=$(cat docs/KIT)
 kit=$(rt version)
@@ -21,10 +17,16 @@ if [ "$kit" != "$recorded" ]; then
     echo "test: this kit is '$kit'; the repository was proved with '$recorded'"
 fi
 
-# rt's own gate first, from nothing: every proof, every must-fail edit, every program. What comes after it uses what it proved.
+# What needs no proof first, so that a slip ends the tests at once.
+rm -rf host/target
+cargo test --quiet --release --manifest-path host/Cargo.toml --package checks
+cargo run --quiet --release --manifest-path host/Cargo.toml --bin check_repository .
+rt fmt --check
+cargo fmt --manifest-path host/Cargo.toml --all --check
+
+# rt's own gate, from nothing: every proof, every must-fail edit, every program. What comes after it uses what it proved.
 # rt starts its jobs in batches and waits for a batch's last one: a job more than there are processors keeps them all at work meanwhile.
 export RT_JOBS="${RT_JOBS:-$(($(nproc) + 1))}"
-rm -rf host/target
 verdict=$(mktemp)
 copy=$(mktemp -d)
 trap 'rm -rf "$verdict" "$copy"' EXIT
@@ -34,8 +36,6 @@ rt staticlib capi
 cargo test --quiet --release --manifest-path host/Cargo.toml
 cargo run --quiet --release --manifest-path host/Cargo.toml --bin compare
 cargo run --quiet --release --manifest-path host/Cargo.toml --bin check_twintest target/bin/twintest
-cargo run --quiet --release --manifest-path host/Cargo.toml --bin check_contracts .
-cargo run --quiet --release --manifest-path host/Cargo.toml --bin check_names .
 
 # The block library goes to the relay-card maker by itself: a copy that holds nothing but blocks and the crates under it, with what rt ci proved
 # of them, lacks nothing.

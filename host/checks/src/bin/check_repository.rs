@@ -1,0 +1,26 @@
+//! Makes every check of the repository's text.
+//!
+//! Usage: `check_repository ROOT`. Prints a line for each problem and one for each check.
+//! Exit status: 0 where all is well, 1 where not.
+
+use std::path::Path;
+use std::process::ExitCode;
+use std::{env, io};
+
+use checks::{Report, CHECKS};
+
+fn main() -> io::Result<ExitCode> {
+    let root = env::args().nth(1).unwrap_or_else(|| ".".into());
+    let mut status = ExitCode::SUCCESS;
+    for (name, check) in CHECKS {
+        let Report { problems, seen } = check(Path::new(&root))?;
+        for problem in &problems {
+            println!("{problem}");
+        }
+        if !problems.is_empty() {
+            status = ExitCode::FAILURE;
+        }
+        println!("{name}: {seen}, {} problems", problems.len());
+    }
+    Ok(status)
+}

@@ -1,0 +1,195 @@
+//! The check of README.md's reading order: a table of the files of definitions.
+//!
+//! Between the heading `## Reading order` and the next one of its rank each file of crates/*/specs/,
+//! Lib.antt left out, has exactly one row: its path in backticks, its number of lines as `wc -l`
+//! prints it, and a sentence. Together the files stay below 3,500 lines.
+
+use std::collections::HashSet;
+use std::path::Path;
+use std::{fs, io};
+
+use crate::{files, Report};
+
+const PAGE: &str = "README.md";
+const HEADING: &str = "## Reading order";
+
+/// What a reader of all definitions may be asked to read stays below so many lines.
+const MOST_LINES: usize = 3_500;
+
+/// A file of definitions and its number of lines.
+struct Definitions {
+    path: String,
+    lines: usize,
+}
+
+/// A row of the table.
+struct Row<'a> {
+    line: usize,
+    path: &'a str,
+    lines: &'a str,
+    sentence: &'a str,
+}
+
+/// The rows of the table: the lines of the section that begin with a cell in backticks.
+fn rows(page: &str) -> Vec<Row<'_>> {
+    let lines = (1..).zip(page.lines());
+    let section = lines.skip_while(|(_, text)| *text != HEADING).skip(1);
+    let section = section.take_while(|(_, text)| !text.starts_with("## "));
+    section.filter_map(|(line, text)| row(line, text)).collect()
+}
+
+fn row(line: usize, text: &str) -> Option<Row<'_>> {
+    let (path, rest) = text.strip_prefix("| `")?.split_once('`')?;
+    let mut cells = rest.split('|').skip(1).map(str::trim);
+    Some(Row {
+        line,
+        path,
+        lines: cells.next().unwrap_or_default(),
+        sentence: cells.next().unwrap_or_default(),
+    })
+}
+
+/// What is wrong with the table of a page that is to show these files.
+fn findings(page: &str, files: &[Definitions]) -> Vec<String> {
+    let mut found = Vec::new();
+    if !page.lines().any(|line| line == HEADING) {
+        found.push(format!("{PAGE}: no heading `{HEADING}`"));
+    }
+    let mut seen = HashSet::new();
+    for row in rows(page) {
+        let Row { line, path, .. } = row;
+        let mut report = |problem| found.push(format!("{PAGE}:{line}: {path} {problem}"));
+        let Some(file) = files.iter().find(|file| file.path == path) else {
+            report("is no file of definitions".to_string());
+            continue;
+        };
+        if !seen.insert(path) {
+            report("has another row".to_string());
+        }
+        if row.lines != file.lines.to_string() {
+            report(format!("has {} lines, not {}", file.lines, row.lines));
+        }
+        if row.sentence.is_empty() {
+            report("has no sentence".to_string());
+        }
+    }
+    for file in files {
+        if !seen.contains(file.path.as_str()) {
+            found.push(format!("{}:1: not in the table of {PAGE}", file.path));
+        }
+    }
+    let sum = sum(files);
+    if sum >= MOST_LINES {
+        let problem = format!("{sum} lines of definitions, not below {MOST_LINES}");
+        found.push(format!("{PAGE}: {problem}"));
+    }
+    found
+}
+
+fn sum(files: &[Definitions]) -> usize {
+    files.iter().map(|file| file.lines).sum()
+}
+
+/// Every problem of the reading order in the repository at `root`.
+pub fn problems(root: &Path) -> io::Result<Report> {
+    let mut specs = files::below(root, "specs", "antt")?;
+    specs.retain(|file| !file.path.ends_with("/Lib.antt"));
+    let definitions = |file: files::File| Definitions {
+        lines: file.text.matches('\n').count(),
+        path: file.path,
+    };
+    let files: Vec<Definitions> = specs.into_iter().map(definitions).collect();
+    let page = fs::read_to_string(root.join(PAGE))?;
+    Ok(Report {
+        problems: findings(&page, &files),
+        seen: format!("{} files of {} lines", files.len(), sum(&files)),
+    })
+}
+
+#[cfg(test)]
+mod tests {
+    use super::*;
+
+    const ROWS: &str = "crates/networks/specs/Rows.antt";
+    const PLANS: &str = "crates/plan/specs/Plans.antt";
+
+    fn findings_of(page: &str, lines: [usize; 2]) -> Vec<String> {
+        let files = [ROWS, PLANS].map(str::to_string);
+        let mut lines = lines.into_iter();
+        let files = files.map(|path| Definitions {
+            path,
+            lines: lines.next().unwrap_or_default(),
+        });
+        findings(page, &files)
+    }
+
+    fn page(table: &str) -> String {
+        format!(
+            "# Mukdalis\n\n## Reading order\n\n| File | Lines | What |\n|---|---|---|\n{table}\n## Next\n\n| `x` | 1 | y |\n"
+        )
+    }
+
+    #[test]
+    fn a_true_table_passes() {
+        let page = page(&format!(
+            "| `{PLANS}` | 40 | Plans and their rules. |\n| `{ROWS}` | 3459 | Rows. |\n"
+        ));
+        assert_eq!(findings_of(&page, [3459, 40]), [""; 0]);
+    }
+
+    #[test]
+    fn what_the_table_says_wrong_is_found() {
+        let good = format!("| `{ROWS}` | 30 | Rows. |\n");
+        for (row, problem) in [
+            (
+                format!("| `{PLANS}` | 41 | Plans. |"),
+                "has 40 lines, not 41",
+            ),
+            (format!("| `{PLANS}` | | Plans. |"), "has 40 lines, not "),
+            (format!("| `{PLANS}` | 40 | |"), "has no sentence"),
+            (
+                format!("| `{PLANS}` | 40 | Plans. |\n| `{PLANS}` | 40 | Plans. |"),
+                "has another row",
+            ),
+        ] {
+            let page = page(&format!("{good}{row}\n"));
+            let line = 7 + row.lines().count();
+            let problem = format!("README.md:{line}: {PLANS} {problem}");
+            assert_eq!(findings_of(&page, [30, 40]), [problem]);
+        }
+    }
+
+    #[test]
+    fn a_row_of_no_file_and_a_file_of_no_row_are_found() {
+        let page = page(&format!(
+            "| `{ROWS}` | 30 | Rows. |\n| `crates/plan/specs/Lib.antt` | 4 | Plans. |\n"
+        ));
+        assert_eq!(
+            findings_of(&page, [30, 40]),
+            [
+                "README.md:8: crates/plan/specs/Lib.antt is no file of definitions".to_string(),
+                format!("{PLANS}:1: not in the table of README.md"),
+            ]
+        );
+    }
+
+    #[test]
+    fn a_missing_heading_is_found() {
+        let table = format!("| `{ROWS}` | 30 | Rows. |\n| `{PLANS}` | 40 | Plans. |\n");
+        let page = page(&table).replace("## Reading order", "## Other");
+        let found = findings_of(&page, [30, 40]);
+        assert_eq!(found[0], "README.md: no heading `## Reading order`");
+        assert_eq!(found.len(), 3);
+    }
+
+    #[test]
+    fn too_many_lines_are_found() {
+        let page = page(&format!(
+            "| `{ROWS}` | 3460 | Rows. |\n| `{PLANS}` | 40 | Plans. |\n"
+        ));
+        assert_eq!(
+            findings_of(&page, [3460, 40]),
+            ["README.md: 3500 lines of definitions, not below 3500"]
+        );
+    }
+}

@@ -1,0 +1,486 @@
+//! Times the library's calls beside the reference, which is plain Rust, and prints one table.
+//!
+//! Usage: `cargo run --release --bin benchmark`; it takes about 20 seconds. No time is judged. It
+//! stops, with exit status 101, if the two sides differ on a case that is timed.
+//!
+//! A case is a call with random accepted plans of the same counts (u,k,v), one plan after another,
+//! or, for P(N), with random permutations. Both sides make the same checks and write to the same lent
+//! buffers. The library is called by its safe wrappers. Its exports take a plan's record by value, and
+//! copying it is part of their time; the reference borrows it. Reading hands the record back by value
+//! on both sides. The reference has its work lists on the heap, a few for each block.
+//!
+//! Both sides run in short batches by turns, so that a busy machine disturbs both. The columns:
+//! - Rattle ns, Rust ns: nanoseconds a call, the least of all batches;
+//! - ratio: Rattle's time over Rust's, the median of all batches beside each other;
+//! - arrays: bytes of the arrays that the library's code declares for such a call;
+//! - Rattle stack, Rust stack: bytes of stack that a call uses below its caller's frame, measured;
+//!   a record that goes by value is among them, heap memory is not; 256 is that or less;
+//! - growth: the time of P(N) over that of P(N / 2), and what N log N gives for it.
+
+use std::hint::black_box;
+use std::time::{Duration, Instant};
+use std::{mem, ptr, thread};
+
+use comparison::random::Random;
+use comparison::reference;
+use comparison::samples::blocks::Block;
+use comparison::samples::fabric::wires;
+use comparison::samples::permutation::random_permutation;
+use comparison::samples::plans::{shaped_plan, PlanShape};
+use comparison::samples::{Counts, PlanFile, Standing};
+use mukdalis::{
+    count_fabric, evaluate, program_permutation, program_plan, raw, run_fabric, write_fabric,
+    Fault, Plan,
+};
+
+const SEED: u64 = 0x6265_6e63_686d_6172;
+
+/// The counts of the plans.
+const COUNTS: [Counts; 5] = [
+    Counts(1, 1, 1),
+    Counts(25, 50, 1),
+    Counts(64, 64, 64),
+    Counts(64, 188, 33),
+    Counts(64, 256, 64),
+];
+
+/// The sizes of P.
+const SIZES: [u32; 4] = [64, 128, 256, 512];
+
+/// Plans or permutations of a case, four plans of each shape.
+const SAMPLES: usize = 20;
+
+/// The least time of a batch, and the time that all batches of a case have.
+const BATCH_TIME: Duration = Duration::from_micros(100);
+const CASE_TIME: Duration = Duration::from_millis(if cfg!(test) { 1 } else { 600 });
+
+fn main() {
+    let mut random = Random::new(SEED);
+    let plans = COUNTS.map(|counts| Plans::new(&mut random, counts));
+    print_head();
+    for call in Call::OF_PLANS {
+        for plans in &plans {
+            let line = line(call, &plans.size(), plans.measure(call));
+            println!("{line}");
+        }
+    }
+    let mut half: Option<Measured> = None;
+    for n in SIZES {
+        let measured = measure_permutation(&mut random, n);
+        let line = line(Call::ProgramP, &format!("P({n})"), measured);
+        match half.replace(measured) {
+            Some(half) => println!("{line}{}", growth(n, half, measured)),
+            None => println!("{line}"),
+        }
+    }
+    print_arrays();
+}
+
+/// The timed calls.
+#[derive(Clone, Copy)]
+enum Call {
+    Read,
+    Evaluate,
+    WriteFabric,
+    ProgramPlan,
+    Run,
+    ProgramP,
+}
+
+/// Bytes of the arrays that a source of the library declares.
+type Arrays = (usize, &'static str);
+
+/// A bit for each wire.
+const EVALUATION: Arrays = (320, "crates/evaluation/src/evaluation.rt");
+/// Wires: the inputs, the pins, the gates.
+const FABRIC: Arrays = (1_664, "crates/fabric_rows/src/writing.rt");
+/// Wires: the outputs.
+const OUTPUTS: Arrays = (128, "crates/fabric_selections/src/lib.rt");
+/// What feeds a network of S, and what it gave.
+const SELECTION: Arrays = (2_048, "crates/selection_rows/src/writing.rt");
+/// Operands and tables of the gates, and wanted inputs.
+const GATES: Arrays = (2_560, "crates/fabric_bits/src/programming.rt");
+/// S's counts, heads and wanted list.
+const POSITIONS: Arrays = (3_072, "crates/selection_bits/src/program.rt");
+/// P's mapping, its inverse and the marks.
+const MAPPING: Arrays = (2_560, "crates/permutation_bits/src/programming.rt");
+
+impl Call {
+    const OF_PLANS: [Call; 5] = [
+        Call::Read,
+        Call::Evaluate,
+        Call::WriteFabric,
+        Call::ProgramPlan,
+        Call::Run,
+    ];
+
+    fn name(self) -> &'static str {
+        match self {
+            Call::Read => "reading",
+            Call::Evaluate => "evaluation",
+            Call::WriteFabric => "fabric table",
+            Call::ProgramPlan => "program bits",
+            Call::Run => "run",
+            Call::ProgramP => "P's program",
+        }
+    }
+
+    /// The arrays of the call and of those under it.
+    fn arrays(self) -> &'static [Arrays] {
+        match self {
+            Call::Read | Call::Run => &[],
+            Call::Evaluate => &[EVALUATION],
+            Call::WriteFabric => &[FABRIC, OUTPUTS, SELECTION],
+            Call::ProgramPlan => &[GATES, POSITIONS, MAPPING],
+            Call::ProgramP => &[MAPPING],
+        }
+    }
+
+    fn array_bytes(self) -> usize {
+        self.arrays().iter().map(|(bytes, _)| bytes).sum()
+    }
+}
+
+/// Accepted plans of the same counts, and their fabric's table.
+struct Plans {
+    counts: [u32; 3],
+    samples: Vec<Sample>,
+    table: Vec<u16>,
+}
+
+/// A plan with its file, an input row and its program.
+struct Sample {
+    plan: Plan,
+    file: Vec<u8>,
+    row: Vec<u8>,
+    program: Vec<u8>,
+}
+
+impl Plans {
+    fn new(random: &mut Random, counts: Counts) -> Plans {
+        let Counts(u, k, v) = counts;
+        let [u, k, v] = [u, k, v].map(u32::from);
+        let size = count_fabric(u, k, v).expect("the counts are in range");
+        let mut table = vec![0; size.table_len(v)];
+        write_fabric(u, k, v, &mut table).expect("the counts are in range");
+        let shapes = PlanShape::ALL.into_iter().cycle();
+        let samples = shapes.take(SAMPLES).map(|shape| {
+            let plan = shaped_plan(random, counts, shape);
+            let mut program = vec![0; size.program_len()];
+            program_plan(&plan, &mut program).expect("the plan is accepted");
+            Sample {
+                plan,
+                file: PlanFile::new(random, &plan, Standing::None).bytes,
+                row: random.row(plan.inputs.into()),
+                program,
+            }
+        });
+        Plans {
+            counts: [u, k, v],
+            samples: samples.collect(),
+            table,
+        }
+    }
+
+    fn size(&self) -> String {
+        let [u, k, v] = self.counts;
+        format!("({u},{k},{v})")
+    }
+
+    fn measure(&self, call: Call) -> Measured {
+        let ([u, k, v], samples, table) = (self.counts, &self.samples, &self.table);
+        let result = vec![9; v as usize];
+        match call {
+            Call::Read => measure(
+                samples,
+                (),
+                |sample, ()| raw::plan_read(&sample.file),
+                |sample, ()| reference::plan::read(&sample.file),
+                |read, answer| read.number == 0 && answer == Ok(read.plan),
+            ),
+            Call::Evaluate => measure(
+                samples,
+                result,
+                |sample, result| evaluate(&sample.plan, &sample.row, result),
+                |sample, result| reference::plan::evaluate(&sample.plan, &sample.row, result),
+                are_done,
+            ),
+            Call::WriteFabric => measure(
+                &[[u, k, v]],
+                vec![9; table.len()],
+                |&[u, k, v], table| write_fabric(u, k, v, table),
+                |&[u, k, v], table| reference::fabric::write(u, k, v, table),
+                are_done,
+            ),
+            Call::ProgramPlan => measure(
+                samples,
+                vec![9; samples[0].program.len()],
+                |sample, program| program_plan(&sample.plan, program),
+                |sample, program| reference::program::write(&sample.plan, program),
+                are_done,
+            ),
+            Call::Run => measure(
+                samples,
+                (vec![9; wires(table)], result),
+                |Sample { program, row, .. }, (work, result)| {
+                    run_fabric(table, program, row, work, result)
+                },
+                |Sample { program, row, .. }, (work, result)| {
+                    reference::run::run(table, program, row, work, result)
+                },
+                are_done,
+            ),
+            Call::ProgramP => unreachable!("no call of plans"),
+        }
+    }
+}
+
+fn measure_permutation(random: &mut Random, n: u32) -> Measured {
+    let samples: Vec<Vec<u16>> = (0..SAMPLES)
+        .map(|_| random_permutation(random, n))
+        .collect();
+    measure(
+        &samples,
+        vec![9; Block::P(n).program_bytes()],
+        |wanted, program| program_permutation(n, wanted, program),
+        |wanted, program| reference::permutation::program(n, wanted, program),
+        are_done,
+    )
+}
+
+/// What one side does: a call for a sample with lent buffers.
+trait Side<S, B, A>: Fn(&S, &mut B) -> A {}
+impl<S, B, A, F: Fn(&S, &mut B) -> A> Side<S, B, A> for F {}
+
+/// Figures of the library and of the reference.
+#[derive(Clone, Copy)]
+struct Measured {
+    times: Times,
+    stack: [usize; 2],
+}
+
+/// Nanoseconds a call of each side, and their ratio.
+#[derive(Clone, Copy)]
+struct Times {
+    nanoseconds: [f64; 2],
+    ratio: f64,
+}
+
+/// Whether neither side refused.
+fn are_done(rattle: Result<(), Fault>, rust: Result<(), Fault>) -> bool {
+    rattle.is_ok() && rust.is_ok()
+}
+
+/// Checks that both sides are done with every sample and agree on it, then measures them.
+fn measure<S: Sync, B: Clone + Send + PartialEq, A, C>(
+    samples: &[S],
+    buffers: B,
+    rattle: impl Side<S, B, A> + Sync,
+    rust: impl Side<S, B, C> + Sync,
+    agree: impl Fn(A, C) -> bool,
+) -> Measured {
+    for sample in samples {
+        let (mut found, mut expected) = (buffers.clone(), buffers.clone());
+        let (answer, due) = (rattle(sample, &mut found), rust(sample, &mut expected));
+        assert!(agree(answer, due), "the answers differ");
+        assert!(found == expected, "the buffers differ");
+    }
+    Measured {
+        times: time(samples, &mut buffers.clone(), &rattle, &rust),
+        stack: [
+            stack(&samples[0], buffers.clone(), &rattle),
+            stack(&samples[0], buffers, &rust),
+        ],
+    }
+}
+
+/// Times both sides in batches by turns.
+fn time<S, B, A, C>(
+    samples: &[S],
+    buffers: &mut B,
+    rattle: &impl Side<S, B, A>,
+    rust: &impl Side<S, B, C>,
+) -> Times {
+    let mut rounds = 1;
+    while batch(samples, rounds, buffers, rattle) < BATCH_TIME
+        || batch(samples, rounds, buffers, rust) < BATCH_TIME
+    {
+        rounds *= 2;
+    }
+    let mut least = [f64::INFINITY; 2];
+    let mut ratios = Vec::new();
+    let start = Instant::now();
+    while start.elapsed() < CASE_TIME {
+        let times = [
+            batch(samples, rounds, buffers, rattle),
+            batch(samples, rounds, buffers, rust),
+        ];
+        let times = times.map(|time| time.as_nanos() as f64 / (rounds * samples.len()) as f64);
+        least = [least[0].min(times[0]), least[1].min(times[1])];
+        ratios.push(times[0] / times[1]);
+    }
+    ratios.sort_by(f64::total_cmp);
+    Times {
+        nanoseconds: least,
+        ratio: ratios[ratios.len() / 2],
+    }
+}
+
+/// The time of so many rounds over all samples.
+fn batch<S, B, A>(
+    samples: &[S],
+    rounds: usize,
+    buffers: &mut B,
+    side: &impl Side<S, B, A>,
+) -> Duration {
+    let start = Instant::now();
+    for _ in 0..rounds {
+        for sample in samples {
+            black_box(&side(black_box(sample), black_box(buffers)));
+        }
+    }
+    start.elapsed()
+}
+
+/// Bytes below a caller's frame that are painted, but for the first few, which the painting itself
+/// may use.
+const PAINTED: usize = 1 << 16;
+const UNPAINTED: usize = 256;
+const PAINT: u8 = 0xa5;
+
+/// Bytes of stack that a call uses, on a thread that has more than is painted. A first call is not
+/// measured: what is done once in a thread is done in it.
+fn stack<S: Sync, B: Send, A>(
+    sample: &S,
+    mut buffers: B,
+    side: &(impl Side<S, B, A> + Sync),
+) -> usize {
+    thread::scope(|scope| {
+        let builder = thread::Builder::new().stack_size(4 * PAINTED);
+        let measuring = builder.spawn_scoped(scope, || {
+            let mut call = || {
+                black_box(&side(sample, &mut buffers));
+            };
+            stack_of(black_box(&mut call))
+        });
+        let measuring = measuring.expect("a thread can be started");
+        measuring.join().expect("the call returns")
+    })
+}
+
+/// The same of a call that is not inlined here.
+fn stack_of(call: &mut dyn FnMut()) -> usize {
+    call();
+    let top = paint();
+    call();
+    used_below(top)
+}
+
+/// Paints what lies below this frame, and gives a place in it.
+#[inline(never)]
+fn paint() -> usize {
+    let here = 0_u8;
+    let top = ptr::from_ref(black_box(&here)).expose_provenance();
+    for place in top - PAINTED..top - UNPAINTED {
+        // SAFETY: the place is on this thread's stack, which is larger, and below every frame in
+        // use: this one has less than the unpainted bytes.
+        unsafe { ptr::with_exposed_provenance_mut::<u8>(place).write_volatile(PAINT) };
+    }
+    top
+}
+
+/// Bytes from `top` down to the lowest one that is no longer painted.
+#[inline(never)]
+fn used_below(top: usize) -> usize {
+    let is_used = |place: &usize| {
+        // SAFETY: the place is on this thread's stack and was painted, so it holds a byte.
+        unsafe { ptr::with_exposed_provenance::<u8>(*place).read_volatile() != PAINT }
+    };
+    let lowest = (top - PAINTED..top - UNPAINTED).find(is_used);
+    lowest.map_or(UNPAINTED, |place| top - place)
+}
+
+fn print_head() {
+    println!(
+        "{:26} {:>9} {:>9} {:>6} {:>7} {:>7} {:>7}   growth",
+        "", "Rattle", "Rust", "", "", "Rattle", "Rust"
+    );
+    println!(
+        "{:13}{:13} {:>9} {:>9} {:>6} {:>7} {:>7} {:>7}   Rattle  Rust  N log N",
+        "call", "size", "ns", "ns", "ratio", "arrays", "stack", "stack"
+    );
+}
+
+fn line(call: Call, size: &str, measured: Measured) -> String {
+    let Times { nanoseconds, ratio } = measured.times;
+    let ([rattle, rust], [rattle_stack, rust_stack]) = (nanoseconds, measured.stack);
+    format!(
+        "{:13}{size:13} {rattle:>9.1} {rust:>9.1} {ratio:>6.2} {:>7} {rattle_stack:>7} {rust_stack:>7}",
+        call.name(),
+        call.array_bytes(),
+    )
+}
+
+/// The growth from P(n / 2) to P(n).
+fn growth(n: u32, half: Measured, whole: Measured) -> String {
+    let times = |side: usize| whole.times.nanoseconds[side] / half.times.nanoseconds[side];
+    let [rattle, rust] = [0, 1].map(times);
+    let level = f64::from(n.ilog2());
+    format!(
+        "   {rattle:>6.2} {rust:>5.2} {:>8.2}",
+        2.0 * level / (level - 1.0)
+    )
+}
+
+/// The sources of the column arrays.
+fn print_arrays() {
+    println!("\nbytes of arrays");
+    for call in Call::OF_PLANS.into_iter().chain([Call::ProgramP]) {
+        for (bytes, source) in call.arrays() {
+            println!("{:13}{bytes:>6}  {source}", call.name());
+        }
+    }
+    let record = mem::size_of::<Plan>();
+    println!("a plan's record, which is none of them, has {record} bytes");
+}
+
+#[cfg(test)]
+mod tests {
+    use std::path::Path;
+
+    use super::*;
+
+    /// A call that holds an array of N bytes.
+    fn holds<const N: usize>(_: &(), _: &mut ()) {
+        let mut array = [1_u8; N];
+        black_box(&mut array);
+    }
+
+    #[test]
+    fn the_stack_of_an_array_is_measured() {
+        let small = stack(&(), (), &holds::<1_000>);
+        let large = stack(&(), (), &holds::<9_000>);
+        assert!((1_000..1_600).contains(&small), "{small}");
+        assert!((9_000..9_600).contains(&large), "{large}");
+    }
+
+    #[test]
+    fn the_sources_of_the_arrays_are_there() {
+        let root = Path::new(env!("CARGO_MANIFEST_DIR")).join("../..");
+        for call in Call::OF_PLANS.into_iter().chain([Call::ProgramP]) {
+            for (_, source) in call.arrays() {
+                assert!(root.join(source).is_file(), "{source}");
+            }
+        }
+    }
+
+    /// The measured stack has the arrays in it.
+    #[test]
+    fn the_sides_agree_and_calls_hold_their_arrays() {
+        let plans = Plans::new(&mut Random::new(SEED), Counts::MOST);
+        for call in Call::OF_PLANS {
+            let [rattle, _] = plans.measure(call).stack;
+            assert!(rattle >= call.array_bytes(), "{}: {rattle}", call.name());
+        }
+    }
+}

@@ -1,0 +1,402 @@
+//! Plans: reading a plan file, the faults of a plan in memory, evaluation.
+//!
+//! Wires and gates are numbered from 1, as in document 01; a plan's arrays count from 0.
+
+use mukdalis::{Fault, Gate, Plan, Refusal};
+
+/// Bytes of u, k and v at the start of a plan file.
+const HEADER: usize = 6;
+
+/// The highest map byte: one bit for each of a gate's three fields.
+const LAST_MAP: u16 = 7;
+
+/// The highest table: one bit for each pair of operand bits.
+const LAST_TABLE: u16 = 15;
+
+/// The table of a gate whose file leaves it out: AND.
+const ABSENT_TABLE: u16 = 8;
+
+/// Places for the wires of the largest plan, and place 0.
+const WIRES: usize = 1 + Plan::MAX_INPUTS + Plan::MAX_GATES;
+
+/// Reads a plan file. Unused places of the plan are zero.
+pub fn read(file: &[u8]) -> Result<Plan, Refusal> {
+    if file.len() < HEADER {
+        return Err(refusal(Fault::Stub, 0));
+    }
+    let mut reader = Reader { file, at: 0 };
+    let mut plan = Plan::ZERO;
+    plan.inputs = reader.count(Plan::MAX_INPUTS, Fault::Inputs)?;
+    plan.gate_count = reader.count(Plan::MAX_GATES, Fault::Gates)?;
+    plan.output_count = reader.count(Plan::MAX_OUTPUTS, Fault::Outputs)?;
+    for g in 1..=plan.gate_count {
+        plan.gates[usize::from(g) - 1] = reader.gate(plan.inputs + g)?;
+    }
+    for j in 1..=plan.output_count {
+        plan.outputs[usize::from(j) - 1] = reader.output(&plan)?;
+    }
+    reader.end()?;
+    Ok(plan)
+}
+
+/// The first plan fault of a plan in memory. Unused places have none.
+pub fn fault(plan: &Plan) -> Option<Fault> {
+    count_fault(plan)
+        .or_else(|| first_gate_fault(plan))
+        .or_else(|| first_output_fault(plan))
+}
+
+/// Plan evaluation: writes the bits of the v wires that the outputs name to `result`.
+///
+/// Entries past v are unchanged, and a refusal changes none. Checks: plan faults, 12, 11.
+pub fn evaluate(plan: &Plan, row: &[u8], result: &mut [u8]) -> Result<(), Fault> {
+    if let Some(fault) = fault(plan) {
+        return Err(fault);
+    }
+    if !is_row(row, plan.inputs.into()) {
+        return Err(Fault::Contact);
+    }
+    if result.len() < usize::from(plan.output_count) {
+        return Err(Fault::Short);
+    }
+    let bits = wire_bits(plan, row);
+    for (entry, &wire) in result.iter_mut().zip(used_outputs(plan)) {
+        *entry = bits[usize::from(wire)];
+    }
+    Ok(())
+}
+
+/// A plan file and the place of its next field.
+struct Reader<'a> {
+    file: &'a [u8],
+    at: usize,
+}
+
+impl Reader<'_> {
+    /// The next field, of `N` bytes; 5 if the file ends inside or before it.
+    fn field<const N: usize>(&mut self) -> Result<[u8; N], Refusal> {
+        match self.file[self.at..].first_chunk::<N>() {
+            Some(&bytes) => {
+                self.at += N;
+                Ok(bytes)
+            }
+            None => Err(refusal(Fault::Cut, self.at)),
+        }
+    }
+
+    /// A field of one byte; `fault` at its place if it is above `most`.
+    fn byte(&mut self, most: u16, fault: Fault) -> Result<u16, Refusal> {
+        let at = self.at;
+        let [byte] = self.field()?;
+        let byte = u16::from(byte);
+        if byte > most {
+            return Err(refusal(fault, at));
+        }
+        Ok(byte)
+    }
+
+    /// A field of two bytes, low byte first; `fault` at its place if it is not a `good` one.
+    fn number(&mut self, good: impl Fn(u16) -> bool, fault: Fault) -> Result<u16, Refusal> {
+        let at = self.at;
+        let number = u16::from_le_bytes(self.field()?);
+        if !good(number) {
+            return Err(refusal(fault, at));
+        }
+        Ok(number)
+    }
+
+    /// One of u, k and v.
+    fn count(&mut self, most: usize, fault: Fault) -> Result<u16, Refusal> {
+        self.number(|count| is_count(count.into(), most), fault)
+    }
+
+    /// The gate whose wire is `own`: its map byte, then the fields whose map bit stands.
+    fn gate(&mut self, own: u16) -> Result<Gate, Refusal> {
+        let map = self.byte(LAST_MAP, Fault::Map)?;
+        let stands = |bit: u8| map >> bit & 1 == 1;
+        let first = if stands(0) {
+            self.operand(own)?
+        } else {
+            own - 1
+        };
+        let second = if stands(1) { self.operand(own)? } else { first };
+        let table = if stands(2) {
+            self.byte(LAST_TABLE, Fault::Table)?
+        } else {
+            ABSENT_TABLE
+        };
+        Ok(Gate {
+            first,
+            second,
+            table,
+        })
+    }
+
+    /// An operand of the gate whose wire is `own`.
+    fn operand(&mut self, own: u16) -> Result<u16, Refusal> {
+        self.number(|wire| is_operand(wire, own), Fault::Operand)
+    }
+
+    /// An output wire of a plan whose counts are read.
+    fn output(&mut self, plan: &Plan) -> Result<u16, Refusal> {
+        self.number(|wire| is_gate_wire(wire, plan), Fault::Source)
+    }
+
+    /// The end of the file.
+    fn end(&self) -> Result<(), Refusal> {
+        if self.at < self.file.len() {
+            return Err(refusal(Fault::Tail, self.at));
+        }
+        Ok(())
+    }
+}
+
+fn refusal(fault: Fault, at: usize) -> Refusal {
+    Refusal {
+        fault,
+        at: at as u64,
+    }
+}
+
+pub fn is_count(count: usize, most: usize) -> bool {
+    (1..=most).contains(&count)
+}
+
+/// An operand is a wire below the gate's own.
+fn is_operand(wire: u16, own: u16) -> bool {
+    (1..own).contains(&wire)
+}
+
+/// An output names a gate wire, u + 1 to u + k.
+fn is_gate_wire(wire: u16, plan: &Plan) -> bool {
+    (plan.inputs + 1..=plan.inputs + plan.gate_count).contains(&wire)
+}
+
+/// A row of input contacts is u entries, each 0 or 1.
+pub fn is_row(row: &[u8], inputs: usize) -> bool {
+    row.len() == inputs && row.iter().all(|&entry| entry <= 1)
+}
+
+/// 2, 3 or 4.
+fn count_fault(plan: &Plan) -> Option<Fault> {
+    [
+        (plan.inputs, Plan::MAX_INPUTS, Fault::Inputs),
+        (plan.gate_count, Plan::MAX_GATES, Fault::Gates),
+        (plan.output_count, Plan::MAX_OUTPUTS, Fault::Outputs),
+    ]
+    .into_iter()
+    .find(|&(count, most, _)| !is_count(count.into(), most))
+    .map(|(_, _, fault)| fault)
+}
+
+/// 7 or 8, whichever comes first over the gates of a plan whose counts are good.
+fn first_gate_fault(plan: &Plan) -> Option<Fault> {
+    (plan.inputs + 1..)
+        .zip(used_gates(plan))
+        .find_map(|(own, gate)| gate_fault(gate, own))
+}
+
+/// 7 for both operands, then 8.
+fn gate_fault(gate: &Gate, own: u16) -> Option<Fault> {
+    if !is_operand(gate.first, own) || !is_operand(gate.second, own) {
+        Some(Fault::Operand)
+    } else if gate.table > LAST_TABLE {
+        Some(Fault::Table)
+    } else {
+        None
+    }
+}
+
+/// 9, of a plan whose counts are good.
+fn first_output_fault(plan: &Plan) -> Option<Fault> {
+    used_outputs(plan)
+        .iter()
+        .find(|&&wire| !is_gate_wire(wire, plan))
+        .map(|_| Fault::Source)
+}
+
+pub fn used_gates(plan: &Plan) -> &[Gate] {
+    &plan.gates[..usize::from(plan.gate_count)]
+}
+
+pub fn used_outputs(plan: &Plan) -> &[u16] {
+    &plan.outputs[..usize::from(plan.output_count)]
+}
+
+/// The bit of every plan wire, at the wire's number; place 0 is no wire's.
+fn wire_bits(plan: &Plan, row: &[u8]) -> [u8; WIRES] {
+    let mut bits = [0; WIRES];
+    let first_gate = 1 + row.len();
+    bits[1..first_gate].copy_from_slice(row);
+    for (wire, gate) in (first_gate..).zip(used_gates(plan)) {
+        let a = bits[usize::from(gate.first)];
+        let b = bits[usize::from(gate.second)];
+        bits[wire] = gate_bit(gate.table, a, b);
+    }
+    bits
+}
+
+/// A gate's bit from its table and its operands' bits.
+pub fn gate_bit(table: u16, a: u8, b: u8) -> u8 {
+    (table >> (2 * a + b) & 1) as u8
+}
+
+#[cfg(test)]
+mod tests {
+    use super::*;
+
+    const NOT: [u8; 10] = [1, 0, 1, 0, 1, 0, 4, 1, 2, 0];
+    const EXAMPLE: [u8; 17] = [2, 0, 2, 0, 1, 0, 3, 1, 0, 2, 0, 6, 1, 0, 6, 4, 0];
+
+    fn header(inputs: u16, gates: u16, outputs: u16) -> Vec<u8> {
+        [inputs, gates, outputs]
+            .iter()
+            .flat_map(|count| count.to_le_bytes())
+            .collect()
+    }
+
+    /// The file's refusal as number and offset.
+    fn refused(file: &[u8]) -> (u32, u64) {
+        let refusal = read(file).expect_err("the file is no plan");
+        (refusal.fault.number(), refusal.at)
+    }
+
+    fn outputs(file: &[u8], row: &[u8]) -> Vec<u8> {
+        let plan = read(file).expect("the file is a plan");
+        let mut result = vec![9; usize::from(plan.output_count) + 1];
+        evaluate(&plan, row, &mut result).expect("the row is good");
+        assert_eq!(result.pop(), Some(9));
+        result
+    }
+
+    /// A header that passes is a file cut before its first map byte.
+    #[test]
+    fn header_figures() {
+        let passes = (5, 6);
+        assert_eq!(refused(&header(0, 1, 1)), (2, 0));
+        assert_eq!(refused(&header(64, 1, 1)), passes);
+        assert_eq!(refused(&header(65, 1, 1)), (2, 0));
+        assert_eq!(refused(&header(1, 256, 1)), passes);
+        assert_eq!(refused(&header(1, 257, 1)), (3, 2));
+        assert_eq!(refused(&header(1, 1, 64)), passes);
+        assert_eq!(refused(&header(1, 1, 65)), (4, 4));
+        assert_eq!(refused(&header(1, 1, 1)[..5]), (1, 0));
+    }
+
+    #[test]
+    fn map_figures() {
+        let with_map = |map| [header(1, 1, 1), vec![map]].concat();
+        assert_eq!(refused(&with_map(7)), (5, 7));
+        assert_eq!(refused(&with_map(8)), (6, 6));
+    }
+
+    #[test]
+    fn header_faults_come_in_order() {
+        assert_eq!(refused(&header(0, 0, 0)), (2, 0));
+        assert_eq!(refused(&header(1, 0, 0)), (3, 2));
+        assert_eq!(refused(&header(1, 1, 0)), (4, 4));
+    }
+
+    #[test]
+    fn a_cut_field_is_refused_at_its_first_byte() {
+        let starts = [6, 7, 7, 9, 9, 11, 12, 12, 14, 15, 15];
+        for (end, start) in (6..EXAMPLE.len()).zip(starts) {
+            assert_eq!(refused(&EXAMPLE[..end]), (5, start), "{end} bytes");
+        }
+    }
+
+    #[test]
+    fn a_longer_file_has_a_tail() {
+        let longer = [&NOT[..], &[0, 0]].concat();
+        assert_eq!(refused(&longer), (10, 10));
+    }
+
+    #[test]
+    fn a_field_is_refused_where_it_begins() {
+        let changed = |at: usize, value: u8| {
+            let mut file = EXAMPLE;
+            file[at] = value;
+            refused(&file)
+        };
+        assert_eq!(changed(7, 0), (7, 7));
+        assert_eq!(changed(7, 3), (7, 7));
+        assert_eq!(changed(9, 3), (7, 9));
+        assert_eq!(changed(10, 1), (7, 9));
+        assert_eq!(changed(12, 4), (7, 12));
+        assert_eq!(changed(14, 16), (8, 14));
+        assert_eq!(changed(15, 2), (9, 15));
+        assert_eq!(changed(15, 5), (9, 15));
+    }
+
+    #[test]
+    fn absent_fields_take_their_defaults() {
+        let file = [header(2, 2, 1), vec![0, 1, 1, 0, 4, 0]].concat();
+        let plan = read(&file).expect("the file is a plan");
+        let gate = |first, second| Gate {
+            first,
+            second,
+            table: 8,
+        };
+        assert_eq!(plan.gates[..2], [gate(2, 2), gate(1, 1)]);
+        assert_eq!(plan.gates[2..], [Gate::ZERO; 254]);
+        assert_eq!(plan.outputs[0], 4);
+        assert_eq!(plan.outputs[1..], [0; 63]);
+    }
+
+    #[test]
+    fn not_plan() {
+        assert_eq!(outputs(&NOT, &[0]), [1]);
+        assert_eq!(outputs(&NOT, &[1]), [0]);
+    }
+
+    #[test]
+    fn five_line_example() {
+        let column = [([0, 0], 0), ([1, 0], 1), ([0, 1], 0), ([1, 1], 0)];
+        for (row, output) in column {
+            assert_eq!(outputs(&EXAMPLE, &row), [output], "row {row:?}");
+        }
+    }
+
+    #[test]
+    fn plan_faults_come_in_order() {
+        let good = read(&EXAMPLE).expect("the file is a plan");
+        let mut plan = good;
+        assert_eq!(fault(&plan), None);
+        plan.outputs[0] = 2;
+        assert_eq!(fault(&plan), Some(Fault::Source));
+        plan.gates[1].second = 4;
+        assert_eq!(fault(&plan), Some(Fault::Operand));
+        plan.gates[0].table = 16;
+        assert_eq!(fault(&plan), Some(Fault::Table));
+        plan.gates[0].second = 0;
+        assert_eq!(fault(&plan), Some(Fault::Operand));
+        plan.output_count = 65;
+        assert_eq!(fault(&plan), Some(Fault::Outputs));
+        plan.gate_count = 257;
+        assert_eq!(fault(&plan), Some(Fault::Gates));
+        plan.inputs = 0;
+        assert_eq!(fault(&plan), Some(Fault::Inputs));
+    }
+
+    #[test]
+    fn unused_places_have_no_fault() {
+        let mut plan = read(&EXAMPLE).expect("the file is a plan");
+        plan.gates[2].table = 99;
+        plan.outputs[1] = 0;
+        assert_eq!(fault(&plan), None);
+    }
+
+    #[test]
+    fn evaluation_checks_plan_then_row_then_buffer() {
+        let mut plan = read(&EXAMPLE).expect("the file is a plan");
+        let mut result = [9];
+        assert_eq!(evaluate(&plan, &[0, 1], &mut []), Err(Fault::Short));
+        assert_eq!(evaluate(&plan, &[0], &mut []), Err(Fault::Contact));
+        for row in [&[][..], &[0], &[0, 2], &[255, 0], &[0, 0, 0]] {
+            assert_eq!(evaluate(&plan, row, &mut result), Err(Fault::Contact));
+        }
+        plan.outputs[0] = 5;
+        assert_eq!(evaluate(&plan, &[0], &mut []), Err(Fault::Source));
+        assert_eq!(result, [9]);
+    }
+}

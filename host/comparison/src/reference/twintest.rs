@@ -1,0 +1,59 @@
+//! What the program `twintest` prints for a file.
+
+use std::fmt::Write;
+
+use mukdalis::{Fault, Plan, Refusal};
+
+use super::{fabric, plan, program, run};
+
+/// The most gates of a plan that is shown.
+pub const SHOWN_GATES: u16 = 64;
+
+/// The most inputs whose every row is shown; those past it stay 0.
+const SHOWN_INPUTS: u16 = 6;
+
+/// The answer to an accepted plan of more than `SHOWN_GATES` gates.
+const TOO_MANY_GATES: Refusal = Refusal {
+    fault: Fault::Short,
+    at: 0,
+};
+
+/// All that is printed: a refusal alone, or the counts and a line per input row.
+pub fn text(file: &[u8]) -> String {
+    match plan::read(file) {
+        Err(refusal) => format!("{refusal}\n"),
+        Ok(plan) if plan.gate_count > SHOWN_GATES => format!("{TOO_MANY_GATES}\n"),
+        Ok(plan) => show(&plan).expect("an accepted plan has a fabric and a program"),
+    }
+}
+
+/// The counts, then for each row its inputs, the plan's outputs and the fabric's.
+fn show(plan: &Plan) -> Result<String, Fault> {
+    let counts = [plan.inputs, plan.gate_count, plan.output_count];
+    let [u, k, v] = counts.map(u32::from);
+    let size = fabric::count(u, k, v)?;
+    let mut table = vec![0; 3 + 3 * size.rows as usize + v as usize];
+    fabric::write(u, k, v, &mut table)?;
+    let mut bits = vec![0; size.bits.div_ceil(8) as usize];
+    program::write(plan, &mut bits)?;
+
+    let (rows, wires) = (size.rows, size.wires);
+    let mut text = format!(
+        "u {u} k {k} v {v} rows {rows} wires {wires} bits {}\n",
+        size.bits
+    );
+    let mut work = vec![0; wires as usize];
+    let (mut by_plan, mut by_fabric) = (vec![0; v as usize], vec![0; v as usize]);
+    for r in 0..1u64 << plan.inputs.min(SHOWN_INPUTS) {
+        let row: Vec<u8> = (0..u).map(|i| (r >> i & 1) as u8).collect();
+        plan::evaluate(plan, &row, &mut by_plan)?;
+        run::run(&table, &bits, &row, &mut work, &mut by_fabric)?;
+        let [row, by_plan, by_fabric] = [&row, &by_plan, &by_fabric].map(|bits| digits(bits));
+        let _ = writeln!(text, "{row} {by_plan} {by_fabric}");
+    }
+    Ok(text)
+}
+
+fn digits(bits: &[u8]) -> String {
+    bits.iter().map(|bit| bit.to_string()).collect()
+}

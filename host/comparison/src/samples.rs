@@ -1,0 +1,234 @@
+//! Random accepted plans and their files, calls of the block library, and fabric tables, from which
+//! the comparisons make their cases.
+
+pub mod blocks;
+pub mod fabric;
+pub mod permutation;
+pub mod plans;
+pub mod selection;
+pub mod twintest;
+
+use mukdalis::{Gate, Plan};
+
+use crate::random::Random;
+
+/// Bytes of the longest plan file.
+pub const LONGEST_FILE: usize = 1670;
+
+/// The table of AND, which an absent table means.
+const AND: u16 = 8;
+
+/// Counts at and beside their limits, and some whose low byte alone would be in range.
+pub const LIMIT_COUNTS: [u16; 13] = [
+    0, 1, 2, 63, 64, 65, 255, 256, 257, 0x0140, 0x0201, 0x4000, 0xffff,
+];
+
+/// A plan's numbers of inputs, gates and outputs: u, k, v.
+#[derive(Clone, Copy)]
+pub struct Counts(pub u16, pub u16, pub u16);
+
+impl Counts {
+    pub const LEAST: Counts = Counts(1, 1, 1);
+    pub const MOST: Counts = Counts(
+        Plan::MAX_INPUTS as u16,
+        Plan::MAX_GATES as u16,
+        Plan::MAX_OUTPUTS as u16,
+    );
+
+    /// Counts in range, most of them small, many at a limit or beside it.
+    pub fn random(random: &mut Random) -> Counts {
+        let Counts(u, k, v) = Counts::MOST;
+        let mut count = |most: u16| match random.between(1, 5) {
+            1 => random.choose(&[1, 2, most - 1, most]),
+            2 => random.between(1, most),
+            _ => random.between(1, 8),
+        };
+        Counts(count(u), count(k), count(v))
+    }
+
+    /// Counts of up to a few, for plans of which every byte is tried.
+    pub fn small(random: &mut Random) -> Counts {
+        let mut count = |most| random.between(1, most);
+        Counts(count(4), count(5), count(3))
+    }
+}
+
+/// A random accepted plan. Many operands and tables are what an absent field means.
+pub fn accepted_plan(random: &mut Random, Counts(u, k, v): Counts) -> Plan {
+    let mut plan = Plan {
+        inputs: u,
+        gate_count: k,
+        output_count: v,
+        ..Plan::ZERO
+    };
+    for (own, gate) in (u + 1..=u + k).zip(&mut plan.gates) {
+        *gate = accepted_gate(random, own);
+    }
+    for output in &mut plan.outputs[..usize::from(v)] {
+        *output = random.between(u + 1, u + k);
+    }
+    plan
+}
+
+fn accepted_gate(random: &mut Random, own: u16) -> Gate {
+    let first = random.between(1, own - 1);
+    let first = random.choose(&[first, first, own - 1]);
+    let second = random.between(1, own - 1);
+    let second = random.choose(&[second, second, first]);
+    let table = random.between(0, 15);
+    let table = random.choose(&[table, table, AND]);
+    Gate {
+        first,
+        second,
+        table,
+    }
+}
+
+/// Fills the unused places of a plan whose counts are in range with anything.
+pub fn fill_unused(random: &mut Random, plan: &mut Plan) {
+    for gate in &mut plan.gates[usize::from(plan.gate_count)..] {
+        gate.first = random.word() as u16;
+        gate.second = random.word() as u16;
+        gate.table = random.word() as u16;
+    }
+    for output in &mut plan.outputs[usize::from(plan.output_count)..] {
+        *output = random.word() as u16;
+    }
+}
+
+/// Which fields stand in a file although they equal their defaults.
+#[derive(Clone, Copy)]
+pub enum Standing {
+    None,
+    Some,
+    All,
+}
+
+impl Standing {
+    pub const ALL: [Standing; 3] = [Standing::None, Standing::Some, Standing::All];
+
+    fn decide(self, random: &mut Random) -> bool {
+        match self {
+            Standing::None => false,
+            Standing::Some => random.one_in(2),
+            Standing::All => true,
+        }
+    }
+}
+
+/// The file of a random accepted plan, with any fields standing.
+pub fn accepted_file(random: &mut Random, counts: Counts) -> PlanFile {
+    let plan = accepted_plan(random, counts);
+    let standing = random.choose(&Standing::ALL);
+    PlanFile::new(random, &plan, standing)
+}
+
+/// A field of a plan file, with what decides whether a value of it is good.
+#[derive(Clone, Copy)]
+pub enum Field {
+    Count { most: u16 },
+    Map,
+    Operand { own: u16 },
+    Table,
+    Output { first: u16, last: u16 },
+}
+
+impl Field {
+    /// Values at and beside the field's limits.
+    pub fn limits(self) -> Vec<u16> {
+        match self {
+            Field::Count { most } => vec![0, 1, most, most + 1, 256, u16::MAX],
+            Field::Map => vec![0, 7, 8, 16, 128, 255],
+            Field::Operand { own } => vec![0, 1, own - 1, own, own + 1, 256, u16::MAX],
+            Field::Table => vec![0, 15, 16, 128, 255],
+            Field::Output { first, last } => {
+                vec![0, first - 1, first, last, last + 1, last + 256, u16::MAX]
+            }
+        }
+    }
+
+    /// Whether the field has two bytes.
+    fn is_number(self) -> bool {
+        !matches!(self, Field::Map | Field::Table)
+    }
+}
+
+/// A plan file with the place of each of its fields.
+#[derive(Clone, Default)]
+pub struct PlanFile {
+    pub bytes: Vec<u8>,
+    pub fields: Vec<(usize, Field)>,
+}
+
+impl PlanFile {
+    /// The file of an accepted plan: every field that differs from its default stands, and of
+    /// the others those that `standing` adds.
+    pub fn new(random: &mut Random, plan: &Plan, standing: Standing) -> PlanFile {
+        let Counts(most_inputs, most_gates, most_outputs) = Counts::MOST;
+        let (u, k, v) = (plan.inputs, plan.gate_count, plan.output_count);
+        let mut file = PlanFile::default();
+        file.put(Field::Count { most: most_inputs }, u);
+        file.put(Field::Count { most: most_gates }, k);
+        file.put(Field::Count { most: most_outputs }, v);
+        for (own, gate) in (u + 1..=u + k).zip(&plan.gates) {
+            file.put_gate(random, gate, own, standing);
+        }
+        for &output in &plan.outputs[..usize::from(v)] {
+            let (first, last) = (u + 1, u + k);
+            file.put(Field::Output { first, last }, output);
+        }
+        file
+    }
+
+    /// The file with one field set to another value.
+    pub fn with_field(&self, (at, field): (usize, Field), value: u16) -> PlanFile {
+        let mut file = self.clone();
+        let [low, high] = value.to_le_bytes();
+        file.bytes[at] = low;
+        if field.is_number() {
+            file.bytes[at + 1] = high;
+        }
+        file
+    }
+
+    fn put_gate(&mut self, random: &mut Random, gate: &Gate, own: u16, standing: Standing) {
+        let mut stands = |differs: bool| differs || standing.decide(random);
+        let first = stands(gate.first != own - 1);
+        let second = stands(gate.second != gate.first);
+        let table = stands(gate.table != AND);
+        let map = u16::from(first) | u16::from(second) << 1 | u16::from(table) << 2;
+        self.put(Field::Map, map);
+        if first {
+            self.put(Field::Operand { own }, gate.first);
+        }
+        if second {
+            self.put(Field::Operand { own }, gate.second);
+        }
+        if table {
+            self.put(Field::Table, gate.table);
+        }
+    }
+
+    fn put(&mut self, field: Field, value: u16) {
+        self.fields.push((self.bytes.len(), field));
+        let [low, high] = value.to_le_bytes();
+        self.bytes.push(low);
+        if field.is_number() {
+            self.bytes.push(high);
+        }
+    }
+}
+
+#[cfg(test)]
+mod tests {
+    use super::*;
+
+    #[test]
+    fn the_longest_file_has_every_field_of_the_most_gates_and_outputs() {
+        let mut random = Random::new(1);
+        let plan = accepted_plan(&mut random, Counts::MOST);
+        let file = PlanFile::new(&mut random, &plan, Standing::All);
+        assert_eq!(file.bytes.len(), LONGEST_FILE);
+        assert_eq!(crate::reference::plan::read(&file.bytes), Ok(plan));
+    }
+}

@@ -1,0 +1,183 @@
+//! Files for the program `twintest`: the stored ones with their texts, and random ones by kind.
+
+use std::fs;
+use std::io;
+use std::path::Path;
+
+use mukdalis::Plan;
+
+use super::plans::{shaped_plan, PlanShape};
+use super::{accepted_file, accepted_plan, Counts, PlanFile, Standing, LONGEST_FILE};
+use crate::random::Random;
+use crate::reference::twintest::SHOWN_GATES;
+
+/// A stored file and all that the program prints for it.
+pub struct Stored {
+    pub name: String,
+    pub file: Vec<u8>,
+    pub text: String,
+}
+
+/// The stored pairs of `tests/twintest`, by name: NAME.plan and NAME.txt.
+pub fn stored() -> io::Result<Vec<Stored>> {
+    let folder = Path::new(env!("CARGO_MANIFEST_DIR")).join("tests/twintest");
+    let mut pairs = Vec::new();
+    for entry in fs::read_dir(folder)? {
+        let path = entry?.path();
+        if path
+            .extension()
+            .is_some_and(|extension| extension == "plan")
+        {
+            pairs.push(Stored {
+                name: path.file_stem().unwrap_or_default().display().to_string(),
+                file: fs::read(&path)?,
+                text: fs::read_to_string(path.with_extension("txt"))?,
+            });
+        }
+    }
+    pairs.sort_by(|one, other| one.name.cmp(&other.name));
+    Ok(pairs)
+}
+
+/// Files of one kind.
+pub struct Kind {
+    pub name: &'static str,
+    pub files: Vec<Vec<u8>>,
+}
+
+/// The random files, the same ones for the same numbers.
+pub fn random_files(random: &mut Random) -> Vec<Kind> {
+    let mut kind = |name, files: fn(&mut Random) -> Vec<Vec<u8>>| Kind {
+        name,
+        files: files(random),
+    };
+    vec![
+        kind("plans of every shape, every K", every_shape),
+        kind("plans of every k that is shown", every_gate_count),
+        kind("plans of counts at their corners", corners),
+        kind("plans of more gates", more_gates),
+        kind("one field at its limits", fields_at_limits),
+        kind("cut files", cut_files),
+        kind("bytes after the end", longer_files),
+        kind("random bytes", random_bytes),
+    ]
+}
+
+/// The file of a plan with any fields standing.
+fn file_of(random: &mut Random, plan: &Plan) -> Vec<u8> {
+    let standing = random.choose(&Standing::ALL);
+    PlanFile::new(random, plan, standing).bytes
+}
+
+fn every_shape(random: &mut Random) -> Vec<Vec<u8>> {
+    let mut files = Vec::new();
+    for size in [1, 2, 4, 8, 16, 32, SHOWN_GATES] {
+        for shape in PlanShape::ALL {
+            for _ in 0..3 {
+                let Counts(u, _, v) = Counts::random(random);
+                let k = random.between(size / 2 + 1, size);
+                let plan = shaped_plan(random, Counts(u, k, v), shape);
+                files.push(file_of(random, &plan));
+            }
+        }
+    }
+    files
+}
+
+fn every_gate_count(random: &mut Random) -> Vec<Vec<u8>> {
+    let mut file = |k| {
+        let Counts(u, _, v) = Counts::random(random);
+        accepted_file(random, Counts(u, k, v)).bytes
+    };
+    (1..=SHOWN_GATES).map(&mut file).collect()
+}
+
+/// Inputs at and beside the most whose every row is shown, too.
+fn corners(random: &mut Random) -> Vec<Vec<u8>> {
+    let mut files = Vec::new();
+    for u in [1, 5, 6, 7, 63, 64] {
+        for k in [1, 2, SHOWN_GATES - 1, SHOWN_GATES] {
+            for v in [1, 63, 64] {
+                files.push(accepted_file(random, Counts(u, k, v)).bytes);
+            }
+        }
+    }
+    files
+}
+
+/// Plans of too many gates to be shown. In each an output is then damaged: that comes first.
+fn more_gates(random: &mut Random) -> Vec<Vec<u8>> {
+    let mut files = Vec::new();
+    for k in [SHOWN_GATES + 1, 66, 100, 127, 128, 129, 255, 256] {
+        let Counts(u, _, v) = Counts::random(random);
+        let file = accepted_file(random, Counts(u, k, v));
+        let last = file.fields[file.fields.len() - 1];
+        files.push(file.with_field(last, u + k + 1).bytes);
+        files.push(file.bytes);
+    }
+    files
+}
+
+fn fields_at_limits(random: &mut Random) -> Vec<Vec<u8>> {
+    let mut files = Vec::new();
+    for _ in 0..12 {
+        let counts = Counts::small(random);
+        let file = accepted_file(random, counts);
+        for &field in &file.fields {
+            let value = random.choose(&field.1.limits());
+            files.push(file.with_field(field, value).bytes);
+        }
+    }
+    files
+}
+
+/// Small files cut at every byte, and others somewhere.
+fn cut_files(random: &mut Random) -> Vec<Vec<u8>> {
+    let mut files = Vec::new();
+    for _ in 0..3 {
+        let counts = Counts::small(random);
+        let file = accepted_file(random, counts).bytes;
+        files.extend((0..file.len()).map(|end| file[..end].to_vec()));
+    }
+    for _ in 0..30 {
+        let counts = Counts::random(random);
+        let mut file = accepted_file(random, counts).bytes;
+        file.truncate(random.between(0, file.len() as u16 - 1).into());
+        files.push(file);
+    }
+    files
+}
+
+/// Longest plans, and plans with bytes after the last output: up to so many that the length's low
+/// 16 bits are as before.
+fn longer_files(random: &mut Random) -> Vec<Vec<u8>> {
+    let mut files = Vec::new();
+    for _ in 0..5 {
+        let plan = accepted_plan(random, Counts::MOST);
+        let longest = PlanFile::new(random, &plan, Standing::All).bytes;
+        let counts = Counts::small(random);
+        let small = accepted_file(random, counts).bytes;
+        for file in [longest, small] {
+            let to_longest = LONGEST_FILE - file.len();
+            for extra in [0, 1, 2, 300, to_longest, to_longest + 1, 1 << 16] {
+                let tail = random.bytes(extra);
+                files.push([&file[..], &tail].concat());
+            }
+        }
+    }
+    files
+}
+
+/// Random bytes alone, and after a header in range.
+fn random_bytes(random: &mut Random) -> Vec<Vec<u8>> {
+    let mut files = Vec::new();
+    for _ in 0..20 {
+        let len = random.between(0, 2_000);
+        files.push(random.bytes(len.into()));
+        let Counts(u, k, v) = Counts::random(random);
+        let header = [u, k, v].map(u16::to_le_bytes).concat();
+        let body = random.bytes(100).into_iter().map(|byte| byte % 8);
+        files.push(header.into_iter().chain(body).collect());
+    }
+    files
+}

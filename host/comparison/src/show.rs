@@ -1,0 +1,93 @@
+//! Cases and answers as text, for the report of a difference.
+
+use std::fmt::Write;
+
+use mukdalis::{raw, Fault, Gate, Plan};
+
+use crate::samples::blocks::{Programming, Writing};
+use crate::samples::fabric::Run;
+
+pub fn show_number(number: u32) -> String {
+    match Fault::from_number(number) {
+        Some(fault) => format!("{number} {}", fault.word()),
+        None if number == 0 => "0 done".to_string(),
+        None => format!("{number}, which is no refusal"),
+    }
+}
+
+pub fn show_read(read: &raw::Read) -> String {
+    let number = show_number(read.number);
+    format!("{number} at {}, {}", read.at, show_plan(&read.plan))
+}
+
+/// All places of a plan up to the last that is not zero: counts in decimal, the rest in hex.
+pub fn show_plan(plan: &Plan) -> String {
+    let (u, k, v) = (plan.inputs, plan.gate_count, plan.output_count);
+    let mut text = format!("u {u} k {k} v {v} gates");
+    for gate in up_to_last(&plan.gates, &Gate::ZERO) {
+        let _ = write!(text, " {:x}.{:x}.{:x}", gate.first, gate.second, gate.table);
+    }
+    text.push_str(" outputs");
+    for output in up_to_last(&plan.outputs, &0) {
+        let _ = write!(text, " {output:x}");
+    }
+    text
+}
+
+fn up_to_last<'a, T: PartialEq>(places: &'a [T], zero: &T) -> &'a [T] {
+    let used = places.iter().rposition(|place| place != zero);
+    &places[..used.map_or(0, |last| last + 1)]
+}
+
+/// The first place where two plans differ, counted from 0.
+pub fn first_difference(expected: &Plan, found: &Plan) -> String {
+    let counts = |plan: &Plan| (plan.inputs, plan.gate_count, plan.output_count);
+    if counts(expected) != counts(found) {
+        return "the plan's counts".to_string();
+    }
+    if let Some(g) = (0..Plan::MAX_GATES).find(|&g| expected.gates[g] != found.gates[g]) {
+        return format!("the plan's gates[{g}]");
+    }
+    if let Some(j) = (0..Plan::MAX_OUTPUTS).find(|&j| expected.outputs[j] != found.outputs[j]) {
+        return format!("the plan's outputs[{j}]");
+    }
+    "the number or the offset".to_string()
+}
+
+pub fn show_writing(case: &Writing) -> String {
+    let Writing { block, next, .. } = case;
+    format!("{block:?} next {next} inputs {}", show_list(&case.inputs))
+}
+
+pub fn show_programming(case: &Programming) -> String {
+    format!("{:?} wanted {}", case.block, show_list(&case.wanted))
+}
+
+pub fn show_counts([u, k, v]: [u32; 3]) -> String {
+    format!("u {u} k {k} v {v}")
+}
+
+/// A run; of a long table or program only the start.
+pub fn show_run(case: &Run) -> String {
+    let (table, program) = (&case.table, &case.program);
+    format!(
+        "table {} entries {:?}\nprogram {} bytes {:02x?}\nrow {}",
+        table.len(),
+        &table[..table.len().min(300)],
+        program.len(),
+        &program[..program.len().min(100)],
+        hex(&case.row)
+    )
+}
+
+fn show_list(list: &[u16]) -> String {
+    format!("{} entries {list:?}", list.len())
+}
+
+pub fn hex(bytes: &[u8]) -> String {
+    let mut text = format!("{} bytes", bytes.len());
+    for byte in bytes {
+        let _ = write!(text, " {byte:02x}");
+    }
+    text
+}

@@ -1,0 +1,230 @@
+//! The example plans of `plans/`: the library reads each file, evaluates the plan and runs its
+//! fabric, and both give what the plan's rule says. What `plans/README.md` and the worked example
+//! of `README.md` show is what the library gives.
+
+use std::fs;
+use std::path::{Path, PathBuf};
+
+use comparison::random::Random;
+use comparison::reference::twintest::text;
+use mukdalis::{count_fabric, evaluate, program_plan, read, run_fabric, write_fabric, Plan};
+
+/// An example plan: its file, its counts u, k, v, and its rule, the outputs on a row of inputs.
+struct Example {
+    file: &'static str,
+    counts: [u32; 3],
+    rule: fn(&[bool]) -> Vec<bool>,
+}
+
+/// In the order of their names.
+const EXAMPLES: [Example; 5] = [
+    Example {
+        file: "count.plan",
+        counts: [56, 256, 6],
+        rule: |inputs| {
+            let closed = closed(inputs);
+            (0..6).map(|bit| closed >> bit & 1 == 1).collect()
+        },
+    },
+    Example {
+        file: "example.plan",
+        counts: [2, 2, 1],
+        rule: |inputs| vec![inputs[0] && !inputs[1]],
+    },
+    Example {
+        file: "majority.plan",
+        counts: [3, 4, 1],
+        rule: |inputs| vec![closed(inputs) >= 2],
+    },
+    Example {
+        file: "not.plan",
+        counts: [1, 1, 1],
+        rule: |inputs| vec![!inputs[0]],
+    },
+    Example {
+        file: "shed.plan",
+        counts: [6, 17, 4],
+        rule: |inputs| {
+            let n = usize::from(inputs[4]) + 2 * usize::from(inputs[5]);
+            let mut strings = inputs[..4].to_vec();
+            let asked_for = strings.iter_mut().rev().filter(|string| **string);
+            asked_for.take(n).for_each(|string| *string = false);
+            strings
+        },
+    },
+];
+
+fn closed(contacts: &[bool]) -> usize {
+    contacts.iter().filter(|&&contact| contact).count()
+}
+
+/// The most inputs whose every row is tried, those past them open.
+const FEW_INPUTS: u32 = 6;
+
+const SEED: u64 = 0x706c_616e_7300_0001;
+
+fn repository() -> PathBuf {
+    Path::new(env!("CARGO_MANIFEST_DIR")).join("../..")
+}
+
+fn text_of(path: &str) -> String {
+    fs::read_to_string(repository().join(path)).expect(path)
+}
+
+fn file_of(name: &str) -> Vec<u8> {
+    fs::read(repository().join("plans").join(name)).expect(name)
+}
+
+/// A plan with the fabric of its counts and its program, all by the library.
+struct Loaded {
+    plan: Plan,
+    counts: [u32; 3],
+    table: Vec<u16>,
+    program: Vec<u8>,
+    wires: usize,
+}
+
+impl Loaded {
+    fn new(file: &[u8]) -> Loaded {
+        let plan = read(file).expect("the file is a plan");
+        let counts = plan.counts();
+        let [u, k, v] = counts;
+        let size = count_fabric(u, k, v).expect("the counts are in range");
+        let mut table = vec![0; size.table_len(v)];
+        write_fabric(u, k, v, &mut table).expect("the table has room");
+        let mut program = vec![0; size.program_len()];
+        program_plan(&plan, &mut program).expect("the program has room");
+        Loaded {
+            plan,
+            counts,
+            table,
+            program,
+            wires: size.work_len(),
+        }
+    }
+
+    fn evaluated(&self, row: &[u8]) -> Vec<u8> {
+        let mut result = vec![0xa5; self.plan.output_count.into()];
+        evaluate(&self.plan, row, &mut result).expect("the row is accepted");
+        result
+    }
+
+    /// The bits of all wires, and those of the outputs.
+    fn run(&self, row: &[u8]) -> (Vec<u8>, Vec<u8>) {
+        let mut work = vec![0xa5; self.wires];
+        let mut result = vec![0xa5; self.plan.output_count.into()];
+        run_fabric(&self.table, &self.program, row, &mut work, &mut result)
+            .expect("the row is accepted");
+        (work, result)
+    }
+}
+
+/// Every row of few inputs. Of more, every row of the first ones, and 40 random rows for each share
+/// of closed contacts from none to all in eighths.
+fn rows(random: &mut Random, u: u32) -> Vec<Vec<u8>> {
+    let row = |r: u64| (0..u).map(|i| (r >> i & 1) as u8).collect();
+    let mut rows: Vec<Vec<u8>> = (0..1 << u.min(FEW_INPUTS)).map(row).collect();
+    if u > FEW_INPUTS {
+        for share in 0..=8 {
+            let mut contact = || u8::from(random.between(1, 8) <= share);
+            rows.extend((0..40).map(|_| (0..u).map(|_| contact()).collect::<Vec<u8>>()));
+        }
+    }
+    rows
+}
+
+#[test]
+fn every_plan_has_a_rule() {
+    let folder = fs::read_dir(repository().join("plans")).expect("the folder is there");
+    let mut names: Vec<String> = folder
+        .map(|entry| entry.expect("the folder is read").file_name())
+        .map(|name| name.into_string().expect("the name is text"))
+        .filter(|name| name != "README.md")
+        .collect();
+    names.sort();
+    assert_eq!(names, EXAMPLES.map(|example| example.file));
+}
+
+#[test]
+fn plans_and_their_fabrics_follow_the_rules() {
+    let mut random = Random::new(SEED);
+    for example in EXAMPLES {
+        let loaded = Loaded::new(&file_of(example.file));
+        assert_eq!(loaded.counts, example.counts, "{}", example.file);
+        for row in rows(&mut random, loaded.counts[0]) {
+            let inputs: Vec<bool> = row.iter().map(|&bit| bit == 1).collect();
+            let outputs: Vec<u8> = (example.rule)(&inputs).into_iter().map(u8::from).collect();
+            assert_eq!(loaded.evaluated(&row), outputs, "{} {row:?}", example.file);
+            assert_eq!(loaded.run(&row).1, outputs, "{} {row:?}", example.file);
+        }
+    }
+}
+
+/// The file's bytes where they are few, otherwise how many.
+#[test]
+fn the_list_of_plans_shows_their_counts_and_bytes() {
+    let list = text_of("plans/README.md");
+    for example in EXAMPLES {
+        let [u, k, v] = example.counts;
+        let start = format!("| `{}` | {u} | {k} | {v} | ", example.file);
+        let file = file_of(example.file);
+        let bytes = match file.len() {
+            0..=32 => hex(&file),
+            33..=999 => format!("{} bytes", file.len()),
+            long => format!("{},{:03} bytes", long / 1000, long % 1000),
+        };
+        let lines: Vec<&str> = list.lines().filter(|l| l.starts_with(&start)).collect();
+        assert_eq!(lines.len(), 1, "{start}");
+        assert!(lines[0].ends_with(&format!(" | {bytes} |")), "{bytes}");
+    }
+}
+
+fn hex(bytes: &[u8]) -> String {
+    let bytes: Vec<String> = bytes.iter().map(|byte| format!("{byte:02x}")).collect();
+    bytes.join(" ")
+}
+
+fn assert_shows(page: &str, text: &str) {
+    assert!(page.contains(text), "README.md does not show: {text}");
+}
+
+/// The example plan: its bytes, which are the first cells of a table, and twintest's lines.
+#[test]
+fn the_worked_example_shows_the_plan() {
+    let page = text_of("README.md");
+    let file = file_of("example.plan");
+    let fields: Vec<&str> = page.lines().filter_map(bytes_first).collect();
+    assert_eq!(fields.join(" "), hex(&file));
+    let lines: Vec<String> = text(&file).lines().map(|l| format!("    {l}\n")).collect();
+    assert_shows(&page, &lines.concat());
+}
+
+/// The first cell of a table's line if it holds bytes in hex.
+fn bytes_first(line: &str) -> Option<&str> {
+    let cell = line.strip_prefix("| ")?.split(" | ").next()?;
+    let is_byte = |text: &str| text.len() == 2 && u8::from_str_radix(text, 16).is_ok();
+    cell.split(' ').all(is_byte).then_some(cell)
+}
+
+/// NOT in its fabric: the table, the program, and every wire on both rows.
+#[test]
+fn the_worked_example_shows_the_fabric() {
+    let page = text_of("README.md");
+    let not = Loaded::new(&file_of("not.plan"));
+    let (header, rest) = not.table.split_at(3);
+    let (rows, outputs) = rest.split_at(rest.len() - 1);
+    let parts = [header].into_iter().chain(rows.chunks(3)).chain([outputs]);
+    let parts: Vec<String> = parts.map(numbers).collect();
+    assert_shows(&page, &format!("    {}\n", parts.join(" | ")));
+    assert_shows(&page, &format!("hex {}", hex(&not.program)));
+    for input in [0, 1] {
+        let (work, result) = not.run(&[input]);
+        let wires = numbers(&work).replace(' ', " | ");
+        assert_shows(&page, &format!("| {input} | {wires} | {} |\n", result[0]));
+    }
+}
+
+fn numbers<T: ToString>(numbers: &[T]) -> String {
+    let numbers: Vec<String> = numbers.iter().map(ToString::to_string).collect();
+    numbers.join(" ")
+}

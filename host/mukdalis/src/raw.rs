@@ -1,0 +1,100 @@
+//! The library's exports as `include/mukdalis.h` declares them: its records and its calls.
+//!
+//! The functions at the crate's root make these calls safe. The records are public so that a test
+//! can compare their layout with the header's.
+
+use crate::plan::Plan;
+
+/// `struct mkd_read`: number and offset 0 with the plan, or a refusal with the all-zero record.
+#[repr(C)]
+#[derive(Clone, Copy, Debug, PartialEq, Eq)]
+pub struct Read {
+    pub number: u32,
+    pub at: u64,
+    pub plan: Plan,
+}
+
+/// `struct mkd_counts`: number 0 with a fabric's counts, or a refusal with counts 0.
+#[repr(C)]
+#[derive(Clone, Copy, Debug, PartialEq, Eq)]
+pub struct Counts {
+    pub number: u32,
+    pub rows: u32,
+    pub wires: u32,
+    pub bits: u32,
+}
+
+extern "C" {
+    fn mkd_plan_read(file: *const u8, len: usize) -> Read;
+    pub(crate) fn mkd_plan_fault(plan: Plan) -> u32;
+    pub(crate) fn mkd_plan_evaluate(
+        plan: Plan,
+        row: *const u8,
+        row_len: usize,
+        result: *mut u8,
+        result_len: usize,
+    ) -> u32;
+    pub(crate) fn mkd_permutation_write(
+        n: u32,
+        inputs: *const u16,
+        inputs_len: usize,
+        next: u32,
+        rows: *mut u16,
+        rows_len: usize,
+        outputs: *mut u16,
+        outputs_len: usize,
+    ) -> u32;
+    pub(crate) fn mkd_permutation_program(
+        n: u32,
+        wanted: *const u16,
+        wanted_len: usize,
+        program: *mut u8,
+        program_len: usize,
+    ) -> u32;
+    pub(crate) fn mkd_selection_write(
+        m: u32,
+        n: u32,
+        inputs: *const u16,
+        inputs_len: usize,
+        next: u32,
+        rows: *mut u16,
+        rows_len: usize,
+        outputs: *mut u16,
+        outputs_len: usize,
+    ) -> u32;
+    pub(crate) fn mkd_selection_program(
+        m: u32,
+        n: u32,
+        wanted: *const u16,
+        wanted_len: usize,
+        program: *mut u8,
+        program_len: usize,
+    ) -> u32;
+    fn mkd_count(u: u32, k: u32, v: u32) -> Counts;
+    pub(crate) fn mkd_fabric(u: u32, k: u32, v: u32, table: *mut u16, table_len: usize) -> u32;
+    pub(crate) fn mkd_program(plan: Plan, program: *mut u8, program_len: usize) -> u32;
+    pub(crate) fn mkd_run(
+        table: *const u16,
+        table_len: usize,
+        program: *const u8,
+        program_len: usize,
+        row: *const u8,
+        row_len: usize,
+        work: *mut u8,
+        work_len: usize,
+        result: *mut u8,
+        result_len: usize,
+    ) -> u32;
+}
+
+/// `mkd_plan_read` of a whole file.
+pub fn plan_read(file: &[u8]) -> Read {
+    // SAFETY: the pointer and length are a slice's; the call only reads it and keeps no pointer.
+    unsafe { mkd_plan_read(file.as_ptr(), file.len()) }
+}
+
+/// `mkd_count` of three counts.
+pub fn count(u: u32, k: u32, v: u32) -> Counts {
+    // SAFETY: all goes by value, and every value is allowed.
+    unsafe { mkd_count(u, k, v) }
+}
