@@ -2,7 +2,6 @@
 mod rows;
 mod wires;
 
-pub use rows::HEADER;
 pub use rows::put_pairs;
 pub use rows::put_row;
 pub use rows::row_place;

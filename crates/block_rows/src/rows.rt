@@ -10,9 +10,6 @@ use crate::wires::wire_at;
 use elements::FabricWire;
 use elements::Kind;
 
-// The entries of a table before its rows: its numbers of inputs, outputs and rows.
-pub const HEADER: usize = 3;
-
 // The entries of a row: its kind, its left wire, its right wire.
 const STRIDE: usize = 3;
 

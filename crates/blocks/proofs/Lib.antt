@@ -1,3 +1,6 @@
--- What the block library promises, over the calls' own definitions.
-pub mod PermutationPromise
-pub mod SelectionPromise
+-- laws that the door hands on
+pub mod ElementsLaws
+pub mod NetworksLaws
+pub mod CallsLaws
+-- P and S are blocks as promised, and the calls leave such blocks
+pub mod PromisesLaws

@@ -17,19 +17,12 @@ use Rattle.plan.specs.Faults.{Accepted}
 use Rattle.plan_evaluation_checks.specs.EvaluationChecks.{contactFault}
 use Rattle.plan_evaluation.specs.Evaluation.{gateBit, planOutputs, evaluateResult}
 use Rattle.plan_evaluation_checks.proofs.EvaluationChecksLaws.{row-length, row-bit}
-use Rattle.fabric_universal.specs.Fabric.{planProgram, planTable}
-use Rattle.fabric_run.specs.Running.{runWires, runOutputs}
-use Rattle.fabric.proofs.FabricTableLaws.{fabric-runs}
-use Rattle.fabric_rows.specs.FabricCalls.{fabricResult}
-use Rattle.fabric_rows.proofs.FabricWriteLaws.{fabric-written-read}
-use Rattle.fabric_sizes.specs.FabricChecks.{programLength}
-use Rattle.fabric_bits.specs.ProgramCalls.{planProgramResult}
-use Rattle.fabric_bits.proofs.PlanProgramLaws.{programmed-read}
-use Rattle.fabric_run_checks.specs.RunFault.{runFault}
-use Rattle.fabric_run.specs.RunCalls.{runWork, runResult}
+use Rattle.fabric.specs.Fabrics.{planProgram, planTable, runWires, runOutputs, fabricResult, programLength, planProgramResult, runFault, runWork, runResult}
+use Rattle.fabric.proofs.FabricTableLaws.{fabric-promise}
+use Rattle.fabric.proofs.FabricsLaws.{fabric-written-read, plan-programmed-read}
 use Rattle.equivalence.specs.ThirdDemand.{planTableLength, planFabricWires, ContactRow, ThirdDemand}
 use Rattle.equivalence.specs.BothCalls.{bothRoomFault, bothFault, bothEvaluated, bothRan, BothPasses}
-use Rattle.equivalence.proofs.ThirdDemandLaws.{fabric-unrefused, third-demand}
+use Rattle.equivalence.proofs.ThirdDemandLaws.{fabric-unrefused, third-demand, counts-pass}
 
 pub both-passes : (p : Plan) (row : List ℕ) (table program work evaluated ran : ℕ) → bothFault p row table program work evaluated ran ≡ 0
     → BothPasses p row table program work evaluated ran
@@ -58,7 +51,7 @@ pub both-same : (p : Plan) (row evaluated ran : List ℕ) → Accepted p → con
     → (j : ℕ) → j < p .«output_count» → getD (bothEvaluated p 0 row evaluated) j 0 ≡ getD (bothRan p 0 row ran) j 0
 both-same p row evaluated ran accepted contact j l =
     let outs = planOutputs 0 gateBit p row in
-    let e : runOutputs (planTable p) (planProgram p) row ≡ outs = fabric-runs p row accepted contact in
+    let e : runOutputs (planTable p) (planProgram p) row ≡ outs = fabric-promise p row accepted (counts-pass p accepted) contact .gives in
     let n : j < length outs = rw (length-listOf (p .«output_count») _) l in
     rw e (List·getD-append outs (drop (length outs) evaluated) 0 j n ∙ sym (List·getD-append outs (drop (length outs) ran) 0 j n))
 
@@ -100,7 +93,7 @@ module _ (p : Plan) (row table program work evaluated ran : List ℕ)
     entries-read = ap₂ take at wrote ∙ fabric-written-read u k v table (demand .fabricates)
 
     bytes-read : take bytes P ≡ planProgram p
-    bytes-read = ap₂ take to programmed ∙ programmed-read p program (demand .programs)
+    bytes-read = ap₂ take to programmed ∙ plan-programmed-read p program (demand .programs)
 
     unrefused : runFault (planTable p) (planProgram p) row (length work) (length ran) ≡ 0
     unrefused = fabric-unrefused p row table program work evaluated ran (passes .accepted) (contact-row u row (passes .contact)) (passes .rooms)

@@ -11,18 +11,11 @@ use Rattle.plan.specs.declared.record.Plan.{Plan}
 use Rattle.plan.specs.Faults.{countsFault, planFault, Accepted}
 use Rattle.plan_evaluation_checks.specs.EvaluationChecks.{contactFault, evaluateFault}
 use Rattle.plan_evaluation.specs.Evaluation.{gateBit, planOutputs, evaluateResult}
-use Rattle.fabric_universal.specs.Fabric.{planProgram, planTable}
-use Rattle.fabric_run.specs.Running.{runOutputs}
-use Rattle.fabric.proofs.FabricTableLaws.{fabric-inputs, fabric-outputs, fabric-wiresIn, fabric-well-formed, program-exact, fabric-runs}
-use Rattle.fabric_sizes.specs.Counting.{tableLength}
-use Rattle.fabric_rows.specs.FabricCalls.{fabricResult}
-use Rattle.fabric_rows.proofs.FabricWriteLaws.{fabric-written-read}
-use Rattle.fabric_sizes.specs.FabricChecks.{fabricFault, planProgramFault}
-use Rattle.fabric_sizes.proofs.FabricChecksLaws.{fabric-succeeds, plan-program-succeeds}
-use Rattle.fabric_bits.proofs.PlanProgramLaws.{programmed-read}
-use Rattle.fabric_run_checks.specs.RunFault.{runFault}
-use Rattle.fabric_run.specs.RunCalls.{runResult}
-use Rattle.equivalence.specs.ThirdDemand.{ContactRow, Rooms, planTableLength, planFabricWires, entriesWritten, bytesWritten, ThirdDemand}
+use Rattle.fabric.specs.Fabrics.{planProgram, planTable, runOutputs, tableLength, fabricResult, fabricFault, planProgramFault, runFault, runResult}
+use Rattle.fabric.proofs.FabricTableLaws.{fabric-promise}
+use Rattle.fabric.proofs.FabricsLaws.{fabric-written-read, fabric-succeeds, plan-program-succeeds, plan-programmed-read}
+use Rattle.equivalence.specs.ThirdDemand.{ContactRow, Rooms, planTableLength, entriesWritten, bytesWritten, ThirdDemand}
+use Rattle.fabric.specs.Promise.{FabricPromise}
 
 -- such a row passes check 12
 pub contacts : {u : ℕ} {row : List ℕ} → ContactRow u row → contactFault u row ≡ 0
@@ -73,22 +66,14 @@ module _ (p : Plan) (row table program work evaluated ran : List ℕ) where
       entries-are = fabric-written-read u k v table fabricates-here
 
       bytes-are : wroteBytes ≡ planProgram p
-      bytes-are = programmed-read p program programs-here
+      bytes-are = plan-programmed-read p program programs-here
+
+      promised : FabricPromise p row
+      promised = fabric-promise p row accepted (counts-pass p accepted) (contacts contact)
 
       -- the run of the fabric's table with the plan's program is not refused
       pub fabric-unrefused : runFault (planTable p) (planProgram p) row (length work) (length ran) ≡ 0
-      unfolding runFault roomFault
-      fabric-unrefused =
-          rw (
-            fabric-well-formed u k v (counts-pass p accepted),
-            program-exact p,
-            fabric-inputs u k v,
-            contacts contact,
-            fabric-wiresIn u k v,
-            fabric-outputs u k v,
-            le-leb (planFabricWires p) (length work) (rooms .workRoom),
-            le-leb v (length ran) (rooms .ranRoom),
-          )
+      fabric-unrefused = promised .runs (length work) (length ran) (rooms .workRoom) (rooms .ranRoom)
 
       runs-here : runFault wroteEntries wroteBytes row (length work) (length ran) ≡ 0
       runs-here = rw (entries-are, bytes-are) fabric-unrefused
@@ -96,7 +81,7 @@ module _ (p : Plan) (row table program work evaluated ran : List ℕ) where
       same-here : (j : ℕ) → j < v → getD (runResult wroteEntries wroteBytes row work ran) j 0 ≡ getD (evaluateResult p row evaluated) j 0
       same-here j l =
           let outs = planOutputs 0 gateBit p row in
-          let e : runOutputs wroteEntries wroteBytes row ≡ outs = rw (entries-are, bytes-are) (fabric-runs p row accepted (contacts contact)) in
+          let e : runOutputs wroteEntries wroteBytes row ≡ outs = rw (entries-are, bytes-are) (promised .gives) in
           let n : j < length outs = rw (length-listOf v _) l in
           rw (runs-here, evaluates-here, e)
           (List·getD-append outs (drop (length outs) ran) 0 j n ∙ sym (List·getD-append outs (drop (length outs) evaluated) 0 j n))

@@ -8,9 +8,7 @@ use Rattle.plan.specs.declared.record.Plan.{Plan}
 use Rattle.plan.specs.Faults.{planFault, Accepted}
 use Rattle.plan_evaluation_checks.specs.EvaluationChecks.{contactFault}
 use Rattle.plan_evaluation.specs.Evaluation.{gateBit, planOutputs}
-use Rattle.fabric_universal.specs.Fabric.{planProgram, planTable}
-use Rattle.fabric_run.specs.Running.{runWires, runOutputs}
-use Rattle.fabric_sizes.specs.FabricChecks.{programLength}
+use Rattle.fabric.specs.Fabrics.{planProgram, planTable, runWires, runOutputs, programLength}
 use mathlib.Core.Path.{_≡_}
 use Rattle.equivalence.specs.declared.both.Lengths.{Lengths}
 use Rattle.equivalence.specs.ThirdDemand.{Rooms, planTableLength, planFabricWires}

@@ -8,13 +8,7 @@ use lib.ListN.{length, getD, take}
 use Rattle.plan.specs.declared.record.Plan.{Plan}
 use Rattle.plan_evaluation_checks.specs.EvaluationChecks.{evaluateFault}
 use Rattle.plan_evaluation.specs.Evaluation.{evaluateResult}
-use Rattle.fabric_universal.specs.Fabric.{fabricWires}
-use Rattle.fabric_sizes.specs.Counting.{tableLength}
-use Rattle.fabric_sizes.specs.FabricChecks.{fabricFault, programLength, planProgramFault}
-use Rattle.fabric_rows.specs.FabricCalls.{fabricResult}
-use Rattle.fabric_bits.specs.ProgramCalls.{planProgramResult}
-use Rattle.fabric_run_checks.specs.RunFault.{runFault}
-use Rattle.fabric_run.specs.RunCalls.{runResult}
+use Rattle.fabric.specs.Fabrics.{fabricWires, tableLength, fabricFault, programLength, planProgramFault, fabricResult, planProgramResult, runFault, runResult}
 
 -- the fabric of the plan's three counts: its table's length, its wires
 abbrev pub planTableLength : Plan → ℕ

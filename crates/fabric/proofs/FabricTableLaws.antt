@@ -16,15 +16,14 @@ use Rattle.plan_evaluation_checks.specs.EvaluationChecks.{contactFault}
 use Rattle.plan_evaluation.specs.Evaluation.{valueOn, planWires, namedBy, planOutputs, tableBit, gateBit}
 use Rattle.plan_evaluation_checks.proofs.EvaluationChecksLaws.{row-length, row-bit}
 use Rattle.plan_evaluation.proofs.EvaluationLaws.{wire-bit}
-use Rattle.block_elements.specs.Rows.{Row, gateBits, flat, run, lineOf, gateOnBits}
-use Rattle.block_elements.specs.Bits.{unpack}
-use Rattle.block_elements.proofs.BitsLaws.{unpack-pack}
+use Rattle.blocks.specs.Elements.{Row, gateBits, flat, run, lineOf, gateOnBits, unpack}
+use Rattle.blocks.proofs.ElementsLaws.{unpack-pack}
 use Rattle.fabric_universal.specs.Universal.{tableProgram}
 use Rattle.fabric_universal.specs.Fabric.{fabricRows, fabricOuts, fabricCount, fabricWires, fabricTakes, fabricTable, planBits, planProgram, planTable}
 use Rattle.fabric_sizes.specs.Layout.{inputsIn, outputsIn, rowsIn, outputWireAt, tableRows, wiresIn, bitsIn}
 use Rattle.elements.specs.Elements.{maxWires}
 use Rattle.fabric_run.specs.Running.{runWires, runOutputs}
-use Rattle.fabric_run_checks.specs.RunFault.{givenProgramFault}
+use Rattle.fabric_run_checks.specs.RunFault.{givenProgramFault, runFault}
 use Rattle.fabric_table_checks.specs.TableFault.{tableFault}
 use Rattle.fabric_table_checks.proofs.TableFaultLaws.{table-faultless}
 use Rattle.fabric_run_checks.proofs.RunFaultLaws.{pack-exact}
@@ -33,6 +32,9 @@ use Rattle.fabric_universal.proofs.PlanValues.{actOf}
 use Rattle.fabric_universal.proofs.FabricLaws.{length-fabricRows, fabric-totals, fabric-wires, length-fabricOuts, fabric-below, fabric-madeBefore}
 use Rattle.fabric_universal.proofs.FabricLaws.{length-planBits, planBits-bits, fabric-within}
 use Rattle.fabric_universal.proofs.FabricRun.{startOf, fabric-computes}
+use Rattle.fabric.specs.Promise.{FabricPromise}
+use Rattle.fault.specs.Checks.{roomFault}
+use borrow.Author.Tests.{le-leb}
 
 -- ---- the table
 
@@ -149,3 +151,26 @@ module _ (p : Plan) where
       ∙ listOf-ext v _ _ (λ j l. rw (fabric-runWires row, fabric-outputAt u k v j))
       ∙ fabric-computes 0 gateOnBits p accepted 0 row [] (row-length u row contacts) .given
       ∙ outputs-bits p row (row-bit u row contacts)
+
+-- ---- the promise
+
+pub fabric-promise : (p : Plan) (row : List ℕ) → Accepted p → countsFault (p .inputs) (p .«gate_count») (p .«output_count») ≡ 0
+    → contactFault (p .inputs) row ≡ 0 → FabricPromise p row
+unfolding runFault roomFault
+fabric-promise p row accepted counts contacts =
+    let u : ℕ = p .inputs in
+    let k : ℕ = p .«gate_count» in
+    let v : ℕ = p .«output_count» in
+    record {
+      runs = λ work result workRoom resultRoom. rw (
+        fabric-well-formed u k v counts,
+        program-exact p,
+        fabric-inputs u k v,
+        contacts,
+        fabric-wiresIn u k v,
+        fabric-outputs u k v,
+        le-leb (fabricWires u k v) work workRoom,
+        le-leb v result resultRoom,
+      );
+      gives = fabric-runs p row accepted contacts;
+    }

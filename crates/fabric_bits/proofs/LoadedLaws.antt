@@ -13,7 +13,7 @@ use Rattle.plan.specs.declared.record.Plan.{Plan}
 use Rattle.plan.specs.Record.{maxGates}
 use Rattle.plan.specs.Faults.{Accepted}
 use Rattle.plan.proofs.FaultsLaws.{accepted-counts}
-use Rattle.block_elements.specs.Rows.{operands, choose}
+use Rattle.blocks.specs.Elements.{operands, choose}
 use Rattle.fabric_universal.specs.Fabric.{planGates}
 use Rattle.fabric_universal.proofs.PlanValues.{padded-spare}
 use Rattle.fabric_sizes.specs.Parts.{maxPins}

@@ -11,11 +11,11 @@ use Rattle.plan.specs.declared.record.Plan.{Plan}
 use Rattle.plan.specs.Record.{maxGates}
 use Rattle.plan.specs.Faults.{Accepted}
 use Rattle.plan.proofs.FaultsLaws.{accepted-counts}
-use Rattle.block_elements.specs.Bits.{storeBits}
-use Rattle.block_elements.proofs.BitsLaws.{storeBits-append}
-use Rattle.block_networks.specs.Selection.{selectionCount, selectionBits}
-use Rattle.block_networks.proofs.SelectionRouting.{length-selectionBits}
-use Rattle.block_selection_bits.proofs.SelectionProgramLaws.{SelectionPasses}
+use Rattle.blocks.specs.Elements.{storeBits}
+use Rattle.blocks.proofs.ElementsLaws.{storeBits-append}
+use Rattle.blocks.specs.Networks.{selectionCount, selectionBits}
+use Rattle.blocks.proofs.NetworksLaws.{length-selectionBits}
+use Rattle.blocks.specs.Calls.{SelectionPasses}
 use Rattle.fabric_universal.specs.Selector.{pinCount, selection}
 use Rattle.fabric_universal.proofs.SelectorLaws.{selection-shape}
 use Rattle.fabric_universal.specs.Universal.{universalTakes, universalBits}

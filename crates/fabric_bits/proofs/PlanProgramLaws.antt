@@ -12,9 +12,9 @@ use Rattle.fabric_sizes.specs.FabricChecks.{programLength, planProgramFault}
 use Rattle.fabric_bits.specs.ProgramCalls.{planProgramResult}
 
 -- the program begins with the plan's
-pub programmed-read : (p : Plan) (program : List ℕ) → planProgramFault p (length program) ≡ 0
+pub plan-programmed-read : (p : Plan) (program : List ℕ) → planProgramFault p (length program) ≡ 0
     → take (programLength p) (planProgramResult p program) ≡ planProgram p
-programmed-read p program e =
+plan-programmed-read p program e =
     rw e (take-at (planProgram p) (drop (length (planProgram p)) program) (programLength p) (length-planProgram p))
 
 -- plans that agree on their counts and used places get the same answer and program

@@ -7,15 +7,13 @@ use native.Mathlib.Omega.{arith}
 use lib.ListN.{length, take, length-append}
 use Rattle.lists.proofs.ListsLaws.{listOf-ext}
 use Rattle.plan.specs.Record.{maxGates}
-use Rattle.block_elements.specs.Rows.{operands, gateBits}
-use Rattle.block_elements.specs.Bits.{storeBits}
-use Rattle.block_elements.proofs.BitsLaws.{storeBits-append}
+use Rattle.blocks.specs.Elements.{operands, gateBits, storeBits}
+use Rattle.blocks.proofs.ElementsLaws.{storeBits-append}
 use Rattle.lists.specs.Counting.{oneIf}
-use Rattle.block_networks.specs.Selection.{selectionCount, selectionBits}
-use Rattle.block_networks.proofs.SelectionRouting.{length-selectionBits}
-use Rattle.block_selection_bits.specs.ProgramCalls.{selectionProgramAtResult}
-use Rattle.block_selection_bits.proofs.SelectionProgramLaws.{SelectionPasses, selection-program-at-succeeds}
-use Rattle.block_program_checks.proofs.BitsLaws.{stored-done}
+use Rattle.blocks.specs.Networks.{selectionCount, selectionBits}
+use Rattle.blocks.proofs.NetworksLaws.{length-selectionBits}
+use Rattle.blocks.specs.Calls.{selectionProgramAtResult, SelectionPasses}
+use Rattle.blocks.proofs.CallsLaws.{selection-program-at-succeeds, stored-done}
 use Rattle.fabric_universal.specs.Selector.{pinCount, selection}
 use Rattle.fabric_universal.proofs.SelectorLaws.{double, selection-shape}
 use Rattle.fabric_universal.specs.Universal.{Gates, universalTakes, tableProgram, isOf, wantedGate, wantedGates, mixBits, universalBits}

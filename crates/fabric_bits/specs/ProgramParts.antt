@@ -6,9 +6,9 @@ use lib.ListN.{length}
 use Rattle.lists.specs.Lists.{listOf}
 use Rattle.plan.specs.declared.record.Plan.{Plan}
 use Rattle.plan.specs.Record.{maxGates}
-use Rattle.block_elements.specs.Rows.{operands}
-use Rattle.block_networks.specs.Selection.{selectionCount, selectionBits}
-use Rattle.block_selection_bits.proofs.SelectionProgramLaws.{SelectionPasses}
+use Rattle.blocks.specs.Elements.{operands}
+use Rattle.blocks.specs.Networks.{selectionCount, selectionBits}
+use Rattle.blocks.specs.Calls.{SelectionPasses}
 use Rattle.fabric_universal.specs.Selector.{pinCount, selection}
 use Rattle.fabric_universal.specs.Universal.{Gates, universalTakes, wantedGates, mixBits, universalBits}
 use Rattle.fabric_universal.specs.Fabric.{gateLevel, planGates}

@@ -13,7 +13,7 @@ use Rattle.lists.proofs.ListsLaws.{length-listOf, getD-listOf}
 use Rattle.fault.specs.Buffers.{over}
 use Rattle.plan.specs.declared.record.Plan.{Plan}
 use Rattle.plan.specs.Record.{maxOutputs}
-use Rattle.block_elements.specs.Rows.{operands}
+use Rattle.blocks.specs.Elements.{operands}
 use Rattle.fabric_universal.specs.Universal.{Gates, isOf, wantedGate, wantedGates}
 use Rattle.fabric_universal.specs.Fabric.{wantedOutputs}
 use Rattle.fabric_lists.specs.WantedLists.{inputsWanted, isAmong, wantedAmong}

@@ -7,7 +7,7 @@ use Rattle.lists.specs.Lists.{listOf}
 use Rattle.fault.specs.Buffers.{over}
 use Rattle.plan.specs.declared.record.Plan.{Plan}
 use Rattle.plan.specs.Record.{maxGates}
-use Rattle.block_elements.specs.Rows.{operands}
+use Rattle.blocks.specs.Elements.{operands}
 use Rattle.fabric_universal.specs.Fabric.{planGates}
 
 -- how many of k gates the record and lists of so many pins and tables have places for

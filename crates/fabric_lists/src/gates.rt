@@ -1,10 +1,10 @@
 // The plan's gates as a list of operands, pin by pin, and a list of tables; and the bits of a table. Gates and pins count from 0.
 ghost use mathlib.Core.Path.{_≡_};
-ghost use Rattle.block_elements.specs.Bits.{storeBits};
+ghost use Rattle.blocks.specs.Elements.{storeBits};
 ghost use Rattle.fabric_universal.specs.Universal.{tableProgram};
 ghost use Rattle.fabric_lists.specs.GateLists.{LoadedCount, loadedPins, loadedTables};
-use block_bits::smaller;
-use block_bits::store_bit;
+use blocks::smaller;
+use blocks::store_bit;
 use elements::GATE_BITS;
 use plan::Plan;
 

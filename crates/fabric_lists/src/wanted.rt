@@ -5,13 +5,13 @@ ghost use Prim.Native.Nat.{_-_, min};
 ghost use lib.ListN.{length, getD, take};
 ghost use Rattle.fault.specs.Buffers.{over};
 ghost use Rattle.plan.specs.Record.{maxOutputs};
-ghost use Rattle.block_elements.specs.Bits.{storeBits};
+ghost use Rattle.blocks.specs.Elements.{storeBits};
 ghost use Rattle.lists.specs.Counting.{oneIf};
 ghost use Rattle.fabric_universal.specs.Universal.{wantedGates, mixBits};
 ghost use Rattle.fabric_universal.specs.Fabric.{wantedInput, wantedOutputs};
 ghost use Rattle.fabric_lists.specs.WantedLists.{pinsIn, isAmong, wantedAmong, inputsWanted};
-use block_bits::smaller;
-use block_bits::store_bit;
+use blocks::smaller;
+use blocks::store_bit;
 use plan::Plan;
 use plan::PlanWire;
 

@@ -7,12 +7,10 @@ use native.Mathlib.Nat.{mod-eq-of-lt}
 use lib.Dec.{leb}
 use lib.ListN.{length, getD, take, drop}
 use Rattle.fault.specs.Buffers.{over, partOf, withPart}
-use Rattle.block_elements.specs.Rows.{Gate, stride, entries, flat}
+use Rattle.blocks.specs.Elements.{Gate, stride, entries, flat, wiresPut, rowPut, pairRows, rowsPut}
 use Rattle.elements.specs.declared.Kind.{Kind}
 use Rattle.elements.specs.Elements.{maxWires, kindNumber}
-use Rattle.block_rows.specs.Wires.{wiresPut}
-use Rattle.block_rows.proofs.ClampLaws.{part-within, with-within}
-use Rattle.block_rows.specs.Rows.{rowPut, pairRows, rowsPut}
+use Rattle.blocks.proofs.ElementsLaws.{part-within, with-within}
 
 -- ---- G
 

@@ -5,8 +5,8 @@ use Prim.Native.Nat.{ℕ, min}
 use lib.ListN.{length, take}
 use Rattle.fault.specs.Buffers.{over, partOf, withPart}
 use Rattle.plan.specs.Record.{maxOutputs}
-use Rattle.block_rows.proofs.ClampLaws.{take-within, part-within, with-within}
-use Rattle.block_selection_rows.specs.WriteCalls.{selectionWrittenRows, selectionWrittenOutputs}
+use Rattle.blocks.proofs.ElementsLaws.{take-within, part-within, with-within}
+use Rattle.blocks.specs.Calls.{selectionWrittenRows, selectionWrittenOutputs}
 use Rattle.fabric_parts.specs.Copied.{copiedAt}
 
 -- S on the first `end` wires of L

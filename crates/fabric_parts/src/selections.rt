@@ -2,11 +2,11 @@
 // takes all inputs: what does not fit is not stored.
 ghost use mathlib.Core.Path.{_≡_};
 ghost use lib.ListN.{take};
-ghost use Rattle.block_selection_rows.specs.WriteCalls.{selectionWrittenRows, selectionWrittenOutputs};
+ghost use Rattle.blocks.specs.Calls.{selectionWrittenRows, selectionWrittenOutputs};
 ghost use Rattle.fabric_parts.specs.Copied.{outputsPut};
-use block_bits::smaller;
-use block_rows::copy_wires;
-use block_selection_rows::write_selection;
+use blocks::copy_wires;
+use blocks::smaller;
+use blocks::write_selection;
 use elements::FabricWire;
 use plan::Plan;
 

@@ -10,19 +10,14 @@ use Rattle.lists.specs.Lists.{listOf}
 use Rattle.lists.proofs.ListsLaws.{listOf-ext}
 use Rattle.fault.specs.Buffers.{over, partOf, withPart}
 use Rattle.fault.proofs.PartsLaws.{length-over, over-part}
-use Rattle.block_elements.specs.Rows.{Y, Gate, stride, flat, rowOf}
-use Rattle.block_elements.proofs.RowsLaws.{flat-append, length-flat}
-use Rattle.block_networks.specs.Selection.{selectionRows, selectionOuts, selectionCount, selectionWires}
-use Rattle.block_networks.proofs.SelectionLaws.{length-selectionRows, selection-totals, length-selectionOuts}
+use Rattle.blocks.specs.Elements.{Y, Gate, stride, flat, rowOf, wiresPut, pairRows, rowsPut}
+use Rattle.blocks.proofs.ElementsLaws.{flat-append, length-flat, wires-put, wire-after, length-pairRows, length-flat-pairs, rows-put}
+use Rattle.blocks.specs.Networks.{selectionRows, selectionOuts, selectionCount, selectionWires}
+use Rattle.blocks.proofs.NetworksLaws.{length-selectionRows, selection-totals, length-selectionOuts}
 use Rattle.elements.specs.declared.Kind.{Kind}
 use Rattle.elements.specs.Elements.{maxWires}
-use Rattle.block_rows.specs.Wires.{wiresPut}
-use Rattle.block_rows.proofs.WiresLaws.{wires-put, wire-after}
-use Rattle.block_rows.specs.Rows.{pairRows, rowsPut}
-use Rattle.block_rows.proofs.RowsLaws.{length-pairRows, length-flat-pairs, rows-put}
-use Rattle.block_write_checks.specs.WriteChecks.{selectionWriteFault, SelectionWritePasses}
-use Rattle.block_selection_rows.specs.WriteCalls.{selectionWrittenRows, selectionWrittenOutputs}
-use Rattle.block_write_checks.proofs.WriteChecksLaws.{selection-write-succeeds}
+use Rattle.blocks.specs.Calls.{selectionWriteFault, SelectionWritePasses, selectionWrittenRows, selectionWrittenOutputs}
+use Rattle.blocks.proofs.CallsLaws.{selection-write-succeeds}
 use Rattle.fabric_universal.specs.Selector.{pinCount, selection}
 use Rattle.fabric_universal.specs.Universal.{mixRows, wiresFrom, universalCount, universalWires, universalOuts, universalRows}
 use Rattle.fabric_universal.specs.Fabric.{gateLevel}
@@ -42,19 +37,19 @@ module _ {gates half next : ℕ} {upper select : Counts} (w : UniversalWires gat
   pins-are : pinCount n ≡ gates
   pins-are = omega (arith, h .power, h .twice)
 
-  count-is : select .rows ≡ selection .count n
+  count-is : select .rows ≡ selection n .count
   count-is = s .isRows ∙ ap (λ m. selectionCount m (pinCount n)) (h .power)
 
-  made-is : select .wires ≡ selection .wires n
+  made-is : select .wires ≡ selection n .wires
   made-is = s .isWires ∙ ap (λ m. selectionWires m (pinCount n)) (h .power)
 
   step-count : universalCount selection (gateLevel gates)
-      ≡ universalCount selection n + (selection .count n + (pinCount n + universalCount selection n))
+      ≡ universalCount selection n + (selection n .count + (pinCount n + universalCount selection n))
   unfolding universalCount
   step-count = rw (h .level)
 
   step-wires : universalWires selection (gateLevel gates)
-      ≡ universalWires selection n + (selection .wires n + (pinCount n + universalWires selection n))
+      ≡ universalWires selection n + (selection n .wires + (pinCount n + universalWires selection n))
   unfolding universalWires
   step-wires = rw (h .level)
 

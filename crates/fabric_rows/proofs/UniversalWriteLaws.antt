@@ -12,13 +12,10 @@ use Rattle.lists.specs.Lists.{listOf}
 use Rattle.lists.proofs.ListsLaws.{length-listOf, listOf-ext}
 use Rattle.fault.specs.Buffers.{over, partOf, withPart}
 use Rattle.fault.proofs.PartsLaws.{length-over, over-part}
-use Rattle.block_elements.specs.Rows.{Y, Gate, stride, flat}
-use Rattle.block_elements.proofs.RowsLaws.{flat-append, length-flat}
-use Rattle.block_networks.specs.Selection.{selectionRows, selectionOuts, selectionCount, selectionWires}
-use Rattle.block_networks.proofs.SelectionLaws.{length-selectionOuts}
-use Rattle.block_rows.specs.Wires.{wiresPut}
-use Rattle.block_rows.specs.Rows.{rowsPut}
-use Rattle.block_rows.proofs.ClampLaws.{part-is}
+use Rattle.blocks.specs.Elements.{Y, Gate, stride, flat, wiresPut, rowsPut}
+use Rattle.blocks.proofs.ElementsLaws.{flat-append, length-flat, part-is}
+use Rattle.blocks.specs.Networks.{selectionRows, selectionOuts, selectionCount, selectionWires}
+use Rattle.blocks.proofs.NetworksLaws.{length-selectionOuts}
 use Rattle.fabric_universal.specs.Selector.{pinCount, selection}
 use Rattle.fabric_universal.proofs.SelectorLaws.{double, selection-shape}
 use Rattle.fabric_universal.specs.Universal.{mixRows, wiresFrom, universalCount, universalWires, selectNext, lowerNext, universalOuts, selectedOuts}
@@ -94,10 +91,10 @@ module _ {gates next : ℕ} {p : Parts} {R₀ P₀ O₀ : List ℕ} (begun : Beg
   pins-fit : 2 * p .pins ≤ length P₀
   pins-fit = omega (arith, at .double, room .pinRoom)
 
-  count-is : selectionCount (p .half) (p .pins) ≡ selection .count n
+  count-is : selectionCount (p .half) (p .pins) ≡ selection n .count
   count-is = ap₂ selectionCount (at .halfIs) pins-are
 
-  wires-are : selectionWires (p .half) (p .pins) ≡ selection .wires n
+  wires-are : selectionWires (p .half) (p .pins) ≡ selection n .wires
   wires-are = ap₂ selectionWires (at .halfIs) pins-are
 
   pub upper-room : UniversalRoom (p .half) next (length R₀) (length P₀) (length O₀)
@@ -192,7 +189,7 @@ module _ {gates next : ℕ} {p : Parts} {R₀ P₀ O₀ : List ℕ} (begun : Beg
 
     select-rows :
         selectionRows (p .half) (p .pins) (take (p .half) O₁) (p .«select_next» .0)
-        ≡ selection .rows n (universalOuts selection n next) (selectNext selection n next)
+        ≡ selection n .rows (universalOuts selection n next) (selectNext selection n next)
     select-rows =
         rw (feeds, at .selectFrom, pins-are)
         (ap (λ h. selectionRows h (pinCount n) (universalOuts selection n next) (selectNext selection n next)) (at .halfIs))
@@ -207,7 +204,7 @@ module _ {gates next : ℕ} {p : Parts} {R₀ P₀ O₀ : List ℕ} (begun : Beg
 
     middle-are :
         middleRows p O₁ P₁
-        ≡ selection .rows n (universalOuts selection n next) (selectNext selection n next) ++ mixRows (pinCount n) pins (selectedOuts selection n next)
+        ≡ selection n .rows (universalOuts selection n next) (selectNext selection n next) ++ mixRows (pinCount n) pins (selectedOuts selection n next)
     unfolding middleRows
     middle-are = ap₂ _++_ select-rows (ap (mixRows (p .pins) P₁) select-outs ∙ mix-rows)
 

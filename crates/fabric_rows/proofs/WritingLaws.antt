@@ -14,13 +14,11 @@ use Rattle.fault.specs.Buffers.{over, partOf, withPart}
 use Rattle.fault.proofs.PartsLaws.{length-over, over-part}
 use Rattle.plan.specs.Record.{maxInputs, maxGates, maxOutputs}
 use Rattle.plan.specs.Faults.{CountsWithin}
-use Rattle.block_elements.specs.Rows.{stride, flat}
-use Rattle.block_elements.proofs.RowsLaws.{flat-append}
-use Rattle.block_networks.specs.Selection.{selectionRows, selectionOuts, selectionCount, selectionWires}
-use Rattle.block_networks.proofs.SelectionLaws.{length-selectionOuts}
-use Rattle.block_rows.specs.Wires.{wiresPut}
-use Rattle.block_rows.proofs.WiresLaws.{wires-put}
-use Rattle.block_selection_rows.specs.WriteCalls.{selectionWrittenRows, selectionWrittenOutputs}
+use Rattle.blocks.specs.Elements.{stride, flat, wiresPut}
+use Rattle.blocks.proofs.ElementsLaws.{flat-append, wires-put}
+use Rattle.blocks.specs.Networks.{selectionRows, selectionOuts, selectionCount, selectionWires}
+use Rattle.blocks.proofs.NetworksLaws.{length-selectionOuts}
+use Rattle.blocks.specs.Calls.{selectionWrittenRows, selectionWrittenOutputs}
 use Rattle.fabric_parts.specs.Copied.{copiedAt}
 use Rattle.fabric_universal.specs.Selector.{pinCount, selection}
 use Rattle.fabric_universal.specs.Universal.{universalCount, universalWires, universalOuts, universalRows}

@@ -4,9 +4,9 @@ use mathlib.Core.Path.{_≡_}
 use mathlib.Core.List.{List, _++_}
 use lib.ListN.{take}
 use Rattle.plan.specs.Record.{maxGates}
-use Rattle.block_elements.specs.Rows.{Row, operands, stride}
-use Rattle.block_networks.specs.Selection.{selectionRows, selectionOuts, selectionCount}
-use Rattle.block_write_checks.specs.WriteChecks.{SelectionWritePasses}
+use Rattle.blocks.specs.Elements.{Row, operands, stride}
+use Rattle.blocks.specs.Networks.{selectionRows, selectionOuts, selectionCount}
+use Rattle.blocks.specs.Calls.{SelectionWritePasses}
 use Rattle.elements.specs.Elements.{maxWires}
 use Rattle.fabric_universal.specs.Selector.{selection}
 use Rattle.fabric_universal.specs.Universal.{mixRows, wiresFrom, universalCount, universalWires, selectNext, mixNext, lowerNext}
@@ -59,7 +59,7 @@ pub record PartsAt (gates next : ℕ) (p : Parts) : Type 0 where
   pub some : 1 ≤ p .half
   pub few : p .pins ≤ maxGates
   pub selectAt : p .select ≡ stride * universalCount selection (gateLevel (p .half))
-  pub mixAt : p .mix ≡ stride * selection .count (gateLevel (p .half))
+  pub mixAt : p .mix ≡ stride * selection (gateLevel (p .half)) .count
   pub lowerAt : p .lower ≡ p .select + p .mix + stride * p .pins
   pub whole : stride * universalCount selection (gateLevel gates) ≡ p .lower + stride * universalCount selection (gateLevel (p .half))
   pub selectFrom : p .«select_next» .0 ≡ selectNext selection (gateLevel (p .half)) next

@@ -4,10 +4,10 @@ use mathlib.Core.Path.{_≡_}
 use mathlib.Core.List.{List, _++_}
 use lib.ListN.{take}
 use Rattle.plan.specs.Record.{maxInputs, maxGates, maxOutputs}
-use Rattle.block_elements.specs.Rows.{stride, flat}
-use Rattle.block_networks.specs.Selection.{selectionRows, selectionOuts, selectionCount, selectionWires}
+use Rattle.blocks.specs.Elements.{stride, flat}
+use Rattle.blocks.specs.Networks.{selectionRows, selectionOuts, selectionCount, selectionWires}
 use Rattle.elements.specs.Elements.{maxWires}
-use Rattle.block_write_checks.specs.WriteChecks.{SelectionWritePasses}
+use Rattle.blocks.specs.Calls.{SelectionWritePasses}
 use Rattle.fabric_universal.specs.Selector.{pinCount, selection}
 use Rattle.fabric_universal.specs.Universal.{universalCount}
 use Rattle.fabric_universal.specs.Fabric.{gateLevel, inputWires, universalNext, outputNext, fabricCount}

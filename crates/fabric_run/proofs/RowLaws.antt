@@ -9,9 +9,8 @@ use lib.ListN.{length, getD, take, drop, set}
 use lib.Seq.{getD-take, getD-drop}
 use Rattle.lists.specs.Lists.{listOf}
 use Rattle.lists.proofs.ListsLaws.{getD-listOf}
-use Rattle.block_elements.specs.Rows.{X, Y, Gate, gateBits, takes, rowOf, choose, State, outputs, lineOf, gateOnBits}
-use Rattle.block_elements.specs.Bits.{bitAt, unpack}
-use Rattle.block_elements.proofs.BitsLaws.{unpack-at}
+use Rattle.blocks.specs.Elements.{X, Y, Gate, gateBits, takes, rowOf, choose, State, outputs, lineOf, gateOnBits, bitAt, unpack}
+use Rattle.blocks.proofs.ElementsLaws.{unpack-at}
 use Rattle.fabric_run.specs.RunRows.{seen, rowDone, leftOf, rightOf, RowRoom}
 
 -- ---- the wire that a bit chooses

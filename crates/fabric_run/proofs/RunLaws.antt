@@ -8,10 +8,8 @@ use lib.ListN.{length, getD, drop, length-append, List·getD-append}
 use lib.Seq.{sets, length-sets}
 use Rattle.lists.specs.Lists.{listOf}
 use Rattle.fault.specs.Buffers.{over}
-use Rattle.block_elements.specs.Rows.{stride, makes, total, rowOf, outputs, step, run, gateOnBits}
-use Rattle.block_elements.proofs.RowsLaws.{run-append, run-wires, run-bits}
-use Rattle.block_elements.specs.Bits.{unpack, AreBits}
-use Rattle.block_elements.proofs.BitsLaws.{unpack-bits}
+use Rattle.blocks.specs.Elements.{stride, makes, total, rowOf, outputs, step, run, gateOnBits, unpack, AreBits}
+use Rattle.blocks.proofs.ElementsLaws.{run-append, run-wires, run-bits, unpack-bits}
 use Rattle.fabric_sizes.specs.Layout.{header, inputsIn, rowsIn, kindAt, leftAt, rightAt, rowAt, rowsTo, wiresBefore, bitsBefore, wiresIn, bitsIn}
 use Rattle.elements.specs.Elements.{maxWires}
 use Rattle.fabric_run.specs.Running.{runStart, runWires}

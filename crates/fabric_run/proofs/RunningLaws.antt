@@ -6,10 +6,8 @@ use native.Mathlib.Decide.{decLt}
 use native.Mathlib.Omega.{arith}
 use lib.ListN.{length, getD, take, length-take, List·getD-eq-default}
 use lib.Seq.{getD-take, getD-drop}
-use Rattle.block_elements.specs.Rows.{Row, X, Y, Gate, makes, takes, total, tableBits, choose, State, outputs, step, run, gateOnBits}
-use Rattle.block_elements.proofs.RowsLaws.{run-wires}
-use Rattle.block_elements.specs.Bits.{AreBits}
-use Rattle.block_elements.proofs.BitsLaws.{bits-append, unpack-bits}
+use Rattle.blocks.specs.Elements.{Row, X, Y, Gate, makes, takes, total, tableBits, choose, State, outputs, step, run, gateOnBits, AreBits}
+use Rattle.blocks.proofs.ElementsLaws.{run-wires, bits-append, unpack-bits}
 use Rattle.fabric_sizes.specs.Layout.{inputsIn, tableRows, wiresBefore, wiresIn, bitsIn}
 use Rattle.fabric_run.specs.Running.{runStart, runWires}
 

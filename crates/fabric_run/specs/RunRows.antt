@@ -6,8 +6,7 @@ use lib.ListN.{length, getD}
 use lib.Seq.{sets}
 use Rattle.lists.specs.Lists.{listOf}
 use Rattle.fault.specs.Buffers.{over}
-use Rattle.block_elements.specs.Rows.{Row, gateBits, State, outputs, run, gateOnBits}
-use Rattle.block_elements.specs.Bits.{bitAt, AreBits}
+use Rattle.blocks.specs.Elements.{Row, gateBits, State, outputs, run, gateOnBits, bitAt, AreBits}
 use Rattle.fabric_sizes.specs.Layout.{inputsIn, outputsIn, rowsIn, outputWireAt, rowsTo, wiresIn}
 use Rattle.fabric_run.specs.Running.{runStart}
 use Rattle.fabric_table_checks.specs.TableFault.{WellFormed}

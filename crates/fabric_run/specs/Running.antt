@@ -3,8 +3,7 @@ use Prim.Native.Nat.{ℕ}
 use mathlib.Core.List.{List, _∷_}
 use lib.ListN.{getD}
 use Rattle.lists.specs.Lists.{listOf}
-use Rattle.block_elements.specs.Rows.{State, run, gateOnBits}
-use Rattle.block_elements.specs.Bits.{unpack}
+use Rattle.blocks.specs.Elements.{State, run, gateOnBits, unpack}
 use Rattle.fabric_sizes.specs.Layout.{outputWireAt, outputsIn, tableRows, bitsIn}
 
 -- before the first row: wire 0 is 0, the inputs are the row's entries

@@ -5,8 +5,8 @@ use Prim.Native.Nat.{ℕ, _+_}
 use native.Mathlib.Omega.{arith}
 use lib.ListN.{length, List·getD-eq-default}
 use Rattle.fault.proofs.ChecksLaws.{unless-zero, and-then-zero, first-of-zero, eqb-iff}
-use Rattle.block_elements.specs.Bits.{AreBits, pack, bitAt}
-use Rattle.block_elements.proofs.BitsLaws.{length-pack, bitAt-pack}
+use Rattle.blocks.specs.Elements.{AreBits, pack, bitAt}
+use Rattle.blocks.proofs.ElementsLaws.{length-pack, bitAt-pack}
 use Rattle.fabric_run_checks.specs.RunFault.{givenProgramFault}
 
 -- packed bits are an exact program

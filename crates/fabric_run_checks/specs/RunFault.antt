@@ -8,7 +8,7 @@ use Rattle.fabric_table_checks.specs.TableFault.{tableFault}
 use lib.Dec.{eqb}
 use lib.ListN.{length}
 use Rattle.fault.specs.declared.Fault.{Fault}
-use Rattle.block_elements.specs.Bits.{bytesFor, bitAt}
+use Rattle.blocks.specs.Elements.{bytesFor, bitAt}
 
 -- 11: a work buffer and a result of so many entries, where there are so many wires and outputs
 abbrev pub roomsFault : ℕ → ℕ → ℕ → ℕ → ℕ

@@ -4,8 +4,8 @@ use mathlib.Core.List.{List, [], _∷_}
 use Prim.Native.Nat.{ℕ, suc, _+_}
 use native.Mathlib.Omega.{arith}
 use Rattle.lists.specs.Lists.{listOf}
-use Rattle.block_elements.specs.Rows.{makes, takes, total}
-use Rattle.block_elements.proofs.RowsLaws.{total-append}
+use Rattle.blocks.specs.Elements.{makes, takes, total}
+use Rattle.blocks.proofs.ElementsLaws.{total-append}
 use Rattle.fabric_sizes.specs.Layout.{rowAt, rowsTo, wiresBefore, bitsBefore}
 
 pub wires-more : (table : List ℕ) (i : ℕ) → wiresBefore table (suc i) ≡ wiresBefore table i + makes (rowAt table i)

@@ -6,9 +6,8 @@ use native.Mathlib.Omega.{arith}
 use lib.Pow.{pow-mono, pow-pos}
 use Rattle.powers.proofs.PowersLaws.{ceilLog-least, ceilLog-power}
 use Rattle.plan.specs.Record.{maxGates}
-use Rattle.block_networks.specs.Selection.{selectionLevel, wholeCount, wholeWires, selectionCount, selectionWires}
-use Rattle.block_networks.proofs.SelectionLaws.{level-least}
-use Rattle.block_sizes.proofs.SizesLaws.{count-most}
+use Rattle.blocks.specs.Networks.{selectionLevel, selectionCount, selectionWires}
+use Rattle.blocks.proofs.NetworksLaws.{level-least, selection-count, selection-made}
 use Rattle.fabric_universal.specs.Selector.{selection}
 use Rattle.fabric_universal.proofs.SelectorLaws.{double}
 use Rattle.fabric_universal.specs.Universal.{universalCount, universalWires, universalTakes}
@@ -64,13 +63,11 @@ pub record FewSelected (m n : ℕ) : Type 0 where
   pub wires : selectionWires m n ≤ blockLimit
 
 pub few-selected : {m n : ℕ} → SidesWithin m n → FewSelected m n
-unfolding selectionCount selectionWires wholeCount wholeWires
 few-selected {m} {n} s =
     let level : ℕ = selectionLevel m n in
     let low : level ≤ suc topLevel = level-least m n (suc topLevel) (s .inputs) (s .outputs) in
-    let one = count-most level (suc topLevel) low in
-    let size : 2 ^ level ≤ 2 ^ suc topLevel = pow-mono low in
-    record { rows = omega arith; wires = omega arith }
+    let most : level * 2 ^ level ≤ suc topLevel * 2 ^ suc topLevel = mul-le-mul low (pow-mono low) in
+    record { rows = omega (arith, selection-count m n); wires = omega (arith, selection-made m n) }
 
 -- ---- U: what the closed forms are computed from
 

@@ -1,7 +1,7 @@
 -- Document 01, "Counting: 2, 3, 4": what counting answers; and the length of the fabric's table.
 use Prim.Native.Nat.{ℕ, _+_, _*_}
 use Rattle.plan.specs.Faults.{countsFault}
-use Rattle.block_elements.specs.Rows.{stride}
+use Rattle.blocks.specs.Elements.{stride}
 use Rattle.fabric_universal.specs.Fabric.{fabricCount, fabricWires, fabricTakes}
 use Rattle.fabric_sizes.specs.Layout.{header}
 use Rattle.elements.specs.declared.Counts.{Counts}

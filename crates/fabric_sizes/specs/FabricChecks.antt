@@ -3,7 +3,7 @@ use Prim.Native.Nat.{ℕ, _≤_}
 use Rattle.fault.specs.Checks.{andThen, roomFault}
 use Rattle.plan.specs.declared.record.Plan.{Plan}
 use Rattle.plan.specs.Faults.{countsFault, planFault, CountsWithin}
-use Rattle.block_elements.specs.Bits.{bytesFor}
+use Rattle.blocks.specs.Elements.{bytesFor}
 use Rattle.fabric_universal.specs.Fabric.{fabricTakes}
 use Rattle.fabric_sizes.specs.Counting.{tableLength}
 

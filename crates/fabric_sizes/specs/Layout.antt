@@ -4,7 +4,7 @@ use Prim.Native.Nat.{ℕ, suc, _+_, _*_}
 use mathlib.Core.List.{List}
 use lib.ListN.{getD}
 use Rattle.lists.specs.Lists.{listOf}
-use Rattle.block_elements.specs.Rows.{Row, stride, makes, takes, total, rowOf}
+use Rattle.blocks.specs.Elements.{Row, stride, makes, takes, total, rowOf}
 
 -- the entries before the rows
 abbrev pub header : ℕ

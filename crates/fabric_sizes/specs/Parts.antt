@@ -2,8 +2,8 @@
 use Prim.Native.Nat.{ℕ, suc, _*_, _^_, _≤_}
 use mathlib.Core.Path.{_≡_}
 use Rattle.plan.specs.Record.{maxGates}
-use Rattle.block_elements.specs.Rows.{operands}
-use Rattle.block_networks.specs.Selection.{selectionCount, selectionWires}
+use Rattle.blocks.specs.Elements.{operands}
+use Rattle.blocks.specs.Networks.{selectionCount, selectionWires}
 use Rattle.fabric_universal.specs.Selector.{selection}
 use Rattle.fabric_universal.specs.Universal.{universalCount, universalWires, universalTakes}
 use Rattle.fabric_universal.specs.Fabric.{gateLevel}

@@ -1,18 +1,20 @@
 // Counting: the rows, wires and program bits of the fabric of three counts, and the stated lengths that follow from them.
 ghost use mathlib.Core.Path.{_≡_};
-ghost use Rattle.block_elements.specs.Bits.{bytesFor};
+ghost use Rattle.blocks.specs.Elements.{bytesFor};
 ghost use Rattle.fabric_universal.specs.Fabric.{fabricTakes};
 ghost use Rattle.elements.specs.Elements.{countOutcome};
 ghost use Rattle.fabric_sizes.specs.Counting.{counting, FabricCounts, tableLength};
 use crate::parts::output_counts;
 use crate::parts::pin_counts;
 use crate::parts::universal_counts;
-use block_rows::HEADER;
-use block_rows::row_place;
+use blocks::row_place;
 use elements::CountAnswer;
 use elements::Counts;
 use fault::Answer;
 use plan::counts_fault;
+
+// The entries of a table before its rows: its numbers of inputs, outputs and rows.
+pub const HEADER: usize = 3;
 
 // The counts of the fabric of u inputs, k gates and v outputs.
 pub fn count_fabric(u: u32, k: u32, v: u32) -> CountAnswer

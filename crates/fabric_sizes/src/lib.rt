@@ -5,6 +5,7 @@ mod parts;
 mod programming;
 mod writing;
 
+pub use counting::HEADER;
 pub use counting::count_fabric;
 pub use counting::fabric_counts;
 pub use counting::program_length;

@@ -7,7 +7,7 @@ use native.Mathlib.Numerals.{add-one}
 use native.Mathlib.Decide.{ℕ-discrete}
 use Rattle.lists.specs.Lists.{listOf}
 use Rattle.plan.specs.Record.{maxInputs}
-use Rattle.block_elements.specs.Rows.{X, Y, Gate, gateBits, makes, takes, total, rowOf}
+use Rattle.blocks.specs.Elements.{X, Y, Gate, gateBits, makes, takes, total, rowOf}
 use Rattle.fabric_sizes.specs.Layout.{inputsIn, kindAt, leftAt, rightAt, rowAt, wiresBefore, bitsBefore}
 use Rattle.elements.specs.Elements.{maxWires}
 use Rattle.fabric_sizes.proofs.LayoutLaws.{wires-more, bits-more}

@@ -12,8 +12,8 @@ use lib.Seq.{getD-append-add}
 use Rattle.lists.specs.Lists.{listOf, Below, Every, every-none, every-more}
 use Rattle.lists.proofs.ListsLaws.{listOf-ext, listOf-getD, below-append, below-more}
 use Rattle.plan.specs.Record.{maxInputs, maxOutputs}
-use Rattle.block_elements.specs.Rows.{Row, X, Y, Gate, stride, inputsOf, makes, takes, total, entries, flat, rowOf, InFamily, MadeBefore, made-none, made-more}
-use Rattle.block_elements.proofs.RowsLaws.{length-flat, decode-flat, decode-at}
+use Rattle.blocks.specs.Elements.{Row, X, Y, Gate, stride, inputsOf, makes, takes, total, entries, flat, rowOf, InFamily, MadeBefore, made-none, made-more}
+use Rattle.blocks.proofs.ElementsLaws.{length-flat, decode-flat, decode-at}
 use Rattle.fabric_sizes.specs.Layout.{header, kindAt, leftAt, rightAt, rowAt, outputWireAt, rowsTo, tableRows, wiresBefore, bitsBefore, wiresIn, bitsIn}
 use Rattle.elements.specs.Elements.{maxWires}
 use Rattle.fabric_table_checks.specs.TableFault.{WellFormed, RowWithin}

@@ -2,7 +2,7 @@
 use Prim.Native.Nat.{ℕ, _*_, _≤_}
 use mathlib.Core.Path.{_≡_}
 use mathlib.Core.List.{List}
-use Rattle.block_elements.specs.Rows.{gateBits, makes, takes, rowOf}
+use Rattle.blocks.specs.Elements.{gateBits, makes, takes, rowOf}
 use Rattle.fabric_sizes.specs.Layout.{wiresBefore, bitsBefore}
 use Rattle.elements.specs.Elements.{maxWires}
 use Rattle.fabric_table_checks.specs.declared.table.RowCounts.{RowCounts}

@@ -8,7 +8,7 @@ use Rattle.fault.specs.declared.Fault.{Fault}
 use Rattle.fault.specs.Checks.{unless, andThen, firstOf}
 use Rattle.plan.specs.Record.{maxInputs, maxOutputs}
 use Rattle.plan.specs.Rules.{countAllowed}
-use Rattle.block_elements.specs.Rows.{stride, outputs}
+use Rattle.blocks.specs.Elements.{stride, outputs}
 use mathlib.Core.Path.{_≡_}
 use Rattle.fabric_sizes.specs.Layout.{outputWireAt, leftAt, wiresIn, header, rowsIn, wiresBefore, rightAt, outputsIn, kindAt, inputsIn}
 use Rattle.elements.specs.Elements.{maxWires}

@@ -2,16 +2,16 @@
 ghost use mathlib.Core.Path.{_≡_};
 ghost use Prim.Native.Nat.{_+_, _*_, _≤_};
 ghost use lib.ListN.{length};
-ghost use Rattle.block_elements.specs.Rows.{stride};
+ghost use Rattle.blocks.specs.Elements.{stride};
 ghost use Rattle.fabric_sizes.specs.Layout.{header, outputsIn, rowsIn};
 ghost use Rattle.elements.specs.Elements.{maxWires};
 ghost use Rattle.fabric_table_checks.specs.Counting.{CountsOf};
-use block_rows::HEADER;
-use block_rows::wide;
+use blocks::wide;
 use elements::FabricWire;
 use elements::GATE_BITS;
 use elements::KIND_X;
 use elements::KIND_Y;
+use fabric_sizes::HEADER;
 
 // Which of the entries before the rows are the numbers of inputs, outputs and rows.
 pub const INPUTS: usize = 0;
@@ -46,7 +46,7 @@ pub fn counts_of(kind: u16) -> RowCounts
 pub fn row_place(i: u16) -> usize
     ensures { λ r. ⌜ (r ≡ header + stride * i) × (r ≤ stride * maxWires) ⌝ }
 {
-    HEADER + block_rows::row_place(i as u32)
+    HEADER + blocks::row_place(i as u32)
 }
 
 // An entry of the table, as a wire.

@@ -19,22 +19,20 @@ use Rattle.plan.specs.declared.record.PlanWire.{PlanWire}
 use Rattle.plan.specs.Record.{gateAt, outputAt}
 use Rattle.plan.specs.Faults.{CountsWithin}
 use Rattle.plan.proofs.AgreeLaws.{Agree}
-use Rattle.block_elements.specs.Rows.{stride, flat, makes, total, MadeBefore, Totals}
-use Rattle.block_elements.proofs.RowsLaws.{madeBefore-append, totals-append, length-flat}
-use Rattle.block_elements.specs.Bits.{AreBits, bytesFor}
-use Rattle.block_elements.proofs.BitsLaws.{bits-append, length-pack}
-use Rattle.block_networks.specs.Selection.{selectionLevel, selectionWires}
-use Rattle.block_networks.proofs.SelectionLaws.{level-least, selection-count, selection-made, length-selectionRows, selection-totals, length-selectionOuts}
-use Rattle.block_networks.proofs.SelectionLaws.{selection-below, selection-madeBefore}
-use Rattle.block_networks.proofs.SelectionRouting.{length-selectionBits, selectionBits-bits}
+use Rattle.blocks.specs.Elements.{stride, flat, makes, total, MadeBefore, Totals, AreBits, bytesFor}
+use Rattle.blocks.proofs.ElementsLaws.{madeBefore-append, totals-append, length-flat, bits-append, length-pack}
+use Rattle.blocks.specs.Networks.{selectionLevel, selectionWires}
+use Rattle.blocks.proofs.NetworksLaws.{level-least, selection-count, selection-made, length-selectionRows, selection-totals, length-selectionOuts}
+use Rattle.blocks.proofs.NetworksLaws.{length-selectionBits, selectionBits-bits}
 use Rattle.fabric_universal.specs.Selector.{pinCount, selection}
 use Rattle.fabric_universal.specs.Universal.{universalWires, Gates}
 use Rattle.fabric_universal.proofs.SelectorLaws.{double, selection-shape}
-use Rattle.fabric_universal.proofs.UniversalLaws.{length-universalRows, universal-totals, universal-below, length-universalBits}
+use Rattle.fabric_universal.proofs.UniversalLaws.{length-universalRows, universal-totals, universal-below, length-universalBits, length-universalOuts}
 use Rattle.fabric_universal.proofs.UniversalLaws.{universalBits-bits, fed-below, Fed, universal-madeBefore, universal-takes, universal-count, universal-made}
 use Rattle.fabric_universal.specs.Fabric.{gateLevel, inputWires, fabricPins, universalNext, outputNext, gateOuts, fabricRows, fabricOuts, planProgram}
 use Rattle.fabric_universal.specs.Fabric.{fabricCount, fabricWires, fabricTakes, fabricTable, spareGate, paddedGate, gatesOf, planGates}
 use Rattle.fabric_universal.specs.Fabric.{wantedInput, wantedInputs, wantedOutputs, planBits}
+use Rattle.blocks.proofs.PromisesLaws.{selection-block-shape}
 
 -- K is document 01's: the smallest power of two not below k
 pub gate-places : (k : ℕ) → 2 ^ gateLevel k ≡ ceilPower k
@@ -90,7 +88,7 @@ module _ (u k v : ℕ) where
   -- ---- each wire is made before it is read
 
   pub pins-below : Below (universalNext u k) (fabricPins u k)
-  pins-below = selection-below u (pinCount (gateLevel k)) (inputWires u) (suc u) (omega arith) (inputs-below u)
+  pins-below = selection-block-shape u (pinCount (gateLevel k)) .below (inputWires u) (suc u) (omega arith) (inputs-below u)
 
   pub pins-fed : Fed (gateLevel k) (universalNext u k) (fabricPins u k)
   pins-fed = fed-below (length-selectionOuts u (pinCount (gateLevel k)) (inputWires u) (suc u)) pins-below
@@ -101,17 +99,17 @@ module _ (u k v : ℕ) where
   -- every output wire is made
   pub fabric-below : Below (fabricWires u k v) (fabricOuts u k v)
   unfolding fabricWires fabricOuts
-  fabric-below = selection-below (2 ^ gateLevel k) v (gateOuts u k) (outputNext u k) (omega arith) gates-below
+  fabric-below = selection-block-shape (2 ^ gateLevel k) v .below (gateOuts u k) (outputNext u k) (omega arith) gates-below
 
   pub fabric-madeBefore : MadeBefore (suc u) (fabricRows u k v)
   unfolding fabricRows
   fabric-madeBefore =
       let level : ℕ = gateLevel k in
-      madeBefore-append (selection-madeBefore u (pinCount level) (inputWires u) (suc u) (omega arith) (inputs-below u))
+      madeBefore-append (selection-block-shape u (pinCount level) .madeBefore (inputWires u) (suc u) (length-inputWires u) (omega arith) (inputs-below u))
       (ap (λ m. suc u + m) (selection-totals u (pinCount level) (inputWires u) (suc u) .wires))
       (madeBefore-append (universal-madeBefore selection selection-shape level (fabricPins u k) (universalNext u k) (omega arith) pins-fed)
       (ap (λ m. universalNext u k + m) (universal-totals selection selection-shape level (fabricPins u k) (universalNext u k) .wires))
-      (selection-madeBefore (2 ^ level) v (gateOuts u k) (outputNext u k) (omega arith) gates-below))
+      (selection-block-shape (2 ^ level) v .madeBefore (gateOuts u k) (outputNext u k) (length-universalOuts selection level (universalNext u k)) (omega arith) gates-below))
 
   -- ---- closed forms
 

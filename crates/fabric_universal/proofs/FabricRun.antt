@@ -16,13 +16,10 @@ use Rattle.plan.specs.Record.{outputAt}
 use Rattle.plan.specs.Faults.{Accepted}
 use Rattle.plan.proofs.FaultsLaws.{accepted-counts, accepted-output}
 use Rattle.plan_evaluation.specs.Evaluation.{planWires, planOutputs}
-use Rattle.block_elements.specs.Rows.{Row, makes, total, State, on, run, Delivered}
-use Rattle.block_elements.proofs.RowsLaws.{run-append, run-keeps, run-wires}
-use Rattle.block_networks.specs.Wanted.{mapping}
-use Rattle.block_networks.specs.Selection.{Selected, selectionRows, selectionWires, selectionBits}
-use Rattle.block_networks.proofs.SelectionLaws.{selection-totals}
-use Rattle.block_networks.proofs.SelectionRouting.{selected-at, selected-lt}
-use Rattle.block_networks.proofs.SelectionRun.{selection-delivers}
+use Rattle.blocks.specs.Elements.{Row, makes, total, State, on, run, Delivered}
+use Rattle.blocks.proofs.ElementsLaws.{run-append, run-keeps, run-wires}
+use Rattle.blocks.specs.Networks.{mapping, Selected, selectionRows, selectionWires, selectionBits}
+use Rattle.blocks.proofs.NetworksLaws.{selection-totals, selected-at, selected-lt}
 use Rattle.fabric_universal.specs.Views.{View, views}
 use Rattle.fabric_universal.proofs.ViewsLaws.{views-append, views-none}
 use Rattle.fabric_universal.specs.Selector.{pinCount, selection}
@@ -31,8 +28,10 @@ use Rattle.fabric_universal.proofs.SelectorLaws.{selection-shape, selec
 use Rattle.fabric_universal.proofs.UniversalRun.{gateView, Starts, Computes, universal-computes}
 use Rattle.fabric_universal.specs.Fabric.{gateLevel, inputWires, fabricPins, universalNext, outputNext, gateOuts, fabricRows, fabricOuts, fabricWires}
 use Rattle.fabric_universal.specs.Fabric.{planGates, wantedInput, wantedInputs, wantedOutputs, planBits}
-use Rattle.fabric_universal.proofs.FabricLaws.{getD-inputWires, inputs-below, fabric-wires, pins-fed, gates-below}
+use Rattle.fabric_universal.proofs.FabricLaws.{getD-inputWires, inputs-below, fabric-wires, pins-fed, gates-below, length-inputWires}
 use Rattle.fabric_universal.proofs.PlanValues.{operand-within, actOf, planValue, value-own, value-input, plan-values}
+use Rattle.blocks.proofs.PromisesLaws.{selection-block-delivers}
+use Rattle.fabric_universal.proofs.UniversalLaws.{length-universalOuts}
 
 -- ---- what the two selection networks are programmed for
 
@@ -164,8 +163,8 @@ module _ {A : Type 0} (none : A) (gate : ℕ → List ℕ → List A → A) (p :
     pins-brought : Delivered none (pinCount n) (mapping (wantedInputs p)) (inputWires u) (fabricPins u k) start pinsDone
         (selectionWires u (pinCount n)) gateProgram
     pins-brought =
-        selection-delivers none gate (inputs-selected p accepted) (inputWires u) (suc u) start gateProgram (omega arith) (inputs-below u)
-        (ap suc size) bits-parts
+        selection-block-delivers none gate u (pinCount n) .delivers (inputs-selected p accepted) (inputWires u) (suc u) start gateProgram
+        (length-inputWires u) (omega arith) (inputs-below u) (ap suc size) bits-parts
 
     -- a pin whose operand is an input carries that input's value
     pin-carries : (q : ℕ) → q < pinCount n → planGates p .operand q ≤ u
@@ -205,8 +204,8 @@ module _ {A : Type 0} (none : A) (gate : ℕ → List ℕ → List A → A) (p :
         (selectionWires (2 ^ n) v) rest
     unfolding fabricOuts
     outputs-brought =
-        selection-delivers none gate (outputs-selected p accepted) (gateOuts u k) (outputNext u k) gatesDone rest (omega arith) (gates-below u k v)
-        gates-made (gates-computed .bits)
+        selection-block-delivers none gate (2 ^ n) v .delivers (outputs-selected p accepted) (gateOuts u k) (outputNext u k) gatesDone rest
+        (length-universalOuts selection n (universalNext u k)) (omega arith) (gates-below u k v) gates-made (gates-computed .bits)
 
     output-carries : (j : ℕ) → j < v
         → on none outputsDone (getD (fabricOuts u k v) j 0) ≡ getD (planWires none (actOf gate) p row k) (outputAt p j .0 - 1) none

@@ -16,7 +16,7 @@ use Rattle.plan.specs.Faults.{Accepted}
 use Rattle.plan.proofs.FaultsLaws.{accepted-counts, accepted-gate}
 use Rattle.plan_evaluation.specs.Evaluation.{valueOn, planWires}
 use Rattle.plan_evaluation.proofs.EvaluationLaws.{length-planWires}
-use Rattle.block_elements.specs.Rows.{operands, choose}
+use Rattle.blocks.specs.Elements.{operands, choose}
 use Rattle.fabric_universal.specs.Universal.{tableProgram}
 use Rattle.fabric_universal.proofs.UniversalRun.{Values}
 use Rattle.fabric_universal.specs.Fabric.{spareGate, paddedGate, planGates}

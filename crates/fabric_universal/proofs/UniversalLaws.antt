@@ -9,17 +9,16 @@ use lib.ListN.{length, getD, take, length-append}
 use lib.Seq.{getD-take}
 use Rattle.lists.specs.Lists.{Below}
 use Rattle.lists.proofs.ListsLaws.{length-listOf, getD-listOf, below-append, below-more, below-pair}
-use Rattle.block_elements.specs.Rows.{inputsOf, operands, gateBits, MadeBefore, made-none, made-more, Totals}
-use Rattle.block_elements.proofs.RowsLaws.{madeBefore-append, totals-append, gate-totals}
-use Rattle.block_elements.proofs.YRun.{y-list, y-madeBefore}
-use Rattle.block_elements.specs.Bits.{AreBits}
-use Rattle.block_elements.proofs.BitsLaws.{bits-append, bits-listOf}
+use Rattle.blocks.specs.Elements.{inputsOf, operands, gateBits, MadeBefore, made-none, made-more, Totals, AreBits}
+use Rattle.blocks.proofs.ElementsLaws.{madeBefore-append, totals-append, gate-totals, y-list, y-madeBefore, bits-append, bits-listOf}
 use Rattle.lists.proofs.CountingLaws.{one-lt}
 use Rattle.fabric_universal.specs.Selector.{pinCount, Selector, SelectorShape, selection}
 use Rattle.fabric_universal.proofs.SelectorLaws.{double, selection-shape, half-count, half-made}
 use Rattle.fabric_universal.specs.Universal.{mixRows, wiresFrom}
 use Rattle.fabric_universal.specs.Universal.{universalCount, universalWires, universalTakes, selectNext, mixNext, lowerNext, universalOuts, selectedOuts}
 use Rattle.fabric_universal.specs.Universal.{lowerPins, universalRows, Gates, tableProgram, isOf, mixBits, universalBits}
+use Rattle.fabric_universal.proofs.UniversalProgram.{wanted-selected}
+use lib.Pow.{pow-pos}
 
 -- ---- what the closed forms need: K times (n + 1)², and twice the half's
 
@@ -58,7 +57,7 @@ module _ (S : Selector) where
       length-append,
       length-universalRows n (take (pinCount n) pins) next,
       length-universalRows n (lowerPins S n next) (lowerNext S n next),
-      shape .size,
+      shape .at n .size,
       length-listOf,
     )
 
@@ -67,7 +66,7 @@ module _ (S : Selector) where
     universal-totals zero pins next = gate-totals (getD pins 0 0) (getD pins 1 0)
     universal-totals (suc n) pins next =
         let t = totals-append (universal-totals n (take (pinCount n) pins) next)
-        (totals-append (shape .totals n (universalOuts S n next) (selectNext S n next))
+        (totals-append (shape .at n .totals (universalOuts S n next) (selectNext S n next))
         (totals-append (y-list (pinCount n) _ _) (universal-totals n (lowerPins S n next) (lowerNext S n next)))) in
         record { wires = t .wires; bits = t .bits; gates = omega (arith, t .gates, double n); family = t .family }
 
@@ -104,8 +103,8 @@ module _ (S : Selector) where
   module _ (shape : SelectorShape S) where
     pub selected-fed : (n next j : ℕ) → 0 < next → j < pinCount n → getD (selectedOuts S n next) j 0 < mixNext S n next
     selected-fed n next j z l =
-        shape .below n (universalOuts S n next) (selectNext S n next) (omega arith) (universal-below S n next) .each j
-        (rw (shape .outputs n (universalOuts S n next) (selectNext S n next)) l)
+        shape .at n .below (universalOuts S n next) (selectNext S n next) (omega arith) (universal-below S n next) .each j
+        (rw (shape .at n .outputs (universalOuts S n next) (selectNext S n next) (length-universalOuts S n next)) l)
 
     pub universal-madeBefore : (n : ℕ) (pins : List ℕ) (next : ℕ) → 0 < next → Fed n next pins → MadeBefore next (universalRows S n pins next)
     unfolding universalRows mixRows inputsOf
@@ -115,8 +114,8 @@ module _ (S : Selector) where
         let after = selectNext S n next in
         madeBefore-append (universal-madeBefore n (take (pinCount n) pins) next z (upper-fed F))
         (ap (λ k. next + k) (universal-totals S shape n (take (pinCount n) pins) next .wires))
-        (madeBefore-append (shape .madeBefore n outs after (omega arith) (universal-below S n next))
-        (ap (λ k. after + k) (shape .totals n outs after .wires))
+        (madeBefore-append (shape .at n .madeBefore outs after (length-universalOuts S n next) (omega arith) (universal-below S n next))
+        (ap (λ k. after + k) (shape .at n .totals outs after .wires))
         (madeBefore-append
         (y-madeBefore (mixNext S n next) (pinCount n) _ _ (λ j l. omega (arith, mixed-fed F j l)) (λ j l. omega (arith, selected-fed n next j z l)))
         (ap (λ k. mixNext S n next + k) (y-list (pinCount n) _ _ .wires))
@@ -128,14 +127,14 @@ module _ (S : Selector) where
     unfolding universalBits universalTakes mixBits tableProgram
     length-universalBits G zero base = length-listOf gateBits _
     length-universalBits G (suc n) base =
-        simp (length-append, length-universalBits G n base, length-universalBits G n (base + 2 ^ n), shape .program, length-listOf)
+        simp (length-append, length-universalBits G n base, length-universalBits G n (base + 2 ^ n), shape .at n .program, length-listOf)
 
     pub universalBits-bits : (G : Gates) (n base : ℕ) → AreBits (universalBits S G n base)
     unfolding universalBits tableProgram
     universalBits-bits G zero base = bits-listOf gateBits (λ i. omega arith)
     universalBits-bits G (suc n) base =
         bits-append (universalBits-bits G n base)
-        (bits-append (shape .areBits n _) (bits-append (mixBits-bits G base (2 ^ n)) (universalBits-bits G n (base + 2 ^ n))))
+        (bits-append (shape .at n .areBits (wanted-selected G base (2 ^ n) (pow-pos n))) (bits-append (mixBits-bits G base (2 ^ n)) (universalBits-bits G n (base + 2 ^ n))))
 
   -- a bit for each row, and three more for each gate
   pub universal-takes : (n : ℕ) → universalTakes S n ≡ universalCount S n + 3 * 2 ^ n

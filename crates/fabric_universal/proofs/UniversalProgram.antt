@@ -10,11 +10,10 @@ use lib.Dec.{leb, ltb}
 use lib.ListN.{length, getD, List·getD-append}
 use Rattle.lists.specs.Lists.{listOf}
 use Rattle.lists.proofs.ListsLaws.{length-listOf, getD-listOf}
-use Rattle.block_elements.specs.Rows.{operands, gateBits}
-use Rattle.block_networks.specs.Wanted.{mapping}
+use Rattle.blocks.specs.Elements.{operands, gateBits}
+use Rattle.blocks.specs.Networks.{mapping, Selected}
 use Rattle.lists.specs.Counting.{oneIf}
-use Rattle.block_networks.specs.Selection.{Selected}
-use Rattle.block_networks.proofs.SelectionRouting.{selected-at}
+use Rattle.blocks.proofs.NetworksLaws.{selected-at}
 use Rattle.fabric_universal.specs.Selector.{Selector}
 use Rattle.fabric_universal.specs.Universal.{Gates, wireOf, tableProgram, isOf, wantedGate, wantedGates, mixBits, universalBits}
 
@@ -86,7 +85,7 @@ length-mixBits G base h = length-listOf (operands * h) _
 -- the bits by their parts
 pub program-parts : (S : Selector) (G : Gates) (n base : ℕ) (rest : List ℕ) → universalBits S G (suc n) base ++ rest
     ≡ universalBits S G n base
-    ++ (S .bits n (wantedGates G base (2 ^ n)) ++ (mixBits G base (2 ^ n) ++ (universalBits S G n (base + 2 ^ n) ++ rest)))
+    ++ (S n .bits (wantedGates G base (2 ^ n)) ++ (mixBits G base (2 ^ n) ++ (universalBits S G n (base + 2 ^ n) ++ rest)))
 unfolding universalBits
 program-parts S G n base rest = simp append-assoc
 

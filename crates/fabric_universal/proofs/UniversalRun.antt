@@ -13,10 +13,9 @@ use lib.Pow.{pow-pos}
 use lib.Seq.{getD-append-add, getD-take, take-at, drop-at}
 use Rattle.lists.specs.Lists.{listOf}
 use Rattle.lists.proofs.ListsLaws.{listOf-ext}
-use Rattle.block_elements.specs.Rows.{Row, Gate, tableBits, operands, gateBits, choose, State, on, outputs, step, run, Delivered}
-use Rattle.block_elements.proofs.RowsLaws.{run-append, run-keeps, run-wires, run-bits, run-gates}
-use Rattle.block_elements.proofs.YRun.{y-list, runY-made, runY-left, runY-at}
-use Rattle.block_networks.specs.Wanted.{mapping}
+use Rattle.blocks.specs.Elements.{Row, Gate, tableBits, operands, gateBits, choose, State, on, outputs, step, run, Delivered}
+use Rattle.blocks.proofs.ElementsLaws.{run-append, run-keeps, run-wires, run-bits, run-gates, y-list, runY-made, runY-left, runY-at}
+use Rattle.blocks.specs.Networks.{mapping}
 use Rattle.lists.specs.Counting.{oneIf}
 use Rattle.fabric_universal.specs.Views.{View, viewOf, views}
 use Rattle.fabric_universal.proofs.ViewsLaws.{views-append, views-none}
@@ -89,7 +88,7 @@ module _ {A : Type 0} (none : A) (gate : ℕ → List ℕ → List A → A) (S :
     upperDone = run none gate (universalRows S n (take (pinCount n) pins) next) s
 
     abbrev selectDone : State A
-    selectDone = run none gate (S .rows n (universalOuts S n next) (selectNext S n next)) upperDone
+    selectDone = run none gate (S n .rows (universalOuts S n next) (selectNext S n next)) upperDone
 
     abbrev mixDone : State A
     mixDone = run none gate (mixRows (pinCount n) pins (selectedOuts S n next)) selectDone
@@ -116,8 +115,8 @@ module _ {A : Type 0} (none : A) (gate : ℕ → List ℕ → List A → A) (S :
     views-parts shape =
         views-append none gate _ _ s
         ∙ ap (λ (vs : List (View A)). views none gate (universalRows S n (take (pinCount n) pins) next) s ++ vs)
-        (views-append none gate (S .rows n (universalOuts S n next) (selectNext S n next)) _ upperDone
-        ∙ rw (views-none none gate (S .rows n (universalOuts S n next) (selectNext S n next)) upperDone (shape .totals n _ _ .gates))
+        (views-append none gate (S n .rows (universalOuts S n next) (selectNext S n next)) _ upperDone
+        ∙ rw (views-none none gate (S n .rows (universalOuts S n next) (selectNext S n next)) upperDone (shape .at n .totals _ _ .gates))
         (views-append none gate (mixRows (pinCount n) pins (selectedOuts S n next)) _ selectDone
         ∙ rw (views-none none gate (mixRows (pinCount n) pins (selectedOuts S n next)) selectDone (y-list (pinCount n) _ _ .gates))))
 
@@ -173,7 +172,7 @@ module _ {A : Type 0} (none : A) (gate : ℕ → List ℕ → List A → A) (S :
       mixProgram = mixBits G base (2 ^ n) ++ lowerProgram
 
       abbrev selectProgram : List ℕ
-      selectProgram = S .bits n (wantedGates G base (2 ^ n)) ++ mixProgram
+      selectProgram = S n .bits (wantedGates G base (2 ^ n)) ++ mixProgram
 
       upper-starts : Starts none gate S G value n base (take (pinCount n) pins) next s selectProgram
       upper-starts = record {
@@ -190,13 +189,14 @@ module _ {A : Type 0} (none : A) (gate : ℕ → List ℕ → List A → A) (S :
         made-upper = U .wires ∙ ap (λ w. w + universalWires S n) (H .made)
 
         selected : Delivered none (pinCount n) (mapping (wantedGates G base (2 ^ n))) (universalOuts S n next) (selectedOuts S n next)
-            (upperDone none gate S n pins next s) (selectDone none gate S n pins next s) (S .wires n) mixProgram
+            (upperDone none gate S n pins next s) (selectDone none gate S n pins next s) (S n .wires) mixProgram
         selected =
-            D .delivers n (wanted-selected G base (2 ^ n) (pow-pos n)) (universalOuts S n next) (selectNext S n next) _ mixProgram
+            D .at n .delivers (wanted-selected G base (2 ^ n) (pow-pos n)) (universalOuts S n next) (selectNext S n next) _ mixProgram
+            (length-universalOuts S n next)
             (omega (arith, H .some)) (universal-below S n next) made-upper (U .bits)
 
         made-selected : length (selectDone none gate S n pins next s .wires) ≡ mixNext S n next
-        made-selected = selected .wires ∙ ap (λ w. w + S .wires n) made-upper
+        made-selected = selected .wires ∙ ap (λ w. w + S n .wires) made-upper
 
         -- pin j of the lower half, by its Y row's bit
         mixed : (j : ℕ) → j < pinCount n → on none (mixDone none gate S n pins next s) (getD (lowerPins S n next) j 0)

@@ -3,7 +3,7 @@ use mathlib.Core.Path.{_≡_, refl, ap, _∙_}
 use mathlib.Core.List.{List, [], _∷_, _++_, append-assoc}
 use Prim.Native.Nat.{ℕ}
 use native.Mathlib.Omega.{arith}
-use Rattle.block_elements.specs.Rows.{Row, X, Y, Gate, gatesIn, total, State, step, run}
+use Rattle.blocks.specs.Elements.{Row, X, Y, Gate, gatesIn, total, State, step, run}
 use Rattle.fabric_universal.specs.Views.{View, viewOf, views}
 
 module _ {A : Type 0} (none : A) (gate : ℕ → List ℕ → List A → A) where

@@ -9,9 +9,8 @@ use Rattle.powers.specs.Powers.{ceilLog}
 use Rattle.plan.specs.declared.record.Gate.{Gate}
 use Rattle.plan.specs.declared.record.Plan.{Plan}
 use Rattle.plan.specs.Record.{wire, gateAt, outputAt}
-use Rattle.block_elements.specs.Rows.{Row, operands, choose, flat}
-use Rattle.block_elements.specs.Bits.{pack}
-use Rattle.block_networks.specs.Selection.{selectionRows, selectionOuts, selectionWires, selectionCount, selectionBits}
+use Rattle.blocks.specs.Elements.{Row, operands, choose, flat, pack}
+use Rattle.blocks.specs.Networks.{selectionRows, selectionOuts, selectionWires, selectionCount, selectionBits}
 use Rattle.fabric_universal.specs.Selector.{pinCount, selection}
 use Rattle.fabric_universal.specs.Universal.{universalRows, universalOuts, universalWires, universalCount, universalTakes, Gates, universalBits}
 

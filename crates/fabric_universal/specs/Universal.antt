@@ -6,8 +6,7 @@ use mathlib.Core.List.{List, [], _∷_, _++_}
 use lib.Dec.{leb, ltb}
 use lib.ListN.{getD, take}
 use Rattle.lists.specs.Lists.{listOf}
-use Rattle.block_elements.specs.Rows.{Row, Y, Gate, operands, gateBits}
-use Rattle.block_elements.specs.Bits.{bitOf}
+use Rattle.blocks.specs.Elements.{Row, Y, Gate, operands, gateBits, bitOf}
 use Rattle.lists.specs.Counting.{oneIf}
 use Rattle.fabric_universal.specs.Selector.{pinCount, Selector}
 
@@ -25,22 +24,22 @@ module _ (S : Selector) where
   -- how many rows U(2 ^ n) has, how many wires it makes, how many program bits it takes
   unfoldable pub universalCount : ℕ → ℕ
   universalCount zero = 1
-  universalCount (suc n) = universalCount n + (S .count n + (pinCount n + universalCount n))
+  universalCount (suc n) = universalCount n + (S n .count + (pinCount n + universalCount n))
 
   unfoldable pub universalWires : ℕ → ℕ
   universalWires zero = 1
-  universalWires (suc n) = universalWires n + (S .wires n + (pinCount n + universalWires n))
+  universalWires (suc n) = universalWires n + (S n .wires + (pinCount n + universalWires n))
 
   unfoldable pub universalTakes : ℕ → ℕ
   universalTakes zero = gateBits
-  universalTakes (suc n) = universalTakes n + (S .count n + (pinCount n + universalTakes n))
+  universalTakes (suc n) = universalTakes n + (S n .count + (pinCount n + universalTakes n))
 
   -- the first wire that the selection block makes, that the Y rows make, that the lower half makes
   abbrev pub selectNext : ℕ → ℕ → ℕ
   selectNext n next = next + universalWires n
 
   abbrev pub mixNext : ℕ → ℕ → ℕ
-  mixNext n next = selectNext n next + S .wires n
+  mixNext n next = selectNext n next + S n .wires
 
   abbrev pub lowerNext : ℕ → ℕ → ℕ
   lowerNext n next = mixNext n next + pinCount n
@@ -52,7 +51,7 @@ module _ (S : Selector) where
 
   -- what the selection block gives to the lower half of U(2 * 2 ^ n), and that half's pins
   abbrev pub selectedOuts : ℕ → ℕ → List ℕ
-  selectedOuts n next = S .outs n (universalOuts n next) (selectNext n next)
+  selectedOuts n next = S n .outs (universalOuts n next) (selectNext n next)
 
   abbrev pub lowerPins : ℕ → ℕ → List ℕ
   lowerPins n next = wiresFrom (pinCount n) (mixNext n next)
@@ -62,7 +61,7 @@ module _ (S : Selector) where
   universalRows zero pins next = Gate (getD pins 0 0 ∷ getD pins 1 0 ∷ []) ∷ []
   universalRows (suc n) pins next =
       universalRows n (take (pinCount n) pins) next
-      ++ (S .rows n (universalOuts n next) (selectNext n next)
+      ++ (S n .rows (universalOuts n next) (selectNext n next)
       ++ (mixRows (pinCount n) pins (selectedOuts n next)
       ++ universalRows n (lowerPins n next) (lowerNext n next)))
 
@@ -104,4 +103,4 @@ unfoldable pub universalBits : Selector → Gates → ℕ → ℕ → List ℕ
 universalBits S G zero base = tableProgram (G .table base)
 universalBits S G (suc n) base =
     universalBits S G n base
-    ++ (S .bits n (wantedGates G base (2 ^ n)) ++ (mixBits G base (2 ^ n) ++ universalBits S G n (base + 2 ^ n)))
+    ++ (S n .bits (wantedGates G base (2 ^ n)) ++ (mixBits G base (2 ^ n) ++ universalBits S G n (base + 2 ^ n)))

@@ -2,7 +2,7 @@
 use Prim.Native.Nat.{ℕ}
 use mathlib.Core.List.{List, [], _∷_, _++_, map}
 use lib.ListN.{take}
-use Rattle.block_elements.specs.Rows.{Row, X, Y, Gate, tableBits, State, on, step}
+use Rattle.blocks.specs.Elements.{Row, X, Y, Gate, tableBits, State, on, step}
 
 -- what one gate row sees: its number among the gate rows, its table's bits, the lowest first, its operands' values
 pub record View (A : Type 0) : Type 0 where

@@ -5,7 +5,7 @@ mod rows;
 
 use elements::CountAnswer;
 use elements::Counts;
-use fabric_sizes::count_fabric;
+use fabric::count_fabric;
 use fault::Fault;
 use line::Line;
 use line::blank;

@@ -10,7 +10,7 @@ use lib.ListN.{length}
 use Rattle.fault.specs.declared.Fault.{Fault}
 use Rattle.fault.specs.Checks.{unless, firstOf}
 use Rattle.fault.proofs.ChecksLaws.{first-passes, first-fails}
-use Rattle.block_elements.specs.Bits.{bytesFor, bitAt}
+use Rattle.blocks.specs.Elements.{bytesFor, bitAt}
 use Rattle.fabric_run_checks.specs.RunFault.{spareBits, givenProgramFault}
 use Rattle.fabric_run_checks.proofs.check_program.Statement.{statement}
 use Rattle.fabric_run_checks.proofs.check_program.Tie as tie

@@ -4,7 +4,7 @@ use Prim.Native.Nat.{_<_, _≤_}
 use borrow.Author.Needs.{needs}
 use borrow.Author.Tests.{le-leb, lt-leb}
 use Rattle.fault.specs.Checks.{roomFault}
-use Rattle.fabric_sizes.specs.FabricChecks.{programLength}
+use Rattle.fabric.specs.Fabrics.{programLength}
 use Rattle.equivalence.specs.ThirdDemand.{planTableLength, planFabricWires}
 use Rattle.equivalence.specs.BothCalls.{bothRoomFault}
 use Rattle.equivalence.proofs.both.check_rooms.Statement.{statement}

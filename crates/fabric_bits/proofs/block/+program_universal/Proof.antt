@@ -9,7 +9,7 @@ use borrow.Fn.Kinds.{In}
 use borrow.Fn.PlainCycle.{Measures, is, falls, and}
 use lib.ListN.{length}
 use lib.Pow.{pow-pos}
-use Rattle.block_elements.specs.Bits.{storeBits}
+use Rattle.blocks.specs.Elements.{storeBits}
 use Rattle.fabric_universal.specs.Fabric.{gateLevel}
 use Rattle.fabric_sizes.proofs.PartsLaws.{halved}
 use Rattle.fabric_lists.specs.WantedLists.{gatesIn, pinsIn}

@@ -7,8 +7,8 @@ use borrow.Author.Needs.{needs}
 use lib.ListN.{length}
 use Rattle.fault.specs.Number.{answerNumber}
 use Rattle.fault.proofs.BuffersLaws.{filled-refused, filled-done}
-use Rattle.block_elements.specs.Bits.{bytesFor, storeBits}
-use Rattle.block_bits.proofs.StoreLaws.{store-zeroed, bytes-filled}
+use Rattle.blocks.specs.Elements.{bytesFor, storeBits}
+use Rattle.blocks.proofs.ElementsLaws.{store-zeroed, bytes-filled}
 use Rattle.fabric_universal.specs.Fabric.{planBits, planProgram}
 use Rattle.fabric_universal.proofs.FabricLaws.{length-planBits}
 use Rattle.fabric_sizes.specs.FabricChecks.{planProgramFault}

@@ -3,7 +3,7 @@ use mathlib.Core.Path.{_≡_, refl, ap, _∙_}
 use Prim.Native.Nat.{_*_}
 use native.Mathlib.Omega.{arith}
 use borrow.Author.Needs.{needs}
-use Rattle.block_networks.specs.Selection.{selectionCount}
+use Rattle.blocks.specs.Networks.{selectionCount}
 use Rattle.fabric_universal.specs.Selector.{pinCount, selection}
 use Rattle.fabric_universal.specs.Universal.{universalTakes}
 use Rattle.fabric_universal.specs.Fabric.{gateLevel}

@@ -3,8 +3,8 @@ use mathlib.Core.Path.{_≡_, ap, _∙_}
 use native.Mathlib.Omega.{arith}
 use borrow.Author.Needs.{needs}
 use lib.ListN.{take}
-use Rattle.block_elements.specs.Bits.{storeBits}
-use Rattle.block_networks.specs.Selection.{selectionBits}
+use Rattle.blocks.specs.Elements.{storeBits}
+use Rattle.blocks.specs.Networks.{selectionBits}
 use Rattle.fabric_lists.specs.WantedLists.{inputsWanted}
 use Rattle.fabric_lists.proofs.WantedListsLaws.{inputs-listed}
 use Rattle.fabric_bits.proofs.programming.store_inputs.Statement.{statement}

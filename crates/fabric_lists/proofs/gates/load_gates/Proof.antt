@@ -6,7 +6,7 @@ use borrow.Author.Needs.{needs}
 use lib.ListN.{length, length-set}
 use Rattle.lists.specs.Lists.{listOf}
 use Rattle.fault.specs.Buffers.{over}
-use Rattle.block_elements.specs.Rows.{operands}
+use Rattle.blocks.specs.Elements.{operands}
 use Rattle.fabric_universal.specs.Fabric.{planGates}
 use Rattle.fabric_lists.specs.GateLists.{loadedGates}
 use Rattle.fabric_lists.proofs.GateListsLaws.{gate-step, table-step}

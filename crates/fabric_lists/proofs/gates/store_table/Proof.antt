@@ -5,10 +5,8 @@ use native.Mathlib.Omega.{arith}
 use borrow.Author.Needs.{needs}
 use lib.ListN.{length}
 use Rattle.lists.specs.Lists.{listOf}
-use Rattle.block_elements.specs.Bits.{bitOf, storeBits}
-use Rattle.block_elements.specs.Rows.{gateBits}
-use Rattle.block_elements.proofs.BitsLaws.{bitOf-mask}
-use Rattle.block_bits.proofs.StoreLaws.{store-none, store-step}
+use Rattle.blocks.specs.Elements.{bitOf, storeBits, gateBits}
+use Rattle.blocks.proofs.ElementsLaws.{bitOf-mask, store-none, store-step}
 use Rattle.fabric_universal.specs.Universal.{tableProgram}
 use Rattle.fabric_lists.proofs.gates.store_table.Statement.{statement}
 use Rattle.fabric_lists.proofs.gates.store_table.Tie as tie

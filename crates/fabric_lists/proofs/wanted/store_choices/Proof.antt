@@ -6,10 +6,10 @@ use native.Mathlib.Omega.{arith}
 use borrow.Author.Needs.{needs}
 use lib.ListN.{length, getD}
 use Rattle.lists.specs.Lists.{listOf}
-use Rattle.block_elements.specs.Bits.{storeBits}
+use Rattle.blocks.specs.Elements.{storeBits}
 use Rattle.lists.specs.Counting.{oneIf}
 use Rattle.lists.proofs.CountingLaws.{one-lt}
-use Rattle.block_bits.proofs.StoreLaws.{store-none, store-step}
+use Rattle.blocks.proofs.ElementsLaws.{store-none, store-step}
 use Rattle.fabric_universal.specs.Universal.{isOf, mixBits}
 use Rattle.fabric_lists.specs.WantedLists.{pinsIn}
 use Rattle.fabric_lists.proofs.WantedListsLaws.{among-gates}

@@ -4,7 +4,7 @@ use mathlib.Core.Path.{_≡_, sym, ap₂, subst, _∙_}
 use Prim.Native.Nat.{ℕ, _+_, _*_, _≤_}
 use borrow.Author.Needs.{needs}
 use lib.ListN.{getD}
-use Rattle.block_elements.specs.Bits.{bitAt}
+use Rattle.blocks.specs.Elements.{bitAt}
 use Rattle.fabric_run.specs.RunRows.{leftOf, rightOf}
 use Rattle.fabric_run.proofs.RowLaws.{g-done}
 use Rattle.fabric_run.proofs.running.run_g.Statement.{statement}

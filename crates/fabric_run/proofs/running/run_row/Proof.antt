@@ -1,7 +1,7 @@
 -- `fabric_run::running::run_row` meets its contract, kind by kind. Assumes nothing.
 use mathlib.Core.Path.{sym, ap, subst, _∙_}
 use borrow.Author.Needs.{needs}
-use Rattle.block_elements.specs.Rows.{makes}
+use Rattle.blocks.specs.Elements.{makes}
 use Rattle.fabric_table_checks.proofs.CountingLaws.{kind-x, kind-y, kind-g}
 use Rattle.fabric_run.specs.RunRows.{RowRoom, rowDone}
 use Rattle.fabric_run.proofs.running.run_row.Statement.{statement}

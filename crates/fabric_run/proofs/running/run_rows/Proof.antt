@@ -9,7 +9,7 @@ use mir.Val.{Fits}
 use mir.Facts.{fits-below}
 use lib.Dec.{lit<}
 use lib.ListN.{length, getD}
-use Rattle.block_elements.specs.Rows.{stride, gateBits}
+use Rattle.blocks.specs.Elements.{stride, gateBits}
 use Rattle.elements.specs.Elements.{maxWires}
 use Rattle.fabric_sizes.specs.Layout.{header, rowsIn, kindAt}
 use Rattle.fabric_table_checks.specs.TableFault.{WellFormed}

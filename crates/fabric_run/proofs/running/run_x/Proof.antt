@@ -3,7 +3,7 @@ use native.Mathlib.Omega.{arith}
 use Prim.Native.Nat.{_≤_}
 use borrow.Author.Needs.{needs}
 use lib.ListN.{length-set}
-use Rattle.block_elements.proofs.BitsLaws.{bitAt-lt}
+use Rattle.blocks.proofs.ElementsLaws.{bitAt-lt}
 use Rattle.fabric_run.specs.RunRows.{leftOf, rightOf}
 use Rattle.fabric_run.proofs.RowLaws.{chosen-fits, x-done}
 use Rattle.fabric_run.proofs.running.run_x.Statement.{statement}

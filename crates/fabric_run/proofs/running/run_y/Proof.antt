@@ -1,7 +1,7 @@
 -- `fabric_run::running::run_y` meets its contract: its bit chooses the wire. Assumes nothing.
 use native.Mathlib.Omega.{arith}
 use borrow.Author.Needs.{needs}
-use Rattle.block_elements.proofs.BitsLaws.{bitAt-lt}
+use Rattle.blocks.proofs.ElementsLaws.{bitAt-lt}
 use Rattle.fabric_run.specs.RunRows.{leftOf, rightOf}
 use Rattle.fabric_run.proofs.RowLaws.{chosen-fits, y-done}
 use Rattle.fabric_run.proofs.running.run_y.Statement.{statement}

@@ -1,7 +1,7 @@
 -- `fabric_table_checks::table::counts_of` meets its contract, kind by kind. Assumes nothing.
 use native.Mathlib.Omega.{arith}
 use borrow.Author.Needs.{needs}
-use Rattle.block_elements.specs.Rows.{makes, takes}
+use Rattle.blocks.specs.Elements.{makes, takes}
 use Rattle.fabric_table_checks.proofs.CountingLaws.{kind-x, kind-y, kind-g}
 use Rattle.fabric_table_checks.proofs.table.counts_of.Statement.{statement}
 use Rattle.fabric_table_checks.proofs.table.counts_of.Tie as tie
