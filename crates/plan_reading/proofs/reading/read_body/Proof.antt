@@ -13,8 +13,7 @@ use Rattle.plan.specs.Record.{maxGates, maxOutputs, wire, zeroGate, gateWire}
 use Rattle.plan.proofs.RecordLaws.{wire-fits}
 use Rattle.plan_fields.specs.Parsing.{got, followed}
 use Rattle.plan_fields.specs.Fields.{gateStep}
-use Rattle.plan_fields.specs.Answers.{outputAnswer}
-use Rattle.plan_fields.specs.GateAnswer.{gateAnswer}
+use Rattle.plan_fields.specs.Answers.{outputAnswer, gateAnswer}
 use Rattle.plan_reading.specs.Parts.{Limited}
 use Rattle.plan_reading.specs.PlanFile.{outputStep, outcome}
 use Rattle.plan_reading.proofs.PartsLaws.{ReadSoFar, Counted, none-read, one-more, one-refused, all-read, plan-held, gates-refused, outputs-refused, tail-refused, body-read}
