@@ -18,7 +18,7 @@ ghost use Rattle.fabric_sizes.specs.FabricChecks.{fabricFault, planProgramFault
 ghost use Rattle.fabric_bits.specs.ProgramCalls.{planProgramResult};
 ghost use Rattle.fabric_run_checks.specs.RunFault.{runFault};
 ghost use Rattle.fabric_run.specs.RunCalls.{runWork, runResult};
-ghost use Rattle.capi.specs.Exports.{outcomeOf, countsOf};
+ghost use Rattle.capi.specs.Exports.{exportOutcome, countsOf};
 use elements::CountAnswer;
 use elements::FabricWire;
 use plan::Plan;
@@ -35,7 +35,7 @@ pub struct Read {
 // Reads the plan that a file holds.
 #[no_mangle]
 pub extern "C" fn mkd_plan_read(file: &[u8]) -> Read
-    ensures { λ r. ⌜ outcomeOf r ≡ planRead (now (file .entry)) ⌝ }
+    ensures { λ r. ⌜ exportOutcome r ≡ planRead (now (file .entry)) ⌝ }
 {
     let read = plan_reading::read_plan(file);
     let answer = read.answer;
