@@ -15,7 +15,7 @@ use lib.Seq.{getD-set-same, getD-set-other}
 use Rattle.fault.specs.declared.Fault.{Fault}
 use Rattle.fault.specs.Number.{faultNumber}
 use Rattle.fault.specs.Checks.{unless, andThen}
-use Rattle.fault.proofs.ChecksLaws.{unless-zero, and-then-zero, first-of-zero, first-passes, first-fails, number-positive, list-faultless}
+use Rattle.fault.proofs.ChecksLaws.{unless-zero, and-then-zero, first-of-zero, next-passes, first-fails, number-positive, list-faultless}
 use Rattle.block_elements.specs.Bits.{bytesFor}
 use Rattle.block_networks.specs.Wanted.{Wanted}
 use Rattle.block_networks.specs.Selection.{selectionLevel, wholeCount, selectionCount, Selected}
@@ -36,7 +36,7 @@ module _ (allowed : ℕ → Bool) where
       first-fails (λ o. unless (allowed o) Fault.Source) k o (faultNumber Fault.Source) l z (ap (λ t. unless t Fault.Source) (sym e)) (number-positive Fault.Source)
 
   pub source-passed : (o : ℕ) → firstSource allowed o ≡ 0 → allowed o ≡ true → firstSource allowed (o + 1) ≡ 0
-  source-passed o z e = rw (add-one o) (first-passes (λ o. unless (allowed o) Fault.Source) o z (ap (λ t. unless t Fault.Source) e))
+  source-passed o z e = rw (add-one o) (next-passes (λ o. unless (allowed o) Fault.Source) o z (ap (λ t. unless t Fault.Source) e))
 
 -- the tests of an entry's range
 module _ (m : ℕ) (wanted : List ℕ) (o : ℕ) where

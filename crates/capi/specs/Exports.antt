@@ -4,8 +4,8 @@ use Rattle.capi.specs.declared.Counted.{Counted}
 use Rattle.plan_reading.specs.PlanFile.{ReadOutcome}
 use Rattle.capi.specs.declared.Read.{Read}
 
-abbrev pub outcomeOf : Read → ReadOutcome
-outcomeOf r = record { number = r .number; at = r .at; plan = r .plan }
+abbrev pub exportOutcome : Read → ReadOutcome
+exportOutcome r = record { number = r .number; at = r .at; plan = r .plan }
 
 -- what the header's struct mkd_counts says
 abbrev pub countsOf : Counted → CountOutcome

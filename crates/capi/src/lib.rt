@@ -9,7 +9,7 @@ ghost use Rattle.plan_reading.specs.PlanFile.{planRead};
 ghost use Rattle.blocks.specs.Calls.{writeFault, selectionWriteFault, writtenRows, writtenOutputs, selectionWrittenRows, selectionWrittenOutputs};
 ghost use Rattle.blocks.specs.Calls.{programFault, selectionProgramFault, programResult, selectionProgramResult};
 ghost use Rattle.fabric.specs.Fabrics.{counting, fabricResult, fabricFault, planProgramFault, planProgramResult, runFault, runWork, runResult};
-ghost use Rattle.capi.specs.Exports.{outcomeOf, countsOf};
+ghost use Rattle.capi.specs.Exports.{exportOutcome, countsOf};
 use elements::CountAnswer;
 use elements::FabricWire;
 use plan::Plan;
@@ -26,7 +26,7 @@ pub struct Read {
 // Reads the plan that a file holds.
 #[no_mangle]
 pub extern "C" fn mkd_plan_read(file: &[u8]) -> Read
-    ensures { λ r. ⌜ outcomeOf r ≡ planRead (now (file .entry)) ⌝ }
+    ensures { λ r. ⌜ exportOutcome r ≡ planRead (now (file .entry)) ⌝ }
 {
     let read = plan_reading::read_plan(file);
     let answer = read.answer;

@@ -74,9 +74,9 @@ pub second-answers : (m a b : ℕ) → 0 ≡ a → m ≡ b → m ≡ andThen a b
 second-answers m a b z e = rw (← z) e
 
 module _ (check : ℕ → ℕ) where
-  pub first-passes : (n : ℕ) → firstOf check n ≡ 0 → check n ≡ 0 → firstOf check (suc n) ≡ 0
+  pub next-passes : (n : ℕ) → firstOf check n ≡ 0 → check n ≡ 0 → firstOf check (suc n) ≡ 0
   unfolding firstOf
-  first-passes n h e = rw h e
+  next-passes n h e = rw h e
 
   -- the first of more checks is the first of n where one of those fails
   still-first : (k n : ℕ) → n ≤ k → 1 ≤ firstOf check n → firstOf check k ≡ firstOf check n

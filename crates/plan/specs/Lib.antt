@@ -1,7 +1,7 @@
--- Document 01, "The plan": a plan in memory, in reading order.
+-- Document 01, "The plan" and the plan faults of its "Refusal table": a plan in memory, in reading order.
 -- the record in memory and its limits
 pub mod Record
 -- what a count, a map byte, an operand, a table and an output may be
 pub mod Rules
--- faults of a plan in memory
+-- the faults of a plan in memory, and when it is accepted
 pub mod Faults

@@ -1,5 +1,5 @@
-// Plans: the record in memory and the rules of its parts. What a plan's faults are is defined here; the crate plan_faults finds them. Nothing
-// here reads files or knows of fabrics.
+// Plans: the record in memory, the rules of its parts, and its faults. For any record `plan_fault` says, with proof, whether it is an accepted
+// plan. Nothing here reads files or knows of fabrics.
 mod faults;
 mod record;
 mod rules;

@@ -13,7 +13,7 @@ use Rattle.plan.specs.Faults.{Accepted}
 use Rattle.plan.proofs.FaultsLaws.{GateWithin, accepted-counts, accepted-gate, accepted-output}
 use Rattle.plan_evaluation_checks.specs.EvaluationChecks.{Evaluable}
 use Rattle.plan_evaluation_checks.proofs.EvaluationChecksLaws.{row-length, row-bit}
-use Rattle.plan_evaluation.specs.Evaluation.{valueOn, planWires, namedBy, tableBit, gateBit, OutputsRoom, maxPlanWires}
+use Rattle.plan_evaluation.specs.Evaluation.{valueOn, planWires, namedBy, tableBit, gateBit, NamedWires, maxPlanWires}
 
 module _ {A : Type 0} (none : A) (act : ℕ → ℕ → A → A → A) (p : Plan) (row : List A) where
   pub length-planWires : (n : ℕ) → length (planWires none act p row n) ≡ length row + n
@@ -44,8 +44,8 @@ pub record GateRoom (p : Plan) (i : ℕ) : Type 0 where
   pub own : p .inputs + i < maxPlanWires
   pub upTo : gateWire (p .inputs) i ≤ maxPlanWires
 
-pub outputs-room : (p : Plan) → Accepted p → OutputsRoom (p .«output_count») (p .outputs)
-outputs-room p accepted j h =
+pub named-wires : (p : Plan) → Accepted p → NamedWires (p .«output_count») (p .outputs)
+named-wires p accepted j h =
     let c = accepted-counts p accepted in
     let o = accepted-output p accepted j h in
     record { place = omega arith; someWire = omega arith; upTo = omega arith }

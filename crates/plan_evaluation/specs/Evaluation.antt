@@ -48,10 +48,10 @@ abbrev pub maxPlanWires : ℕ
 maxPlanWires = maxInputs + maxGates
 
 -- where output j and its wire stand
-pub record OutputRoom (outputs : List PlanWire) (j : ℕ) : Type 0 where
+pub record NamedWire (outputs : List PlanWire) (j : ℕ) : Type 0 where
   pub place : j < maxOutputs
   pub someWire : 1 ≤ getD outputs j (wire 0) .0
   pub upTo : getD outputs j (wire 0) .0 ≤ maxPlanWires
 
-abbrev pub OutputsRoom : ℕ → List PlanWire → Type 0
-OutputsRoom count outputs = (j : ℕ) → j < count → OutputRoom outputs j
+abbrev pub NamedWires : ℕ → List PlanWire → Type 0
+NamedWires count outputs = (j : ℕ) → j < count → NamedWire outputs j

@@ -1,3 +1,3 @@
--- Document 01, plan evaluation, in reading order.
--- what a plan gives on a row of inputs
+-- Document 01, plan evaluation ("Conditions of acceptance", 3).
+-- what a plan gives on a row of inputs, and the call
 pub mod Evaluation

@@ -7,7 +7,7 @@ ghost use Rattle.fault.specs.Number.{answerNumber};
 ghost use Rattle.fault.specs.Buffers.{over};
 ghost use Rattle.plan.specs.Record.{wire, places};
 ghost use Rattle.plan_evaluation_checks.specs.EvaluationChecks.{evaluateFault, Evaluable};
-ghost use Rattle.plan_evaluation.specs.Evaluation.{valueOn, tableBit, gateBit, planWires, evaluateResult, maxPlanWires, OutputsRoom};
+ghost use Rattle.plan_evaluation.specs.Evaluation.{valueOn, tableBit, gateBit, planWires, evaluateResult, maxPlanWires, NamedWires};
 use fault::Answer;
 use plan::Plan;
 use plan::PlanWire;
@@ -25,7 +25,7 @@ pub fn evaluate(plan: Plan, row: &[u8], result: &mut [u8]) -> Answer
         Answer::Refused(f) => Answer::Refused(f),
         Answer::Done => {
             let outputs = plan.outputs;
-            write_outputs(plan.output_count, outputs, gate_wires(plan, row), result);
+            write_result(plan.output_count, outputs, gate_wires(plan, row), result);
             Answer::Done
         }
     }
@@ -81,13 +81,13 @@ fn gate_wires(plan: Plan, row: &[u8]) -> [u8; MAX_PLAN_WIRES]
 }
 
 // The bits on the wires that so many outputs name, into the first entries of the result.
-fn write_outputs(
+fn write_result(
     count: u16,
     outputs: [PlanWire; Plan::MAX_OUTPUTS],
     wires: [u8; MAX_PLAN_WIRES],
     result: &mut [u8],
 )
-    requires { ⌜ OutputsRoom count outputs ⌝ }
+    requires { ⌜ NamedWires count outputs ⌝ }
     requires { ⌜ count ≤ length (now result) ⌝ }
     ensures { λ _. ⌜ now (result .exit) ≡ over (listOf count (λ j. valueOn 0 wires (getD outputs j (wire 0)))) (now (result .entry)) ⌝ }
 {

@@ -1,1 +1,2 @@
+-- what holds where the checks of evaluation pass
 pub mod EvaluationChecksLaws

@@ -5,5 +5,3 @@ pub mod Parsing
 pub mod Fields
 -- what the answers of the steps say
 pub mod Answers
--- Document 01, "The plan": what the answer of reading a gate says.
-pub mod GateAnswer

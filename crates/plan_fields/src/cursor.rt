@@ -55,7 +55,7 @@ fn left_of(file: &[u8], at: usize) -> usize
 }
 
 // A byte as a number of 16 bits.
-fn wide(byte: u8) -> u16
+fn wide_byte(byte: u8) -> u16
     ensures { λ r. ⌜ r ≡ byte ⌝ }
 {
     byte as u16
@@ -151,7 +151,7 @@ impl Cursor {
                 at: at,
             });
         }
-        let table = wide(file[at]);
+        let table = wide_byte(file[at]);
         if table_allowed(table) {
             return TableStep::Table(table, Cursor { at: at + 1 });
         }

@@ -1,11 +1,9 @@
-// A gate of a plan file: one map byte, then only the fields whose map bit stands. For any bytes and any place in them the call says, with
-// proof, which gate stands there and where the next field begins, or which fault it has and where.
+// A gate of a plan file: one map byte, then only the fields whose map bit stands; the others have their defaults.
 ghost use mathlib.Core.Path.{_≡_};
 ghost use Prim.Native.Nat.{_-_, _<_};
 ghost use Rattle.plan_fields.specs.Parsing.{standing};
 ghost use Rattle.plan_fields.specs.Fields.{mapBit, operandField, tableField, gateFields, gateStep};
-ghost use Rattle.plan_fields.specs.Answers.{operandAnswer, tableAnswer};
-ghost use Rattle.plan_fields.specs.GateAnswer.{gateAnswer};
+ghost use Rattle.plan_fields.specs.Answers.{operandAnswer, tableAnswer, gateAnswer};
 use crate::cursor::Cursor;
 use crate::cursor::MapStep;
 use crate::cursor::OperandStep;

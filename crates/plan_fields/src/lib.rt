@@ -1,5 +1,5 @@
-// The cursor of a plan file. For any bytes and any place in them, each step says, with proof, which field stands there and where the
-// next one begins, or which fault it has and where.
+// The fields of a plan file, and a gate. For any bytes and any place in them, each step says, with proof, which field or gate stands there and
+// where the next one begins, or which fault it has and where.
 mod cursor;
 mod gate;
 

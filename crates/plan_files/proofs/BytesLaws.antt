@@ -13,7 +13,7 @@ use Rattle.plan.specs.Faults.{Accepted}
 use Rattle.plan.proofs.RulesLaws.{count-bounds, map-bound, operand-bounds, table-bound, source-bounds}
 use Rattle.plan.proofs.FaultsLaws.{AllowedGate, accepted-allowed}
 use Rattle.plan_fields.specs.Fields.{mapBit}
-use Rattle.plan_files.specs.Encoding.{byte, word, whereStanding, encodeGate, joined, encode, LeavesOutDefaults, Choice, OfBytes}
+use Rattle.plan_files.specs.Encoding.{byte, word, whereStanding, encodeGate, joinedBytes, encode, LeavesOutDefaults, Choice, OfBytes}
 
 -- numbers written in one and two bytes
 byte-bytes : (n : ℕ) → n < 256 → OfBytes (byte n)
@@ -35,10 +35,10 @@ append-bytes [] f he hf i = hf i
 append-bytes (x ∷ e) f he hf zero = he 0
 append-bytes (x ∷ e) f he hf (suc i) = append-bytes e f (λ j. he (suc j)) hf i
 
-joined-bytes : (f : ℕ → List ℕ) (n : ℕ) → ((i : ℕ) → i < n → OfBytes (f i)) → OfBytes (joined n f)
-unfolding joined
+joined-bytes : (f : ℕ → List ℕ) (n : ℕ) → ((i : ℕ) → i < n → OfBytes (f i)) → OfBytes (joinedBytes n f)
+unfolding joinedBytes
 joined-bytes f zero h = λ i. lit≤ tt
-joined-bytes f (suc n) h = append-bytes (joined n f) (f n) (joined-bytes f n (λ i l. h i (omega arith))) (h n (omega arith))
+joined-bytes f (suc n) h = append-bytes (joinedBytes n f) (f n) (joined-bytes f n (λ i l. h i (omega arith))) (h n (omega arith))
 
 -- an operand of the gate whose own wire is `own`
 operand-bytes : (stands : Bool) (own w : ℕ) → own < 65536 → operandAllowed own w ≡ true → OfBytes (whereStanding stands (word w))
@@ -66,8 +66,8 @@ encode-bytes maps p ok choice =
     let inputs = count-bounds maxInputs u (allowed .inputs) in
     let gates = count-bounds maxGates k (allowed .gates) in
     let outputs = count-bounds maxOutputs v (allowed .outputs) in
-    let gs = joined k (λ i. encodeGate (maps i) (gateAt p i)) in
-    let os = joined v (λ j. word (outputAt p j .0)) in
+    let gs = joinedBytes k (λ i. encodeGate (maps i) (gateAt p i)) in
+    let os = joinedBytes v (λ j. word (outputAt p j .0)) in
     append-bytes (word u) (word k ++ (word v ++ (gs ++ os))) (word-bytes u (omega arith))
     (append-bytes (word k) (word v ++ (gs ++ os)) (word-bytes k (omega arith))
     (append-bytes (word v) (gs ++ os) (word-bytes v (omega arith))

@@ -21,16 +21,16 @@ use Rattle.plan.proofs.RulesLaws.{count-bounds, default-allowed}
 use Rattle.plan.proofs.FaultsLaws.{AllowedGate, AllowedPlan, accepted-allowed}
 use Rattle.plan_fields.specs.Parsing.{Parsed, got}
 use Rattle.plan_fields.specs.Fields.{mapBit, gateStep}
-use Rattle.plan_reading.specs.PlanFile.{outputStep, notStub, atEnd, planFile, outcome, planRead}
-use Rattle.plan_files.specs.Encoding.{byte, word, whereStanding, encodeGate, joined, encode, LeavesOutDefaults, Choice, used, OfBytes, Encoded}
+use Rattle.plan_reading.specs.PlanFile.{outputStep, notStub, atEnd, planFile, parsedOutcome, planRead}
+use Rattle.plan_files.specs.Encoding.{byte, word, whereStanding, encodeGate, joinedBytes, encode, LeavesOutDefaults, Choice, used, OfBytes, Encoded}
 use Rattle.plan_files.proofs.ListLaws.{joined-length, joined-shorter, used-places}
-use Rattle.plan_files.proofs.ReadingLaws.{Stands, stands-append, stands-split, nothing-stands, whole-stands, stands-to-end, stands-length}
+use Rattle.plan_files.proofs.ReadingLaws.{BytesStand, stands-append, stands-split, nothing-stands, whole-stands, stands-to-end, stands-length}
 use Rattle.plan_files.proofs.ReadingLaws.{byte-coded, word-coded, field-reads, standing-reads, in-order-reads}
 use Rattle.plan_files.proofs.ReadingLaws.{Gives, gives, refuses, gives-then, by-test, field-gives, standing-gives, Items, in-order-gives}
 
 -- a gate is read where its bytes stand
 gate-reads : (s : List ℕ) (own m : ℕ) (g : Gate) (at next : ℕ) → AllowedGate own g → LeavesOutDefaults own m g
-    → Stands s at (encodeGate m g) next → gateStep own s at ≡ got g next
+    → BytesStand s at (encodeGate m g) next → gateStep own s at ≡ got g next
 unfolding gateStep
 gate-reads s own m g at next ok left x =
     let (a, map, rest) = stands-split (byte m) _ x in
@@ -45,7 +45,7 @@ gate-reads s own m g at next ok left x =
     )
 
 -- a plan is read where its file stands, from 0 to the end
-file-reads : (s : List ℕ) (maps : ℕ → ℕ) (p : Plan) → AllowedPlan p → Choice maps p → Stands s 0 (encode maps p) (length s)
+file-reads : (s : List ℕ) (maps : ℕ → ℕ) (p : Plan) → AllowedPlan p → Choice maps p → BytesStand s 0 (encode maps p) (length s)
     → planFile s 0 ≡ got (used p) (length s)
 unfolding planFile notStub atEnd encode
 file-reads s maps p ok choice x =
@@ -55,7 +55,7 @@ file-reads s maps p ok choice x =
     let (a, inputs, rest) = stands-split (word u) _ x in
     let (b, gates, rest) = stands-split (word k) _ rest in
     let (c, outputs, rest) = stands-split (word v) _ rest in
-    let (d, each-gate, each-output) = stands-split (joined k (λ i. encodeGate (maps i) (gateAt p i))) _ rest in
+    let (d, each-gate, each-output) = stands-split (joinedBytes k (λ i. encodeGate (maps i) (gateAt p i))) _ rest in
     rw (
       le-ltb (length s) 6 (omega (arith, stands-length x)),
       field-reads word-coded s (countAllowed maxInputs) Fault.Inputs 0 a u inputs (ok .inputs),
@@ -84,9 +84,9 @@ OutputOf u k j _ w = sourceAllowed u k (w .0) ≡ true
 
 -- the parts of a file that were read make it a file of the plan
 encoded : (s : List ℕ) (u k v : ℕ) (gs : List Gate) (os : List PlanWire) (a b c d e : ℕ)
-    → (countAllowed maxInputs u ≡ true) × Stands s 0 (word u) a
-    → (countAllowed maxGates k ≡ true) × Stands s a (word k) b
-    → (countAllowed maxOutputs v ≡ true) × Stands s b (word v) c
+    → (countAllowed maxInputs u ≡ true) × BytesStand s 0 (word u) a
+    → (countAllowed maxGates k ≡ true) × BytesStand s a (word k) b
+    → (countAllowed maxOutputs v ≡ true) × BytesStand s b (word v) c
     → Items (GateOf u) encodeGate zeroGate s c k gs d
     → Items (OutputOf u k) (λ _ w. word (w .0)) (wire 0) s d v os e
     → length s ≤ e → Encoded s (planOf u k v gs os)
@@ -109,7 +109,7 @@ encoded s u k v gs os a b c d e inputs gates outputs each-gate each-output end =
 
 -- what each step gives: a gate, if its default operand is allowed
 gate-gives : (s : List ℕ) (own at : ℕ) → OfBytes s → 2 ≤ own
-    → Gives (λ g next. (m : ℕ) × (LeavesOutDefaults own m g × AllowedGate own g) × Stands s at (encodeGate m g) next) (gateStep own s at)
+    → Gives (λ g next. (m : ℕ) × (LeavesOutDefaults own m g × AllowedGate own g) × BytesStand s at (encodeGate m g) next) (gateStep own s at)
 unfolding gateStep tableAllowed
 gate-gives s own at small h =
     let operand = standing-gives word-coded s (operandAllowed own) Fault.Operand in
@@ -128,13 +128,13 @@ gate-gives s own at small h =
 
 -- an output
 output-gives : (s : List ℕ) (u k j at : ℕ) → OfBytes s
-    → Gives (λ w next. (c : ℕ) × OutputOf u k j c w × Stands s at (word (w .0)) next) (outputStep u k s at)
+    → Gives (λ w next. (c : ℕ) × OutputOf u k j c w × BytesStand s at (word (w .0)) next) (outputStep u k s at)
 unfolding OutputOf
 output-gives s u k j at small =
     gives-then _ s (field-gives word-coded s (sourceAllowed u k) Fault.Source at small) λ w next x. gives (0, x .0, x .1)
 
 -- the start of a file that is no stub, before any byte
-start-gives : (s : List ℕ) → Gives (λ _ next. Stands s 0 [] next) (notStub s 0)
+start-gives : (s : List ℕ) → Gives (λ _ next. BytesStand s 0 [] next) (notStub s 0)
 unfolding notStub
 start-gives s = by-test (ltb (length s) 6) (λ stub. rw stub (refuses (lit≤ tt))) (λ long. rw long (gives nothing-stands))
 
@@ -165,7 +165,7 @@ pub read-is-encoded : (s : List ℕ) → OfBytes s → planRead s .number ≡ 0 
 unfolding planRead
 read-is-encoded s small = done (file-gives s small)
   where
-    done : {o : Parsed Plan} → Gives (λ p next. Encoded s p) o → outcome o .number ≡ 0 → Encoded s (outcome o .plan)
+    done : {o : Parsed Plan} → Gives (λ p next. Encoded s p) o → parsedOutcome o .number ≡ 0 → Encoded s (parsedOutcome o .plan)
     done (gives x) h = x
     done (refuses l) h = absurd (omega arith)
 

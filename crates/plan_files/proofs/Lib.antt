@@ -1,8 +1,9 @@
--- a plan's files are of bytes
-pub mod BytesLaws
--- reading a plan's file gives the plan, what is read is such a file, and how long a file can be
-pub mod EncodingLaws
+-- The laws of a plan's files, in the order in which they build on each other.
 -- bytes, values and places of items
 pub mod ListLaws
 -- what reading steps read, and what they give
 pub mod ReadingLaws
+-- reading a plan's file gives the plan, what is read is such a file, and how long a file can be
+pub mod EncodingLaws
+-- a plan's files are of bytes
+pub mod BytesLaws

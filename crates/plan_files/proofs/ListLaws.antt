@@ -8,23 +8,23 @@ use lib.Seq.{take-suc, take-length}
 use Rattle.lists.specs.Lists.{listOf}
 use Rattle.plan.specs.Record.{places}
 use Rattle.plan.proofs.RecordLaws.{getD-places}
-use Rattle.plan_files.specs.Encoding.{joined}
+use Rattle.plan_files.specs.Encoding.{joinedBytes}
 
 -- equal bytes of each item
-pub joined-same : (f g : ℕ → List ℕ) (n : ℕ) → ((i : ℕ) → i < n → f i ≡ g i) → joined n f ≡ joined n g
-unfolding joined
+pub joined-same : (f g : ℕ → List ℕ) (n : ℕ) → ((i : ℕ) → i < n → f i ≡ g i) → joinedBytes n f ≡ joinedBytes n g
+unfolding joinedBytes
 joined-same f g zero h = refl
 joined-same f g (suc n) h = cc (joined-same f g n (λ i l. h i (omega arith)), h n (omega arith))
 
 -- c bytes for each item
-pub joined-length : (f : ℕ → List ℕ) (c n : ℕ) → ((i : ℕ) → length (f i) ≡ c) → length (joined n f) ≡ n * c
-unfolding joined
+pub joined-length : (f : ℕ → List ℕ) (c n : ℕ) → ((i : ℕ) → length (f i) ≡ c) → length (joinedBytes n f) ≡ n * c
+unfolding joinedBytes
 joined-length f c zero h = omega arith
 joined-length f c (suc n) h = simp length-append (omega (arith, joined-length f c n h, h n))
 
 -- no more bytes for each item
-pub joined-shorter : (f g : ℕ → List ℕ) (n : ℕ) → ((i : ℕ) → length (f i) ≤ length (g i)) → length (joined n f) ≤ length (joined n g)
-unfolding joined
+pub joined-shorter : (f g : ℕ → List ℕ) (n : ℕ) → ((i : ℕ) → length (f i) ≤ length (g i)) → length (joinedBytes n f) ≤ length (joinedBytes n g)
+unfolding joinedBytes
 joined-shorter f g zero h = omega arith
 joined-shorter f g (suc n) h = simp length-append (omega (arith, joined-shorter f g n h, h n))
 

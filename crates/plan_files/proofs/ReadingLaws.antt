@@ -17,27 +17,27 @@ use Rattle.fault.specs.declared.Fault.{Fault}
 use Rattle.fault.proofs.ChecksLaws.{number-positive}
 use Rattle.plan_fields.specs.Parsing.{Parsed, got, refused, Step, followed, field, wordAt, byteAt, standing, inOrder}
 use Rattle.plan_files.proofs.ListLaws.{joined-same}
-use Rattle.plan_files.specs.Encoding.{byte, word, joined, whereStanding, OfBytes}
+use Rattle.plan_files.specs.Encoding.{byte, word, joinedBytes, whereStanding, OfBytes}
 
 -- the bytes e stand in s from the cursor `at` to the cursor `next`
-pub record Stands (s : List ℕ) (at : ℕ) (e : List ℕ) (next : ℕ) : Type 0 where
+pub record BytesStand (s : List ℕ) (at : ℕ) (e : List ℕ) (next : ℕ) : Type 0 where
   pub ends : next ≡ at + length e
   pub bytes : drop at s ≡ e ++ drop next s
 
 module _ {s : List ℕ} where
   -- bytes and then bytes
-  pub stands-append : {e f : List ℕ} {a b c : ℕ} → Stands s a e b → Stands s b f c → Stands s a (e ++ f) c
+  pub stands-append : {e f : List ℕ} {a b c : ℕ} → BytesStand s a e b → BytesStand s b f c → BytesStand s a (e ++ f) c
   stands-append {e} {f} {a} {b} {c} x y = record {
     ends = simp length-append (omega arith);
     bytes = cc (append-assoc e f (drop c s));
   }
 
   -- what is left behind the first of two parts
-  rest-stands : (e f : List ℕ) {a c : ℕ} → Stands s a (e ++ f) c → drop (a + length e) s ≡ f ++ drop c s
+  rest-stands : (e f : List ℕ) {a c : ℕ} → BytesStand s a (e ++ f) c → drop (a + length e) s ≡ f ++ drop c s
   rest-stands e f {a} {c} x = cc (drop-drop (length e) a s, append-assoc e f (drop c s), drop-append-seam e (f ++ drop c s))
 
   -- two parts, and the cursor between them
-  pub stands-split : (e f : List ℕ) {a c : ℕ} → Stands s a (e ++ f) c → (b : ℕ) × Stands s a e b × Stands s b f c
+  pub stands-split : (e f : List ℕ) {a c : ℕ} → BytesStand s a (e ++ f) c → (b : ℕ) × BytesStand s a e b × BytesStand s b f c
   stands-split e f {a} {c} x = (
     a + length e,
     record { ends = refl; bytes = cc (append-assoc e f (drop c s), rest-stands e f x) },
@@ -45,23 +45,23 @@ module _ {s : List ℕ} where
   )
 
   -- no bytes stand anywhere
-  pub nothing-stands : {a : ℕ} → Stands s a [] a
+  pub nothing-stands : {a : ℕ} → BytesStand s a [] a
   nothing-stands = record { ends = omega arith; bytes = refl }
 
   -- a whole file stands from 0 to its end
-  pub whole-stands : Stands s 0 s (length s)
+  pub whole-stands : BytesStand s 0 s (length s)
   whole-stands = record { ends = omega arith; bytes = cc (drop-length s, append-nil s) }
 
   -- what stands from 0 to the end is the whole file
-  pub stands-to-end : {e : List ℕ} {next : ℕ} → Stands s 0 e next → length s ≤ next → s ≡ e
+  pub stands-to-end : {e : List ℕ} {next : ℕ} → BytesStand s 0 e next → length s ≤ next → s ≡ e
   stands-to-end {e} {next} x h = cc (drop-of-length-le s h, append-nil e)
 
   -- there is room for what stands
-  pub stands-length : {e : List ℕ} {a c : ℕ} → Stands s a e c → length e ≤ length s - a
+  pub stands-length : {e : List ℕ} {a c : ℕ} → BytesStand s a e c → length e ≤ length s - a
   stands-length {e} {a} {c} x = omega (arith, ap length (x .bytes), length-drop a s, length-append e (drop c s))
 
   -- a byte of what stands
-  pub stands-at : {e : List ℕ} {a c : ℕ} (i : ℕ) → Stands s a e c → i < length e → getD s (a + i) 0 ≡ getD e i 0
+  pub stands-at : {e : List ℕ} {a c : ℕ} (i : ℕ) → BytesStand s a e c → i < length e → getD s (a + i) 0 ≡ getD e i 0
   stands-at {e} {a} {c} i x h = cc (getD-drop a s i 0, List·getD-append e (drop c s) 0 i h)
 
 -- what reading gave: P holds of the value and the next cursor, or the refusal's number is not 0
@@ -83,8 +83,8 @@ by-test false h k = k refl
 -- the number that `value` finds at a cursor is the one whose `width` bytes stand there
 pub record Coded (width : ℕ) (value : List ℕ → ℕ → ℕ) (bytes : ℕ → List ℕ) : Type 0 where
   pub long : (w : ℕ) → length (bytes w) ≡ width
-  pub reads : (s : List ℕ) (at next w : ℕ) → Stands s at (bytes w) next → value s at ≡ w
-  pub writes : (s : List ℕ) (at : ℕ) → OfBytes s → width ≤ length s - at → Stands s at (bytes (value s at)) (at + width)
+  pub reads : (s : List ℕ) (at next w : ℕ) → BytesStand s at (bytes w) next → value s at ≡ w
+  pub writes : (s : List ℕ) (at : ℕ) → OfBytes s → width ≤ length s - at → BytesStand s at (bytes (value s at)) (at + width)
 
 pub byte-coded : Coded 1 byteAt byte
 byte-coded = record {
@@ -111,7 +111,7 @@ module _
     {width : ℕ} {value : List ℕ → ℕ → ℕ} {bytes : ℕ → List ℕ} (c : Coded width value bytes)
     (s : List ℕ) (allowed : ℕ → Bool) (f : Fault) where
   -- a field's number is read where its bytes stand
-  pub field-reads : (at next w : ℕ) → Stands s at (bytes w) next → allowed w ≡ true → field width value allowed f s at ≡ got w next
+  pub field-reads : (at next w : ℕ) → BytesStand s at (bytes w) next → allowed w ≡ true → field width value allowed f s at ≡ got w next
   unfolding field
   field-reads at next w x h =
       let v : value s at ≡ w = c .reads s at next w x in
@@ -120,7 +120,7 @@ module _
 
   -- what a field gives is allowed and stands
   pub field-gives : (at : ℕ) → OfBytes s
-      → Gives (λ w next. (allowed w ≡ true) × Stands s at (bytes w) next) (field width value allowed f s at)
+      → Gives (λ w next. (allowed w ≡ true) × BytesStand s at (bytes w) next) (field width value allowed f s at)
   unfolding field
   field-gives at small =
       by-test (ltb (length s - at) width)
@@ -130,31 +130,31 @@ module _
       (λ h. rw h (refuses (number-positive f)))))
 
   -- a field that stands, or is left out and equals its default, is read
-  pub standing-reads : (stands : Bool) (default at next w : ℕ) → Stands s at (whereStanding stands (bytes w)) next
+  pub standing-reads : (stands : Bool) (default at next w : ℕ) → BytesStand s at (whereStanding stands (bytes w)) next
       → allowed w ≡ true → (stands ≡ false → w ≡ default) → standing stands (field width value allowed f) default s at ≡ got w next
   standing-reads true default at next w x h e = field-reads at next w x h
   standing-reads false default at next w x h e = let same : next ≡ at = omega (arith, x .ends) in cc (e refl)
 
   -- what a field gives that stands or has an allowed default
   pub standing-gives : (stands : Bool) (default at : ℕ) → OfBytes s → allowed default ≡ true
-      → Gives (λ w next. (stands ≡ false → w ≡ default) × (allowed w ≡ true) × Stands s at (whereStanding stands (bytes w)) next)
+      → Gives (λ w next. (stands ≡ false → w ≡ default) × (allowed w ≡ true) × BytesStand s at (whereStanding stands (bytes w)) next)
       (standing stands (field width value allowed f) default s at)
   standing-gives true default at small h = here (field-gives at small)
     where
-      here : {o : Parsed ℕ} → Gives (λ w next. (allowed w ≡ true) × Stands s at (bytes w) next) o
-          → Gives (λ w next. (true ≡ false → w ≡ default) × (allowed w ≡ true) × Stands s at (bytes w) next) o
+      here : {o : Parsed ℕ} → Gives (λ w next. (allowed w ≡ true) × BytesStand s at (bytes w) next) o
+          → Gives (λ w next. (true ≡ false → w ≡ default) × (allowed w ≡ true) × BytesStand s at (bytes w) next) o
       here (gives x) = gives (λ e. absurd (true≢false e), x .0, x .1)
       here (refuses x) = refuses x
   standing-gives false default at small h = gives (λ _. refl, h, nothing-stands)
 
 -- items whose bytes stand one after another are read in order
 pub in-order-reads : {A : Type 0} (s : List ℕ) (item : ℕ → Step A) (x : ℕ → A) (e : ℕ → List ℕ) (n : ℕ)
-    → ((i at next : ℕ) → i < n → Stands s at (e i) next → item i s at ≡ got (x i) next)
-    → (at next : ℕ) → Stands s at (joined n e) next → inOrder item n s at ≡ got (listOf n x) next
-unfolding joined inOrder listOf
+    → ((i at next : ℕ) → i < n → BytesStand s at (e i) next → item i s at ≡ got (x i) next)
+    → (at next : ℕ) → BytesStand s at (joinedBytes n e) next → inOrder item n s at ≡ got (listOf n x) next
+unfolding joinedBytes inOrder listOf
 in-order-reads s item x e zero each at next st = let h : next ≡ at = omega (arith, st .ends) in cc
 in-order-reads s item x e (suc n) each at next st =
-    let (mid, before, last) = stands-split (joined n e) (e n) st in
+    let (mid, before, last) = stands-split (joinedBytes n e) (e n) st in
     rw (in-order-reads s item x e n (λ i a b h. each i a b (omega arith)) at mid before, each n mid next (omega arith) last)
 
 -- n items: Q holds of each, its number and a choice, and the bytes of these choices and items stand one after another
@@ -164,12 +164,12 @@ pub record Items {A : Type 0} (Q : ℕ → ℕ → A → Type 0) (bytes : ℕ �
   pub chosen : length choices ≡ n
   pub count : length xs ≡ n
   pub each : (i : ℕ) → i < n → Q i (getD choices i 0) (getD xs i none)
-  pub stands : Stands s at (joined n (λ i. bytes (getD choices i 0) (getD xs i none))) next
+  pub stands : BytesStand s at (joinedBytes n (λ i. bytes (getD choices i 0) (getD xs i none))) next
 
 module _ {A : Type 0} (Q : ℕ → ℕ → A → Type 0) (bytes : ℕ → A → List ℕ) (none : A) (s : List ℕ) where
   -- no items
   items-none : (at : ℕ) → Items Q bytes none s at 0 [] at
-  unfolding joined
+  unfolding joinedBytes
   items-none at = record {
     choices = [];
     chosen = refl;
@@ -180,8 +180,8 @@ module _ {A : Type 0} (Q : ℕ → ℕ → A → Type 0) (bytes : ℕ → A → 
 
   -- one item more
   items-more : (at n : ℕ) (xs : List A) (mid : ℕ) → Items Q bytes none s at n xs mid → (c : ℕ) (x : A) (next : ℕ)
-      → Q n c x → Stands s mid (bytes c x) next → Items Q bytes none s at (suc n) (xs ++ (x ∷ [])) next
-  unfolding joined
+      → Q n c x → BytesStand s mid (bytes c x) next → Items Q bytes none s at (suc n) (xs ++ (x ∷ [])) next
+  unfolding joinedBytes
   items-more at n xs mid old c x next q st = record {
     choices = old .choices ++ (c ∷ []);
     chosen = simp length-append (omega arith);
@@ -207,7 +207,7 @@ module _ {A : Type 0} (Q : ℕ → ℕ → A → Type 0) (bytes : ℕ → A → 
 
   -- what items in order give, if each gives what Q holds of and what stands
   pub in-order-gives : (item : ℕ → Step A) (n : ℕ)
-      → ((i at : ℕ) → i < n → Gives (λ x next. (c : ℕ) × Q i c x × Stands s at (bytes c x) next) (item i s at))
+      → ((i at : ℕ) → i < n → Gives (λ x next. (c : ℕ) × Q i c x × BytesStand s at (bytes c x) next) (item i s at))
       → (at : ℕ) → Gives (Items Q bytes none s at n) (inOrder item n s at)
   unfolding inOrder
   in-order-gives item zero each at = gives (items-none at)

@@ -32,15 +32,15 @@ encodeGate m g =
     ++ (whereStanding (mapBit m 1) (word (g .second .0)) ++ whereStanding (mapBit m 2) (byte (g .table))))
 
 -- the bytes of items 0 to n - 1, one after another
-unfoldable pub joined : ℕ → (ℕ → List ℕ) → List ℕ
-joined zero f = []
-joined (suc n) f = joined n f ++ f n
+unfoldable pub joinedBytes : ℕ → (ℕ → List ℕ) → List ℕ
+joinedBytes zero f = []
+joinedBytes (suc n) f = joinedBytes n f ++ f n
 
 -- the file of a plan with the map byte `maps i` for gate i
 unfoldable pub encode : (ℕ → ℕ) → Plan → List ℕ
 encode maps p =
     word (p .inputs) ++ (word (p .«gate_count») ++ (word (p .«output_count»)
-    ++ (joined (p .«gate_count») (λ i. encodeGate (maps i) (gateAt p i)) ++ joined (p .«output_count») (λ j. word (outputAt p j .0)))))
+    ++ (joinedBytes (p .«gate_count») (λ i. encodeGate (maps i) (gateAt p i)) ++ joinedBytes (p .«output_count») (λ j. word (outputAt p j .0)))))
 
 -- a map byte for the gate whose own wire is `own` that leaves out only fields that equal their defaults
 pub record LeavesOutDefaults (own m : ℕ) (g : Gate) : Type 0 where

@@ -33,9 +33,9 @@ module _ {A : Type 0} (item : ℕ → Step A) (s : List ℕ) (start n : ℕ) (no
   unfolding inOrder
   none-read held e = record { items = []; count = refl; parsed = refl; placed = e }
 
-  pub one-more : (i : ℕ) (held : List A) (at next : ℕ) (x : A) → i < n
+  pub one-read : (i : ℕ) (held : List A) (at next : ℕ) (x : A) → i < n
       → ReadSoFar item s start n none i held at → got x next ≡ item i s at → ReadSoFar item s start n none (i + 1) (set held i x) next
-  one-more i held at next x h r e = record {
+  one-read i held at next x h r e = record {
     items = r .items ++ (x ∷ []);
     count = length-append (r .items) (x ∷ []) ∙ ap (λ m. m + 1) (r .count);
     parsed = rw (add-one i) (item-got item s start i (r .items) x at next (r .parsed) (sym e));
@@ -52,13 +52,13 @@ module _ {A : Type 0} (item : ℕ → Step A) (s : List ℕ) (start n : ℕ) (no
   all-read k i held at e r = rw (← e) (sym (r .parsed))
 
 -- the counts of a record
-pub record Counted (u k v : ℕ) (p : Plan) : Type 0 where
+pub record HasCounts (u k v : ℕ) (p : Plan) : Type 0 where
   pub inputs : p .inputs ≡ u
   pub gates : p .«gate_count» ≡ k
   pub outputs : p .«output_count» ≡ v
 
 -- a record is made of its counts, gates and outputs
-pub plan-held : (u k v : ℕ) (gs : List Gate) (os : List PlanWire) (p : Plan) → Counted u k v p → p .gates ≡ places maxGates zeroGate gs
+pub plan-held : (u k v : ℕ) (gs : List Gate) (os : List PlanWire) (p : Plan) → HasCounts u k v p → p .gates ≡ places maxGates zeroGate gs
     → p .outputs ≡ places maxOutputs (wire 0) os → p ≡ planOf u k v gs os
 plan-held u k v gs os p c e o = λ i. record {
   inputs = c .inputs i;

@@ -14,9 +14,9 @@ headerAnswer (HeaderStep.Header h next) = got h (next .at)
 headerAnswer (HeaderStep.Refused x) = refusal x
 
 -- the answer of reading: 0 at 0 where a plan was read
-abbrev pub answered : ReadAnswer → Plan → ReadOutcome
-answered ReadAnswer.Accepted p = record { number = 0; at = 0; plan = p }
-answered (ReadAnswer.Refused x) p = record { number = faultNumber (x .fault); at = x .at; plan = p }
+abbrev pub answerOutcome : ReadAnswer → Plan → ReadOutcome
+answerOutcome ReadAnswer.Accepted p = record { number = 0; at = 0; plan = p }
+answerOutcome (ReadAnswer.Refused x) p = record { number = faultNumber (x .fault); at = x .at; plan = p }
 
-abbrev pub readAnswer : PlanRead → ReadOutcome
-readAnswer r = answered (r .answer) (r .plan)
+abbrev pub readOutcome : PlanRead → ReadOutcome
+readOutcome r = answerOutcome (r .answer) (r .plan)

@@ -49,9 +49,9 @@ pub record ReadOutcome : Type 0 where
   pub at : ℕ
   pub plan : Plan
 
-abbrev pub outcome : Parsed Plan → ReadOutcome
-outcome (got p next) = record { number = 0; at = 0; plan = p }
-outcome (refused n at) = record { number = n; at = at; plan = zeroPlan }
+abbrev pub parsedOutcome : Parsed Plan → ReadOutcome
+parsedOutcome (got p next) = record { number = 0; at = 0; plan = p }
+parsedOutcome (refused n at) = record { number = n; at = at; plan = zeroPlan }
 
 unfoldable pub planRead : List ℕ → ReadOutcome
-planRead s = outcome (planFile s 0)
+planRead s = parsedOutcome (planFile s 0)

@@ -2,8 +2,8 @@
 // the file in the record.
 ghost use mathlib.Core.Path.{_≡_};
 ghost use Rattle.plan.specs.Record.{zeroPlan};
-ghost use Rattle.plan_reading.specs.PlanFile.{planRead, outcome};
-ghost use Rattle.plan_reading.specs.Answers.{readAnswer};
+ghost use Rattle.plan_reading.specs.PlanFile.{planRead, parsedOutcome};
+ghost use Rattle.plan_reading.specs.Answers.{readOutcome};
 ghost use Rattle.plan_reading.specs.Parts.{Limited, HeaderRead, countsPart, headerPart, bodyPart};
 use fault::Fault;
 use fault::Refusal;
@@ -40,7 +40,7 @@ pub(crate) enum HeaderStep {
 
 // The plan that a file holds.
 pub fn read_plan(file: &[u8]) -> PlanRead
-    ensures { λ r. ⌜ readAnswer r ≡ planRead (now (file .entry)) ⌝ }
+    ensures { λ r. ⌜ readOutcome r ≡ planRead (now (file .entry)) ⌝ }
 {
     match read_header(file) {
         HeaderStep::Refused(x) => refused_read(x),
@@ -97,7 +97,7 @@ fn read_counts(file: &[u8], c: Cursor) -> HeaderStep
 // The gates and the outputs, each to its place in the one record, and the end of the file, where no byte may stand.
 fn read_body(file: &[u8], c: Cursor, header: Header) -> PlanRead
     requires { ⌜ Limited header ⌝ }
-    ensures { λ r. ⌜ readAnswer r ≡ outcome (bodyPart header (now (file .entry)) (c .at)) ⌝ }
+    ensures { λ r. ⌜ readOutcome r ≡ parsedOutcome (bodyPart header (now (file .entry)) (c .at)) ⌝ }
 {
     let inputs = header.inputs;
     let gates = header.gates;

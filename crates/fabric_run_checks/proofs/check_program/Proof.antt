@@ -9,7 +9,7 @@ use lib.Dec.{eqb}
 use lib.ListN.{length}
 use Rattle.fault.specs.declared.Fault.{Fault}
 use Rattle.fault.specs.Checks.{unless, firstOf}
-use Rattle.fault.proofs.ChecksLaws.{first-passes, first-fails}
+use Rattle.fault.proofs.ChecksLaws.{next-passes, first-fails}
 use Rattle.blocks.specs.Elements.{bytesFor, bitAt}
 use Rattle.fabric_run_checks.specs.RunFault.{spareBits, givenProgramFault}
 use Rattle.fabric_run_checks.proofs.check_program.Statement.{statement}
@@ -44,7 +44,7 @@ again c =
     let bit = c .before .read-bit in
     let loop = c .before .before .before .loop in
     let e = ap (λ t. unless t Fault.Program) (ap (λ b. eqb b 0) (sym (bit .ensures)) ∙ eq-eqb _ 0 (c .if2 .left)) in
-    (loop .inv .0, loop .inv .1, omega arith, rw (add-one (loop .i)) (first-passes _ (loop .i) (loop .inv .3) e))
+    (loop .inv .0, loop .inv .1, omega arith, rw (add-one (loop .i)) (next-passes _ (loop .i) (loop .inv .3) e))
 
 passes : tie.Need-returns-3 Inv-loop μ-loop
 unfolding givenProgramFault

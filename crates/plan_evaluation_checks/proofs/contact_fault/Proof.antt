@@ -9,7 +9,7 @@ use lib.Dec.{leb}
 use lib.ListN.{length, getD}
 use Rattle.fault.specs.declared.Fault.{Fault}
 use Rattle.fault.specs.Checks.{unless, firstOf}
-use Rattle.fault.proofs.ChecksLaws.{first-passes, first-fails}
+use Rattle.fault.proofs.ChecksLaws.{next-passes, first-fails}
 use Rattle.plan_evaluation_checks.specs.EvaluationChecks.{contactFault}
 use Rattle.plan_evaluation_checks.proofs.contact_fault.Statement.{statement}
 use Rattle.plan_evaluation_checks.proofs.contact_fault.Tie as tie
@@ -40,7 +40,7 @@ again : tie.Need-loop-again Inv-loop μ-loop
 again c =
     let loop = c .before .before .before .loop in
     let e = ap (λ t. unless t Fault.Contact) (le-leb _ 1 (c .if2 .left)) in
-    (loop .inv .0, omega arith, rw (add-one (loop .i)) (first-passes _ (loop .i) (loop .inv .2) e))
+    (loop .inv .0, omega arith, rw (add-one (loop .i)) (next-passes _ (loop .i) (loop .inv .2) e))
 
 passes : tie.Need-returns-3 Inv-loop μ-loop
 unfolding contactFault

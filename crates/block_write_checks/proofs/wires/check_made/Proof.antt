@@ -9,7 +9,7 @@ use lib.Dec.{ltb}
 use lib.ListN.{length, getD}
 use Rattle.fault.specs.declared.Fault.{Fault}
 use Rattle.fault.specs.Checks.{unless, firstOf}
-use Rattle.fault.proofs.ChecksLaws.{first-passes, first-fails}
+use Rattle.fault.proofs.ChecksLaws.{next-passes, first-fails}
 use Rattle.block_write_checks.specs.Wires.{unmadeFault}
 use Rattle.block_write_checks.proofs.wires.check_made.Statement.{statement}
 use Rattle.block_write_checks.proofs.wires.check_made.Tie as tie
@@ -39,7 +39,7 @@ again c =
     let loop = read .before .before .loop in
     let a = read .before .before .before .before .args in
     let e = ap (λ t. unless t Fault.Fabric) (lt-ltb (getD (a .inputs .now) (loop .i) 0) (a .next .0) (omega arith)) in
-    (omega arith, rw (add-one (loop .i)) (first-passes _ (loop .i) (loop .inv .1) e))
+    (omega arith, rw (add-one (loop .i)) (next-passes _ (loop .i) (loop .inv .1) e))
 
 all : tie.Need-returns-2 Inv-loop μ-loop
 unfolding unmadeFault

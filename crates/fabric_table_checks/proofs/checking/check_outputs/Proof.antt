@@ -8,7 +8,7 @@ use borrow.Author.Tests.{lt-ltb, le-ltb}
 use lib.ListN.{getD}
 use Rattle.fault.specs.declared.Fault.{Fault}
 use Rattle.fault.specs.Checks.{unless, firstOf}
-use Rattle.fault.proofs.ChecksLaws.{first-passes, first-fails}
+use Rattle.fault.proofs.ChecksLaws.{next-passes, first-fails}
 use Rattle.fabric_sizes.specs.Layout.{outputsIn, outputWireAt, wiresIn}
 use Rattle.fabric_table_checks.specs.TableFault.{outputWireFault}
 use Rattle.fabric_table_checks.proofs.checking.check_outputs.Statement.{statement}
@@ -51,7 +51,7 @@ again c =
     let table = s .args .table .now in
     let l : outputWireAt table (at .loop .j) < wiresIn table = omega (arith, wire-read (c .before .before), s .pre .1) in
     let e = ap (λ t. unless t Fault.Fabric) (lt-ltb _ (wiresIn table) l) in
-    (omega arith, rw (add-one (at .loop .j)) (first-passes _ (at .loop .j) (at .loop .inv .1) e))
+    (omega arith, rw (add-one (at .loop .j)) (next-passes _ (at .loop .j) (at .loop .inv .1) e))
 
 all : tie.Need-returns-2 Inv-loop μ-loop
 all c =

@@ -8,7 +8,7 @@ use borrow.Author.Needs.{needs}
 use lib.ListN.{getD}
 use Rattle.fault.specs.Number.{answerNumber}
 use Rattle.fault.specs.Checks.{firstOf}
-use Rattle.fault.proofs.ChecksLaws.{first-passes, first-fails, number-positive}
+use Rattle.fault.proofs.ChecksLaws.{next-passes, first-fails, number-positive}
 use Rattle.fabric_sizes.specs.Layout.{rowsIn}
 use Rattle.elements.specs.Elements.{maxWires}
 use Rattle.fabric_table_checks.specs.TableFault.{rowFault}
@@ -69,7 +69,7 @@ again c =
     let e = ap answerNumber (sym (told .enum-told .given .1)) ∙ told .before .before .check-row .ensures in
     let own = subst (λ n. CountsOf (getD table n 0) (counted .counts-of .result)) (counted .before .before .row-place .ensures .0) (counted .counts-of .ensures) in (
       omega arith,
-      rw (add-one (loop .i)) (first-passes _ (loop .i) (loop .inv .1) (sym e)),
+      rw (add-one (loop .i)) (next-passes _ (loop .i) (loop .inv .1) (sym e)),
       counted-more (loop .inv .2) own,
       loop .inv .3,
     )

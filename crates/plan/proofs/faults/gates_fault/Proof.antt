@@ -7,7 +7,7 @@ use native.Mathlib.Numerals.{add-one}
 use borrow.Author.Needs.{needs}
 use Rattle.fault.specs.Number.{answerNumber}
 use Rattle.fault.specs.Checks.{firstOf}
-use Rattle.fault.proofs.ChecksLaws.{first-passes, first-fails, number-positive}
+use Rattle.fault.proofs.ChecksLaws.{next-passes, first-fails, number-positive}
 use Rattle.plan.specs.Record.{gateAt, gateWire}
 use Rattle.plan.proofs.RecordLaws.{wire-fits}
 use Rattle.plan.specs.Faults.{gateFault, gatesFault, CountsWithin}
@@ -46,7 +46,7 @@ again c =
     let e =
     ap answerNumber (sym (c .enum-told .given .1)) ∙ met .gate-fault .ensures
     ∙ ap (λ w. gateFault w (gateAt (s .args .t1) (loop .i))) (met .before .gate-wire .ensures ∙ own (s .pre) (met .before .before .before .loop-test .taken)) in
-    (omega arith, rw (add-one (loop .i)) (first-passes _ (loop .i) (loop .inv .1) (sym e)))
+    (omega arith, rw (add-one (loop .i)) (next-passes _ (loop .i) (loop .inv .1) (sym e)))
 
 none : tie.Need-returns-2 Inv-loop μ-loop
 none c =

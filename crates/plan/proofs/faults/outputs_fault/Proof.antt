@@ -8,7 +8,7 @@ use borrow.Author.Tests.{not-true, not-false}
 use lib.ListN.{getD}
 use Rattle.fault.specs.declared.Fault.{Fault}
 use Rattle.fault.specs.Checks.{unless, firstOf}
-use Rattle.fault.proofs.ChecksLaws.{first-passes, first-fails}
+use Rattle.fault.proofs.ChecksLaws.{next-passes, first-fails}
 use Rattle.plan.specs.Record.{wire}
 use Rattle.plan.specs.Faults.{outputFault}
 use Rattle.plan.proofs.faults.outputs_fault.Statement.{statement}
@@ -38,7 +38,7 @@ again c =
     let test = c .before .source-allowed in
     let loop = c .before .before .before .before .loop in
     let e = ap (λ t. unless t Fault.Source) (sym (not-false (test .result) (c .if1 .left)) ∙ test .ensures) in
-    (omega arith, rw (add-one (loop .i)) (first-passes _ (loop .i) (loop .inv .1) (sym e)))
+    (omega arith, rw (add-one (loop .i)) (next-passes _ (loop .i) (loop .inv .1) (sym e)))
 
 none : tie.Need-returns-2 Inv-loop μ-loop
 none c =

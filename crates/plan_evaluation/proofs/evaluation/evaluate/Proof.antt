@@ -8,7 +8,7 @@ use Rattle.fault.proofs.BuffersLaws.{filled-refused, filled-done}
 use Rattle.plan_evaluation_checks.specs.EvaluationChecks.{evaluateFault}
 use Rattle.plan_evaluation.specs.Evaluation.{namedBy}
 use Rattle.plan_evaluation_checks.proofs.EvaluationChecksLaws.{evaluation-passes}
-use Rattle.plan_evaluation.proofs.EvaluationLaws.{outputs-room, named-places}
+use Rattle.plan_evaluation.proofs.EvaluationLaws.{named-wires, named-places}
 use Rattle.plan_evaluation.proofs.evaluation.evaluate.Statement.{statement}
 use Rattle.plan_evaluation.proofs.evaluation.evaluate.Tie as tie
 
@@ -19,10 +19,10 @@ none c = ap answerNumber (sym (c .enum-told .given .1)) ∙ c .before .before .c
 for-wires : tie.Need-gate-wires-requires
 for-wires c κs = evaluation-passes _ _ _ (sym (none (c .before))) .evaluable
 
-for-outputs : tie.Need-write-outputs-requires
+for-outputs : tie.Need-write-result-requires
 for-outputs c κs =
     let h = evaluation-passes _ _ _ (sym (none (c .before .before .before))) in
-    (outputs-room _ (h .evaluable .accepted), h .room)
+    (named-wires _ (h .evaluable .accepted), h .room)
 
 refused : tie.Need-returns
 refused c =
@@ -35,7 +35,7 @@ done c =
     let a = told .before .before .before .before .before .args in
     let old = a .result .now in
     let written =
-    c .before .before .write-outputs .ensures
+    c .before .before .write-result .ensures
     ∙ ap (λ ws. over (namedBy 0 (a .plan) ws (a .plan .«output_count»)) old) (c .before .before .before .before .gate-wires .ensures)
     ∙ ap (λ new. over new old) (named-places (a .plan) _ _ (a .plan .«output_count»)) in
     (none told, written ∙ filled-done _ _ _ (none told))

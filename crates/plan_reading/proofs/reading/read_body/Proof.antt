@@ -13,17 +13,16 @@ use Rattle.plan.specs.Record.{maxGates, maxOutputs, wire, zeroGate, gateWire}
 use Rattle.plan.proofs.RecordLaws.{wire-fits}
 use Rattle.plan_fields.specs.Parsing.{got, followed}
 use Rattle.plan_fields.specs.Fields.{gateStep}
-use Rattle.plan_fields.specs.Answers.{outputAnswer}
-use Rattle.plan_fields.specs.GateAnswer.{gateAnswer}
+use Rattle.plan_fields.specs.Answers.{outputAnswer, gateAnswer}
 use Rattle.plan_reading.specs.Parts.{Limited}
-use Rattle.plan_reading.specs.PlanFile.{outputStep, outcome}
-use Rattle.plan_reading.proofs.PartsLaws.{ReadSoFar, Counted, none-read, one-more, one-refused, all-read, plan-held, gates-refused, outputs-refused, tail-refused, body-read}
+use Rattle.plan_reading.specs.PlanFile.{outputStep, parsedOutcome}
+use Rattle.plan_reading.proofs.PartsLaws.{ReadSoFar, HasCounts, none-read, one-read, one-refused, all-read, plan-held, gates-refused, outputs-refused, tail-refused, body-read}
 use Rattle.plan_reading.proofs.reading.read_body.Statement.{statement}
 use Rattle.plan_reading.proofs.reading.read_body.Tie as tie
 
 abbrev Inv-loop : tie.InvT-loop
 Inv-loop file inputs gates outputs gate-count output-count plan₀ at₀ i₀ plan at i =
-    (i ≤ gate-count) × Counted inputs gates outputs plan × (plan .outputs ≡ plan₀ .outputs)
+    (i ≤ gate-count) × HasCounts inputs gates outputs plan × (plan .outputs ≡ plan₀ .outputs)
     × ReadSoFar (λ i. gateStep (gateWire inputs i)) file (at₀ .at) maxGates zeroGate i (plan .gates) (at .at)
 
 abbrev μ-loop : tie.MeasureT-loop
@@ -31,7 +30,7 @@ abbrev μ-loop : tie.MeasureT-loop
 
 abbrev Inv-loop2 : tie.InvT-loop2
 Inv-loop2 file inputs gates outputs gate-count output-count plan₀ at₀ i j₀ plan at j =
-    (j ≤ output-count) × Counted inputs gates outputs plan × (plan .gates ≡ plan₀ .gates)
+    (j ≤ output-count) × HasCounts inputs gates outputs plan × (plan .gates ≡ plan₀ .gates)
     × ReadSoFar (λ _. outputStep inputs gates) file (at₀ .at) maxOutputs (wire 0) j (plan .outputs) (at .at)
 
 abbrev μ-loop2 : tie.MeasureT-loop2
@@ -72,7 +71,7 @@ no-gate c =
     ap gateAnswer (sym (c .before .before .x .given .1)) ∙ met .read-gate .ensures
     ∙ ap (λ w. gateStep w (start .args .file .now) (turn .loop .at .at)) (met .before .gate-wire .ensures ∙ wire-fits (start .pre .inputs) (within (met .before .before .loop-test .taken) (start .pre .gates))) in
     rw (c .refused-read .ensures)
-    (ap outcome (gates-refused (start .args .header) _ _ _ _ (one-refused _ _ _ _ _ _ _ _ _ _ _ (met .before .before .loop-test .taken) (turn .loop .inv .3) e)))
+    (ap parsedOutcome (gates-refused (start .args .header) _ _ _ _ (one-refused _ _ _ _ _ _ _ _ _ _ _ (met .before .before .loop-test .taken) (turn .loop .inv .3) e)))
 
 again : tie.Need-loop-again Inv-loop μ-loop Inv-loop2 μ-loop2
 again c =
@@ -87,7 +86,7 @@ again c =
       next-within taken,
       record { inputs = same .inputs; gates = same .gates; outputs = same .outputs },
       turn .loop .inv .2,
-      one-more _ _ _ _ _ _ _ _ _ _ (within taken (start .pre .gates)) (turn .loop .inv .3) e,
+      one-read _ _ _ _ _ _ _ _ _ _ (within taken (start .pre .gates)) (turn .loop .inv .3) e,
     )
 
 holds2 : tie.Need-loop2-holds Inv-loop μ-loop Inv-loop2 μ-loop2
@@ -107,7 +106,7 @@ no-output c =
     let h = first .before .before .before .args .header in
     let gates-read : first .loop .i ≡ h .gates = le-antisymm (first .loop .inv .0) (second .before .loop-test .left) in
     rw (c .refused-read2 .ensures)
-    (ap outcome
+    (ap parsedOutcome
     (outputs-refused h _ _ _ _ (all-read _ _ _ _ _ _ _ _ _ gates-read (first .loop .inv .3)) _ _
     (one-refused _ _ _ _ _ _ _ _ _ _ _ (met .before .loop2-test .taken) (second .loop2 .inv .3)
     (ap (followed _ _) (ap outputAnswer (sym (c .before .before .y .given .1)) ∙ met .output .ensures)))))
@@ -122,7 +121,7 @@ again2 c =
       next-within taken,
       record { inputs = same .inputs; gates = same .gates; outputs = same .outputs },
       loop .inv .2,
-      one-more _ _ _ _ _ _ _ _ _ _ (within taken (start .pre .outputs)) (loop .inv .3)
+      one-read _ _ _ _ _ _ _ _ _ _ (within taken (start .pre .outputs)) (loop .inv .3)
           (ap (followed _ _) (ap outputAnswer (sym (c .before .wire .given .1)) ∙ met .output .ensures)),
     )
 
@@ -134,7 +133,7 @@ tail c =
     let gates-read : first .loop .i ≡ h .gates = le-antisymm (first .loop .inv .0) (second .before .loop-test .left) in
     let outputs-read : second .loop2 .j ≡ h .outputs = le-antisymm (second .loop2 .inv .0) (c .before .before .loop2-test .left) in
     rw (c .refused-read3 .ensures)
-    (ap outcome
+    (ap parsedOutcome
     (tail-refused h _ _ _ _ (all-read _ _ _ _ _ _ _ _ _ gates-read (first .loop .inv .3)) _ _
     (all-read _ _ _ _ _ _ _ _ _ outputs-read (second .loop2 .inv .3)) (c .before .if1 .taken)))
 
@@ -147,7 +146,7 @@ read c =
     let outputs-read : second .loop2 .j ≡ h .outputs = le-antisymm (second .loop2 .inv .0) (c .before .loop2-test .left) in
     let held =
     plan-held _ _ _ _ _ _ (second .loop2 .inv .1) (second .loop2 .inv .2 ∙ first .loop .inv .3 .placed) (second .loop2 .inv .3 .placed) in
-    ap outcome
+    ap parsedOutcome
     (ap (λ p. got p (second .loop2 .at .at)) held
     ∙ body-read h _ _ _ _ (all-read _ _ _ _ _ _ _ _ _ gates-read (first .loop .inv .3)) _ _
     (all-read _ _ _ _ _ _ _ _ _ outputs-read (second .loop2 .inv .3)) (c .if1 .left))

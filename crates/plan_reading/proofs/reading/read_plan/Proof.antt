@@ -2,7 +2,7 @@
 use mathlib.Core.Path.{sym, ap, subst, _∙_}
 use borrow.Author.Needs.{needs}
 use Rattle.plan_fields.specs.Parsing.{followed}
-use Rattle.plan_reading.specs.PlanFile.{outcome, planRead}
+use Rattle.plan_reading.specs.PlanFile.{parsedOutcome, planRead}
 use Rattle.plan_reading.specs.Answers.{headerAnswer}
 use Rattle.plan_reading.specs.Parts.{LimitedStep}
 use Rattle.plan_reading.proofs.PartsLaws.{whole-file}
@@ -14,7 +14,7 @@ unfolding planRead
 no-header c =
     let after = c .before .before in
     let e = ap headerAnswer (sym (after .x .given .1)) ∙ after .before .before .read-header .ensures .parsed in
-    rw (c .refused-read .ensures) (ap outcome (ap (followed _ _) e ∙ sym (whole-file _)))
+    rw (c .refused-read .ensures) (ap parsedOutcome (ap (followed _ _) e ∙ sym (whole-file _)))
 
 limited : tie.Need-read-body-requires
 limited c κs = subst LimitedStep (c .before .header .given .1) (c .before .before .before .read-header .ensures .limited)
@@ -24,7 +24,7 @@ unfolding planRead
 body c =
     let after = c .before .before in
     let e = ap headerAnswer (sym (after .header .given .1)) ∙ after .before .before .read-header .ensures .parsed in
-    c .read-body .ensures ∙ ap outcome (ap (followed _ _) e ∙ sym (whole-file _))
+    c .read-body .ensures ∙ ap parsedOutcome (ap (followed _ _) e ∙ sym (whole-file _))
 
 pub read-plan-spec : {M : Type 1} → statement M
 read-plan-spec =
