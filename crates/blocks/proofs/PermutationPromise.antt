@@ -14,13 +14,14 @@ use Rattle.block_elements.proofs.BitsLaws.{length-pack, storeBits-at}
 use Rattle.block_networks.specs.Wanted.{Wanted, mapping, wantedBits}
 use Rattle.block_networks.proofs.WantedLaws.{mapping-at, length-wantedBits, wantedBits-bits, packed-delivers}
 use Rattle.block_sizes.specs.Sizes.{levelOf, SizeIs}
-use Rattle.block_write_checks.specs.WriteChecks.{rowsOf, writeFault}
+use Rattle.block_write_checks.specs.WriteChecks.{writeFault}
 use Rattle.block_write_checks.proofs.WriteChecksLaws.{write-passes}
 use Rattle.block_permutation_rows.specs.WriteCalls.{writtenRows, writtenOutputs}
 use Rattle.block_permutation_rows.proofs.WriteLaws.{written-read}
-use Rattle.block_program_checks.specs.Checks.{bitCount, programFault, programAtFault}
+use Rattle.block_program_checks.specs.Checks.{programFault, programAtFault}
 use Rattle.block_program_checks.proofs.ChecksLaws.{fault-at, program-passes}
 use Rattle.block_permutation_bits.specs.ProgramCalls.{programResult, programAtResult}
+use Rattle.block_networks.specs.Permutation.{permutationCount}
 
 -- the wanted list at the block's level
 at-level : {N : ℕ} {wanted : List ℕ} → SizeIs N → Wanted N wanted → Wanted (2 ^ levelOf N) wanted
@@ -28,15 +29,15 @@ at-level {N} {wanted} size W = rw (size .power) W
 
 -- after success the program begins with the packed bits
 pub programmed-read : (N : ℕ) (wanted program : List ℕ) → programFault N wanted (length program) ≡ 0
-    → take (bytesFor (bitCount N)) (programResult N wanted program) ≡ pack (wantedBits (levelOf N) wanted)
+    → take (bytesFor (permutationCount (levelOf N))) (programResult N wanted program) ≡ pack (wantedBits (levelOf N) wanted)
 programmed-read N wanted program e =
     let bits = wantedBits (levelOf N) wanted in
-    rw e (take-at (pack bits) (drop (length (pack bits)) program) (bytesFor (bitCount N))
+    rw e (take-at (pack bits) (drop (length (pack bits)) program) (bytesFor (permutationCount (levelOf N)))
     (length-pack bits ∙ ap bytesFor (length-wantedBits (levelOf N) wanted)))
 
 -- and a program from bit `start` on has the bits there
 pub programmed-at : (N : ℕ) (wanted : List ℕ) (start : ℕ) (program : List ℕ) → programAtFault N wanted start (length program) ≡ 0
-    → listOf (bitCount N) (λ i. bitAt (programAtResult N wanted start program) (start + i)) ≡ wantedBits (levelOf N) wanted
+    → listOf (permutationCount (levelOf N)) (λ i. bitAt (programAtResult N wanted start program) (start + i)) ≡ wantedBits (levelOf N) wanted
 programmed-at N wanted start program e =
     let p = program-passes {N = N} {wanted = wanted} {start = start} {room = length program} e in
     let bits = wantedBits (levelOf N) wanted in
@@ -50,8 +51,12 @@ pub permutation-promise : {A : Type 0} (none : A) (gate : ℕ → List ℕ → L
     → writeFault N ins next (length rows) (length outputs) ≡ 0 → programFault N wanted (length program) ≡ 0
     → (values : List A) → length values ≡ next → (o : ℕ) → o < N
     → on none
-    (run none gate (decode (take (stride * rowsOf N) (writtenRows N ins next rows outputs)))
-    (record { wires = values; bits = unpack (bitCount N) (take (bytesFor (bitCount N)) (programResult N wanted program)); gates = 0 }))
+    (run none gate (decode (take (stride * permutationCount (levelOf N)) (writtenRows N ins next rows outputs)))
+    (record {
+      wires = values;
+      bits = unpack (permutationCount (levelOf N)) (take (bytesFor (permutationCount (levelOf N))) (programResult N wanted program));
+      gates = 0;
+    }))
     (getD (take N (writtenOutputs N ins next rows outputs)) o 0)
     ≡ getD values (getD ins (getD wanted o 0 - 1) 0) none
 permutation-promise none gate N ins next rows outputs wanted program written programmed values made o h =
