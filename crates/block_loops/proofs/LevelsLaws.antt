@@ -17,7 +17,7 @@ use Rattle.block_networks.proofs.Loops.{perm-inj, perm-lt}
 use Rattle.lists.specs.Lists.{listOf}
 use Rattle.block_loops.specs.Mappings.{mapOf, IsPerm, inverseOf, listBits, inputSides, outputSides, halfList, inverseList, sidesOf, Levelled}
 use Rattle.block_loops.proofs.MappingsLaws.{half-size, half-listed, level-bits, length-listBits, listBits-bits, sides-bits}
-use Rattle.block_loops.specs.Levels.{LevelRoom, BlockRoom, HalfRoom}
+use Rattle.block_loops.specs.Levels.{LevelBuffers, BlockBuffers, HalfBuffers}
 use Rattle.block_bits.proofs.StoreLaws.{store-level}
 
 -- a block that has halves
@@ -29,7 +29,7 @@ pub record Halving (level N : ℕ) : Type 0 where
   pub few : level - 1 ≤ 8
   pub count : permutationCount level ≡ N / 2 + permutationCount (level - 1) + permutationCount (level - 1) + (N / 2 - 1)
 
-pub halving : (level : ℕ) {N a b : ℕ} → BlockRoom level N a b → 0 < level → Halving level N
+pub halving : (level : ℕ) {N a b : ℕ} → BlockBuffers level N a b → 0 < level → Halving level N
 unfolding permutationCount
 halving zero room l = absurd (not-suc-le-zero l)
 halving (suc n) {N} room l =
@@ -40,19 +40,19 @@ halving (suc n) {N} room l =
     let h : N / 2 ≡ 2 ^ n = omega arith in
     record { half = rw m h; even = omega arith; some = omega arith; small = omega arith; few = rw m (le-of-suc-le-suc (room .few)); count = rw (m, h) (omega arith) }
 
-pub level-room : (level : ℕ) {N a b : ℕ} → BlockRoom level N a b → 0 < level → LevelRoom N a b
-level-room level room l =
+pub level-buffers : (level : ℕ) {N a b : ℕ} → BlockBuffers level N a b → 0 < level → LevelBuffers N a b
+level-buffers level room l =
     let H = halving level room l in
     record { even = H .even; some = H .some; small = H .small; scratchSize = room .scratchSize; marksSize = room .marksSize }
 
-pub half-room : (level at : ℕ) {N a b x y z : ℕ} → BlockRoom level N a b → 0 < level → at + N / 2 ≤ N → x ≡ N → y ≡ N → z ≡ N → HalfRoom (level - 1) at x y z
-half-room level at {N} room l within ex ey ez =
+pub half-buffers : (level at : ℕ) {N a b x y z : ℕ} → BlockBuffers level N a b → 0 < level → at + N / 2 ≤ N → x ≡ N → y ≡ N → z ≡ N → HalfBuffers (level - 1) at x y z
+half-buffers level at {N} room l within ex ey ez =
     let H = halving level room l in
     record { size = ex ∙ sym (H .even) ∙ ap (λ k. 2 * k) (H .half); few = H .few; within = rw ex within; scratchSize = ey ∙ sym ex; marksSize = ez ∙ sym ex }
 
 -- the parts from place `at` to place `end` are a block
-pub part-room : {level at end : ℕ} (p s m : List ℕ) → HalfRoom level at (length p) (length s) (length m) → end ≡ at + length p / 2
-    → BlockRoom level (length (midOf at (end - at) p)) (length (midOf at (end - at) s)) (length (midOf at (end - at) m))
+pub part-room : {level at end : ℕ} (p s m : List ℕ) → HalfBuffers level at (length p) (length s) (length m) → end ≡ at + length p / 2
+    → BlockBuffers level (length (midOf at (end - at) p)) (length (midOf at (end - at) s)) (length (midOf at (end - at) m))
 part-room {level} {at} {end} p s m room e =
     let size = mid-len at end p (omega arith) in
     record {
@@ -63,7 +63,7 @@ part-room {level} {at} {end} p s m room e =
     }
 
 -- the halves of the scratch after a level
-module _ {p scratch before after : List ℕ} {start part level a b : ℕ} (P : IsPerm p) (room : BlockRoom level (length p) a b) (l : 0 < level)
+module _ {p scratch before after : List ℕ} {start part level a b : ℕ} (P : IsPerm p) (room : BlockBuffers level (length p) a b) (l : 0 < level)
     (L : Levelled p scratch start part before after) (size : length scratch ≡ length p) where
   half-length : (c : ℕ) → length (halfList c p (sidesOf p)) ≡ length scratch / 2
   half-length c = half-size (length p / 2) (sym (halving level room l .even)) P c ∙ ap (λ n. n / 2) (sym size)

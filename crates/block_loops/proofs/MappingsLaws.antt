@@ -19,7 +19,7 @@ use Rattle.block_networks.proofs.Routing.{length-permutationBits, permutationBi
 use Rattle.block_networks.specs.Wanted.{takerOf}
 use Rattle.block_networks.proofs.WantedLaws.{taker-perm}
 use Rattle.block_loops.specs.Mappings.{mapOf, inverseOf, IsPerm, listBits, Paired, sideIn, inverseList, inputSides, outputSides, halfList, sidesOf, Levelled}
-use Rattle.block_loops.specs.Levels.{LevelRoom, SidesKnown}
+use Rattle.block_loops.specs.Levels.{LevelBuffers, SidesKnown}
 use Rattle.block_loops.proofs.MarkingLaws.{read-map}
 
 -- ---- lists given place by place
@@ -42,8 +42,8 @@ module _ {N : ℕ} {π ρ : ℕ → ℕ} (P : Perm N π ρ) where
   unfolding inverseOf
   inverse-listed = rw (length-listOf N π, map-listOf N π (P .past)) (taker-is P)
 
-  pub listed : IsPerm (listOf N π)
-  listed = record { perm = rw (inverse-listed, length-listOf N π, map-listOf N π (P .past)) P }
+  pub perm-listed : IsPerm (listOf N π)
+  perm-listed = record { perm = rw (inverse-listed, length-listOf N π, map-listOf N π (P .past)) P }
 
   pub bits-listed : (n : ℕ) → listBits n (listOf N π) ≡ permutationBits n π ρ
   unfolding listBits
@@ -134,7 +134,7 @@ module _ (h : ℕ) {p : List ℕ} (lp : length p ≡ 2 * h) (P : IsPerm p) where
   half-size c = length-listOf (length p / 2) _ ∙ halved
 
   pub half-listed : (c : ℕ) → c < 2 → IsPerm (halfList c p (sidesOf p))
-  half-listed c l = rw (half-is c) (listed (half-perm h perm₂ c l))
+  half-listed c l = rw (half-is c) (perm-listed (half-perm h perm₂ c l))
 
   half-bits : (n c : ℕ) → c < 2
       → listBits n (halfList c p (sidesOf p))
@@ -153,7 +153,7 @@ level-bits n lp P =
 
 -- ---- what the calls of a level hand on
 
-pub sides-known : {p : List ℕ} {a b : ℕ} → IsPerm p → LevelRoom (length p) a b → SidesKnown (inverseList p) (sidesOf p)
+pub sides-known : {p : List ℕ} {a b : ℕ} → IsPerm p → LevelBuffers (length p) a b → SidesKnown (inverseList p) (sidesOf p)
 sides-known {p} P room =
     let li = length-listOf (length p) (inverseOf p) in
     let ls = length-listOf (length p) (sideIn p (inverseList p)) in

@@ -17,7 +17,7 @@ use Rattle.block_networks.proofs.Loops.{partner-partner, partner-half, partner-
 use Rattle.block_networks.proofs.Loops.{walk-lt, walk-closes, walk-sym, walk-mirror, lowest-at, lowest-low, lowest-same, lowest-partner, side-along, side-partner}
 use Rattle.block_networks.proofs.Halves.{side-lt, output-sides}
 use Rattle.block_loops.specs.Mappings.{mapOf, Paired, walkIn, sideIn, sideList}
-use Rattle.block_loops.specs.Marking.{unmarked, pairMarked, startOf, loopOf, loopIn, Leads, Traced, Visited}
+use Rattle.block_loops.specs.Marking.{unmarked, pairMarked, visitStart, loopOf, loopIn, Leads, Traced, Visited}
 
 -- ---- one pair
 
@@ -240,16 +240,16 @@ module _ {p q : List ℕ} (G : Paired p q) (start : ℕ) (L : Leads p q start) (
 pub filled-whole : (b : ℕ) {n : ℕ} (old : List ℕ) → length old ≡ n → replicate n b ++ drop n old ≡ replicate n b
 filled-whole b old e = rw (← e, drop-length old) (append-nil (replicate (length old) b))
 
-pub start-lt : (h k : ℕ) → k < h → startOf h k < 2 * h
-unfolding startOf
+pub start-lt : (h k : ℕ) → k < h → visitStart h k < 2 * h
+unfolding visitStart
 start-lt h zero l = omega arith
 start-lt h (suc k) l = omega arith
 
 -- the pairs are taken in the order of their ranks
-start-key : (h k : ℕ) → k < h → key h (startOf h k) ≡ 2 * k
-unfolding startOf
-start-key h zero l = key-last h (startOf h zero) (omega arith) ∙ omega arith
-start-key h (suc k) l = key-other h (startOf h (suc k)) (λ e. absurd (omega arith)) ∙ omega arith
+start-key : (h k : ℕ) → k < h → key h (visitStart h k) ≡ 2 * k
+unfolding visitStart
+start-key h zero l = key-last h (visitStart h zero) (omega arith) ∙ omega arith
+start-key h (suc k) l = key-other h (visitStart h (suc k)) (λ e. absurd (omega arith)) ∙ omega arith
 
 key-lt : (h x : ℕ) → x < 2 * h → key h x < 2 * h
 key-lt h x l = go (key-at h x)
@@ -270,7 +270,7 @@ swept-none p q =
 
 module _ {p q : List ℕ} (G : Paired p q) where
   -- pair k is the next to be taken, o its first output
-  module _ {k : ℕ} (kh : k < length p / 2) {m : List ℕ} (S : Swept p q k m) {o : ℕ} (eo : o ≡ startOf (length p / 2) k) where
+  module _ {k : ℕ} (kh : k < length p / 2) {m : List ℕ} (S : Swept p q k m) {o : ℕ} (eo : o ≡ visitStart (length p / 2) k) where
     o-key : key (length p / 2) o ≡ 2 * k
     o-key = ap (key (length p / 2)) eo ∙ start-key (length p / 2) k kh
 
@@ -324,11 +324,11 @@ module _ {p q : List ℕ} (G : Paired p q) where
       S .done x b (omega (arith, lowest-le (length p / 2) (G .perm) x, key-lt (length p / 2) x (rw (G .even) b)))
       ∙ sym (getD-listOf (length p) (sideIn p q) x 0 b))
 
-pub start-first : (h : ℕ) → startOf h 0 ≡ 2 * (h - 1)
-unfolding startOf
-start-first h = refl
+pub visit-start-first : (h : ℕ) → visitStart h 0 ≡ 2 * (h - 1)
+unfolding visitStart
+visit-start-first h = refl
 
-pub start-next : (h k : ℕ) → k ≢ 0 → startOf h k ≡ 2 * (k - 1)
-unfolding startOf
-start-next h zero n = absurd (n refl)
-start-next h (suc k) n = omega arith
+pub visit-start-next : (h k : ℕ) → k ≢ 0 → visitStart h k ≡ 2 * (k - 1)
+unfolding visitStart
+visit-start-next h zero n = absurd (n refl)
+visit-start-next h (suc k) n = omega arith

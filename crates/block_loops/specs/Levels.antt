@@ -7,7 +7,7 @@ use Rattle.block_elements.specs.Bits.{AreBits}
 use Rattle.block_sizes.specs.Sizes.{maxSize}
 
 -- a level of N places, with scratch of as many entries and as many marks
-pub record LevelRoom (N scratch marks : ℕ) : Type 0 where
+pub record LevelBuffers (N scratch marks : ℕ) : Type 0 where
   pub even : 2 * (N / 2) ≡ N
   pub some : 2 ≤ N
   pub small : N ≤ maxSize
@@ -22,14 +22,14 @@ pub record SidesKnown (q m : List ℕ) : Type 0 where
   pub bits : AreBits m
 
 -- a block of 2 ^ level places, with scratch of as many entries and as many marks
-pub record BlockRoom (level N scratch marks : ℕ) : Type 0 where
+pub record BlockBuffers (level N scratch marks : ℕ) : Type 0 where
   pub size : N ≡ 2 ^ level
   pub few : level ≤ 9
   pub scratchSize : scratch ≡ N
   pub marksSize : marks ≡ N
 
 -- a half of 2 ^ level places from place `at` on
-pub record HalfRoom (level at N scratch marks : ℕ) : Type 0 where
+pub record HalfBuffers (level at N scratch marks : ℕ) : Type 0 where
   pub size : N ≡ 2 * 2 ^ level
   pub few : level ≤ 8
   pub within : at + N / 2 ≤ N

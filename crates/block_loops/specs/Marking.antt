@@ -17,9 +17,9 @@ unfoldable pub pairMarked : List ℕ → ℕ → List ℕ
 pairMarked m o = set (set m o 0) (partner o) 1
 
 -- the first output of the pair that is taken as number k of h: the last pair, then the others upwards
-unfoldable pub startOf : ℕ → ℕ → ℕ
-startOf h zero = 2 * (h - 1)
-startOf h (suc k) = 2 * k
+unfoldable pub visitStart : ℕ → ℕ → ℕ
+visitStart h zero = 2 * (h - 1)
+visitStart h (suc k) = 2 * k
 
 -- the number of the pair that leads x's loop, in that order
 unfoldable pub loopOf : ℕ → (ℕ → ℕ) → (ℕ → ℕ) → ℕ → ℕ

@@ -18,7 +18,7 @@ use Rattle.block_networks.specs.Permutation.{permutationCount, inputRows
 use Rattle.block_networks.specs.Permutation.{permutationOuts, upperOuts, lowerOuts, permutationRows, Perm, permutationBits}
 use Rattle.block_networks.specs.Permutation.{cross, through, upperBits, source, target}
 use Rattle.block_networks.proofs.Loops.{parity, perm-lt}
-use Rattle.block_networks.proofs.XRun.{operand, operand-at, operand-list, operand-lt, listed, cross-lt, cross-ext}
+use Rattle.block_networks.proofs.XRun.{operand, operand-at, operand-list, operand-lt, chosen-listed, cross-lt, cross-ext}
 use Rattle.block_networks.proofs.XRun.{runX, runX-made, runX-left, runX-keeps, runX-at}
 use Rattle.block_networks.proofs.PermutationLaws.{permutation-totals, half-wires}
 use Rattle.block_networks.proofs.Routing.{cross-half, cross-past, source-perm, source-programmed, length-permutationBits}
@@ -89,7 +89,7 @@ module _ {A : Type 0} (none : A) (gate : ℕ → List ℕ → List A → A) wher
       value x = on none s (operand f g x)
 
       pair : (c : ℕ) → c < 2 → getD (f k ∷ g k ∷ []) c 0 ≡ operand f g (2 * k + c)
-      pair c m = listed (f k) (g k) c m ∙ sym (operand-at f g k c m)
+      pair c m = chosen-listed (f k) (g k) c m ∙ sym (operand-at f g k c m)
 
       straight : (c : ℕ) → o ≡ 2 * k + c → c < 2 → getD all o 0 ≡ operand f g o
       straight c p m =

@@ -24,13 +24,13 @@ use Rattle.block_networks.specs.Selection.{wholeRows, wholeOuts, wholeCo
 
 -- ---- the level
 
-pub inputs-fit : (m n : ℕ) → m ≤ 2 ^ selectionLevel m n
+pub selection-inputs-fit : (m n : ℕ) → m ≤ 2 ^ selectionLevel m n
 unfolding selectionLevel
-inputs-fit m n = omega (arith, ceilLog-fits (max m n))
+selection-inputs-fit m n = omega (arith, ceilLog-fits (max m n))
 
-pub outputs-fit : (m n : ℕ) → n ≤ 2 ^ selectionLevel m n
+pub selection-outputs-fit : (m n : ℕ) → n ≤ 2 ^ selectionLevel m n
 unfolding selectionLevel
-outputs-fit m n = omega (arith, ceilLog-fits (max m n))
+selection-outputs-fit m n = omega (arith, ceilLog-fits (max m n))
 
 pub level-least : (m n k : ℕ) → m ≤ 2 ^ k → n ≤ 2 ^ k → selectionLevel m n ≤ k
 unfolding selectionLevel
@@ -182,7 +182,7 @@ module _ (m n : ℕ) (ins : List ℕ) (next : ℕ) where
   pub length-selectionOuts : length (selectionOuts m n ins next) ≡ n
   unfolding selectionOuts
   length-selectionOuts =
-      length-take n _ ∙ min-eq-left (rw (length-wholeOuts (selectionLevel m n) ins next) (outputs-fit m n))
+      length-take n _ ∙ min-eq-left (rw (length-wholeOuts (selectionLevel m n) ins next) (selection-outputs-fit m n))
 
   -- output o of S is the block's
   pub getD-selectionOuts : (o : ℕ) → o < n → getD (selectionOuts m n ins next) o 0 ≡ getD (wholeOuts (selectionLevel m n) ins next) o 0
@@ -197,7 +197,7 @@ module _ (m n : ℕ) (ins : List ℕ) (next : ℕ) where
       record {
         each = λ i l.
             let k : i < n = rw length-selectionOuts at l in
-            rw (getD-selectionOuts i k) (whole-below level ins next z b .each i (omega (arith, length-wholeOuts level ins next, outputs-fit m n)));
+            rw (getD-selectionOuts i k) (whole-below level ins next z b .each i (omega (arith, length-wholeOuts level ins next, selection-outputs-fit m n)));
       }
 
   pub selection-madeBefore : 0 < next → Below next ins → MadeBefore next (selectionRows m n ins next)

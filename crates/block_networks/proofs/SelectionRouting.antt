@@ -23,7 +23,7 @@ use Rattle.lists.proofs.CountingLaws.{one-lt}
 use Rattle.block_networks.specs.Selection.{wholeCount, wanting, copies, isWanted, headOf, isHead, positionOf, copyOf}
 use Rattle.block_networks.specs.Selection.{firstProgram, chainProgram, secondProgram, wholeProgram, chainSource, chainBits, secondBits, wholeSource}
 use Rattle.block_networks.specs.Selection.{selectionLevel, selectionCount, Selected, selectionBits, selectionSource}
-use Rattle.block_networks.proofs.SelectionLaws.{inputs-fit, outputs-fit}
+use Rattle.block_networks.proofs.SelectionLaws.{selection-inputs-fit, selection-outputs-fit}
 use Rattle.block_networks.proofs.Heads.{copy-lt, own-copy, copy-early, first-perm, second-perm, position-rule, head-here, no-head}
 
 -- ---- any bits
@@ -48,7 +48,7 @@ wholeSource-lt level bits o l =
 -- each output takes one of the N inputs
 pub selectionSource-lt : (m n : ℕ) (bits : List ℕ) (o : ℕ) → o < n → selectionSource m n bits o < 2 ^ selectionLevel m n
 unfolding selectionSource
-selectionSource-lt m n bits o l = wholeSource-lt (selectionLevel m n) bits o (omega (arith, outputs-fit m n))
+selectionSource-lt m n bits o l = wholeSource-lt (selectionLevel m n) bits o (omega (arith, selection-outputs-fit m n))
 
 -- ---- the chain
 
@@ -148,7 +148,7 @@ module _ {m n : ℕ} {wanted : List ℕ} (W : Selected m n wanted) where
   unfolding selectionSource selectionBits
   selection-programmed rest o l =
       let level : ℕ = selectionLevel m n in
-      whole-programmed (mapping wanted) n level (outputs-fit m n) rest o l (omega (arith, selected-lt o l, inputs-fit m n))
+      whole-programmed (mapping wanted) n level (selection-outputs-fit m n) rest o l (omega (arith, selected-lt o l, selection-inputs-fit m n))
 
 module _ (m n : ℕ) (wanted : List ℕ) where
   -- each P is programmed for the list of its wanted inputs
@@ -160,8 +160,8 @@ module _ (m n : ℕ) (wanted : List ℕ) where
   unfolding selectionBits wholeProgram
   selection-by-lists =
       let level : ℕ = selectionLevel m n in
-      let P = first-perm (mapping wanted) n (2 ^ level) (outputs-fit m n) in
-      let Q = second-perm (mapping wanted) n (2 ^ level) (outputs-fit m n) in
+      let P = first-perm (mapping wanted) n (2 ^ level) (selection-outputs-fit m n) in
+      let Q = second-perm (mapping wanted) n (2 ^ level) (selection-outputs-fit m n) in
       rw (wantedBits-of level P, wantedBits-of level Q)
 
   pub length-selectionBits : length (selectionBits m n wanted) ≡ selectionCount m n
@@ -170,7 +170,7 @@ module _ (m n : ℕ) (wanted : List ℕ) where
 
   pub selectionBits-bits : AreBits (selectionBits m n wanted)
   unfolding selectionBits
-  selectionBits-bits = wholeProgram-bits (mapping wanted) n (selectionLevel m n) (outputs-fit m n)
+  selectionBits-bits = wholeProgram-bits (mapping wanted) n (selectionLevel m n) (selection-outputs-fit m n)
 
   -- a program holds them
   pub unpack-selection : unpack (selectionCount m n) (pack (selectionBits m n wanted)) ≡ selectionBits m n wanted

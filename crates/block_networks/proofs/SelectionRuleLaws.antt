@@ -20,7 +20,7 @@ use Rattle.lists.specs.Counting.{oneIf}
 use Rattle.lists.proofs.CountingLaws.{passed, both-ways}
 use Rattle.block_networks.proofs.CompletionLaws.{taken-here, taken-nowhere, taken-by, completion-only}
 use Rattle.block_networks.specs.Selection.{selectionLevel, copies, isWanted, headOf, isHead, copyOf, chainProgram, wholeProgram, selectionBits}
-use Rattle.block_networks.proofs.SelectionLaws.{outputs-fit}
+use Rattle.block_networks.proofs.SelectionLaws.{selection-outputs-fit}
 use Rattle.block_networks.proofs.Heads.{copy-early, copy-past, first-perm, second-perm, position-rule}
 use Rattle.block_networks.proofs.SelectionRouting.{length-chainProgram, chainProgram-at}
 use Rattle.block_networks.specs.SelectionRule.{Head, ChainRule, SecondRule, SelectionRule, rule-selection}
@@ -91,10 +91,10 @@ module _ (want : ℕ → ℕ) (n level : ℕ) (fits : n ≤ 2 ^ level) where
 -- the bits of S(m, n) follow the rule
 pub selection-follows : (m n : ℕ) (wanted : List ℕ) → SelectionRule (selectionLevel m n) n (mapping wanted) (selectionBits m n wanted)
 unfolding selectionBits
-selection-follows m n wanted = whole-follows (mapping wanted) n (selectionLevel m n) (outputs-fit m n)
+selection-follows m n wanted = whole-follows (mapping wanted) n (selectionLevel m n) (selection-outputs-fit m n)
 
 -- the rule fixes every bit
 pub selection-fixed : (m n : ℕ) (wanted : List ℕ) {bits : List ℕ} → SelectionRule (selectionLevel m n) n (mapping wanted) bits
     → bits ≡ selectionBits m n wanted
 unfolding selectionBits
-selection-fixed m n wanted R = whole-fixed (mapping wanted) n (selectionLevel m n) (outputs-fit m n) R
+selection-fixed m n wanted R = whole-fixed (mapping wanted) n (selectionLevel m n) (selection-outputs-fit m n) R

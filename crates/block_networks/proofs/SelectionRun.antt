@@ -21,7 +21,7 @@ use Rattle.block_networks.proofs.PermutationRun.{permutation-made, perm
 use Rattle.block_networks.specs.Selection.{selectionLevel, padded, chainWire, chainRows, chainNext, secondNext, firstOuts, middleOuts}
 use Rattle.block_networks.specs.Selection.{wholeRows, wholeOuts, selectionRows, selectionOuts, selectionCount, selectionWires, Selected, selectionBits}
 use Rattle.block_networks.specs.Selection.{chainSource, chainBits, secondBits, wholeSource, selectionSource}
-use Rattle.block_networks.proofs.SelectionLaws.{outputs-fit, getD-padded, chain-totals, getD-chainOuts, whole-wires, selection-totals, getD-selectionOuts}
+use Rattle.block_networks.proofs.SelectionLaws.{selection-outputs-fit, getD-padded, chain-totals, getD-chainOuts, whole-wires, selection-totals, getD-selectionOuts}
 use Rattle.block_networks.proofs.SelectionRouting.{chainSource-le, selectionSource-lt, selection-programmed, length-selectionBits, unpack-selection}
 
 wire-after : (w : List ℕ) (next i : ℕ) → chainWire w next (suc i) ≡ next + i
@@ -130,7 +130,7 @@ module _ {A : Type 0} (none : A) (gate : ℕ → List ℕ → List A → A) wher
   selection-routes m n ins next s z b e o l =
       let level : ℕ = selectionLevel m n in
       ap (on none (run none gate (wholeRows level ins next) s)) (getD-selectionOuts m n ins next o l)
-      ∙ whole-routes level ins next s z b e o (omega (arith, outputs-fit m n))
+      ∙ whole-routes level ins next s z b e o (omega (arith, selection-outputs-fit m n))
 
   -- for any bits, even too few, each output carries what one of the N inputs carried, which the bits alone decide
   pub selection-selects : (m n : ℕ) (ins : List ℕ) (next : ℕ) (s : State A) → 0 < next → Below next ins → length (s .wires) ≡ next

@@ -51,11 +51,11 @@ operand-at f g i c l =
     let m : (2 * i + c) % 2 ≡ c = omega arith in
     rw (d, m)
 
-pub listed : (a b c : ℕ) → c < 2 → getD (a ∷ b ∷ []) c 0 ≡ choose c a b
+pub chosen-listed : (a b c : ℕ) → c < 2 → getD (a ∷ b ∷ []) c 0 ≡ choose c a b
 unfolding choose
-listed a b zero l = refl
-listed a b (suc zero) l = refl
-listed a b (suc (suc c)) l = absurd (omega arith)
+chosen-listed a b zero l = refl
+chosen-listed a b (suc zero) l = refl
+chosen-listed a b (suc (suc c)) l = absurd (omega arith)
 
 choose-lt : (c a b m : ℕ) → a < m → b < m → choose c a b < m
 unfolding choose

@@ -13,7 +13,7 @@ use Rattle.block_networks.proofs.WantedLaws.{wanted-perm}
 use Rattle.block_sizes.specs.Sizes.{levelOf}
 use Rattle.block_program_checks.proofs.BitsLaws.{stored-done}
 use Rattle.block_loops.specs.Mappings.{IsPerm, listBits}
-use Rattle.block_loops.proofs.MappingsLaws.{listed, bits-listed}
+use Rattle.block_loops.proofs.MappingsLaws.{perm-listed, bits-listed}
 use Rattle.block_program_checks.specs.Checks.{programAtFault}
 use Rattle.block_program_checks.proofs.ChecksLaws.{program-passes}
 use Rattle.block_permutation_bits.specs.ProgramCalls.{programAtResult}
@@ -27,7 +27,7 @@ module _ {N : ℕ} {wanted perm : List ℕ} (old : List ℕ) (W : Wanted N wante
       ∙ ap (λ n. listOf n (mapping wanted)) (W .size)
 
   pub front-perm : IsPerm (take N perm)
-  front-perm = rw front-is (listed (wanted-perm W))
+  front-perm = rw front-is (perm-listed (wanted-perm W))
 
   pub front-bits : (n : ℕ) → listBits n (take N perm) ≡ wantedBits n wanted
   unfolding wantedBits

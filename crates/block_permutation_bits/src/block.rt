@@ -4,9 +4,8 @@ ghost use Prim.Native.Nat.{_+_, _/_, _^_, _<_, _≤_};
 ghost use lib.ListN.{length, take, drop};
 ghost use Rattle.block_elements.specs.Bits.{storeBits};
 ghost use Rattle.block_networks.specs.Permutation.{permutationCount};
-ghost use Rattle.block_sizes.specs.Sizes.{maxLevel, CountIs};
 ghost use Rattle.block_loops.specs.Mappings.{IsPerm, listBits};
-ghost use Rattle.block_loops.specs.Levels.{BlockRoom, HalfRoom};
+ghost use Rattle.block_loops.specs.Levels.{BlockBuffers, HalfBuffers};
 use crate::level::program_level;
 use block_bits::store_bit;
 use block_sizes::permutation_count;
@@ -22,14 +21,14 @@ pub(crate) fn program_block(
     level: usize,
 )
     requires { ⌜ IsPerm (now perm) ⌝ }
-    requires { ⌜ BlockRoom level (length (now perm)) (length (now scratch)) (length (now mark)) ⌝ }
+    requires { ⌜ BlockBuffers level (length (now perm)) (length (now scratch)) (length (now mark)) ⌝ }
     requires { ⌜ start + permutationCount level < 2 ^ 32 ⌝ }
     ensures { λ _. ⌜ now (program .exit) ≡ storeBits (now (program .entry)) start (listBits level (now (perm .entry))) ⌝ }
 {
     if 1 < level {
         let below = level - 1;
         let half = perm.len() / 2;
-        let part = row_count(half, below);
+        let part = permutation_count(half as u32);
         let upper = start + half;
         program_level(perm, scratch, mark, program, start, part);
         program_half(scratch, perm, mark, program, upper, below, 0);
@@ -62,7 +61,7 @@ fn program_half(
     at: usize,
 )
     requires { ⌜ IsPerm (take (length (now perm) / 2) (drop at (now perm))) ⌝ }
-    requires { ⌜ HalfRoom level at (length (now perm)) (length (now scratch)) (length (now mark)) ⌝ }
+    requires { ⌜ HalfBuffers level at (length (now perm)) (length (now scratch)) (length (now mark)) ⌝ }
     requires { ⌜ start + permutationCount level < 2 ^ 32 ⌝ }
     ensures stored { λ _. ⌜ now (program .exit) ≡ storeBits (now (program .entry)) start (listBits level (take (length (now (perm .entry)) / 2) (drop at (now (perm .entry))))) ⌝ }
     ensures kept { λ _. ⌜ drop (at + length (now (perm .entry)) / 2) (now (perm .exit)) ≡ drop (at + length (now (perm .entry)) / 2) (now (perm .entry)) ⌝ }
@@ -76,12 +75,4 @@ fn program_half(
         start,
         level,
     );
-}
-
-// The rows of P(n), n = 2 ^ level.
-fn row_count(n: usize, level: usize) -> usize
-    requires { ⌜ (n ≡ 2 ^ level) × (level ≤ maxLevel) ⌝ }
-    ensures { λ r. ⌜ CountIs level r ⌝ }
-{
-    permutation_count(n as u32)
 }

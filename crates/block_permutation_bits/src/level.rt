@@ -7,7 +7,7 @@ ghost use lib.Seq.{sets};
 ghost use Rattle.block_elements.specs.Bits.{AreBits, storeBits};
 ghost use Rattle.block_sizes.specs.Sizes.{maxSize};
 ghost use Rattle.block_loops.specs.Mappings.{IsPerm, inverseList, sidesOf, inputSides, outputSides, rowsStored, halfList, Levelled};
-ghost use Rattle.block_loops.specs.Levels.{LevelRoom, SidesKnown};
+ghost use Rattle.block_loops.specs.Levels.{LevelBuffers, SidesKnown};
 use crate::marking::mark_sides;
 use block_bits::store_bit;
 use block_rows::wide;
@@ -22,7 +22,7 @@ pub(crate) fn program_level(
     part: usize,
 )
     requires { ⌜ IsPerm (now perm) ⌝ }
-    requires { ⌜ LevelRoom (length (now perm)) (length (now scratch)) (length (now mark)) ⌝ }
+    requires { ⌜ LevelBuffers (length (now perm)) (length (now scratch)) (length (now mark)) ⌝ }
     requires { ⌜ start + length (now perm) / 2 + part + part + length (now perm) / 2 < 2 ^ 64 ⌝ }
     ensures { λ _. ⌜ Levelled (now (perm .entry)) (now (scratch .exit)) start part (now (program .entry)) (now (program .exit)) ⌝ }
 {
@@ -34,7 +34,7 @@ pub(crate) fn program_level(
 // The inverse of the mapping, and the side of each output.
 fn find_sides(perm: &[u16], inverse: &mut [u16], mark: &mut [u8])
     requires { ⌜ IsPerm (now perm) ⌝ }
-    requires { ⌜ LevelRoom (length (now perm)) (length (now inverse)) (length (now mark)) ⌝ }
+    requires { ⌜ LevelBuffers (length (now perm)) (length (now inverse)) (length (now mark)) ⌝ }
     ensures inverted { λ _. ⌜ now (inverse .exit) ≡ inverseList (now (perm .entry)) ⌝ }
     ensures marked { λ _. ⌜ now (mark .exit) ≡ sidesOf (now (perm .entry)) ⌝ }
 {
@@ -98,7 +98,7 @@ fn store_output_bits(mark: &[u8], program: &mut [u8], start: usize)
 
 // The mappings that are left to the upper and the lower half, one behind the other.
 fn half_maps(perm: &[u16], mark: &[u8], maps: &mut [u16])
-    requires { ⌜ LevelRoom (length (now perm)) (length (now maps)) (length (now mark)) ⌝ }
+    requires { ⌜ LevelBuffers (length (now perm)) (length (now maps)) (length (now mark)) ⌝ }
     ensures { λ _. ⌜ now (maps .exit) ≡ halfList 0 (now (perm .entry)) (now (mark .entry)) ++ halfList 1 (now (perm .entry)) (now (mark .entry)) ⌝ }
 {
     half_map(perm, mark, 0, maps, 0);
@@ -107,7 +107,7 @@ fn half_maps(perm: &[u16], mark: &[u8], maps: &mut [u16])
 
 // The mapping that is left to the half c, from entry `at` on: of each output pair the output that comes through it.
 fn half_map(perm: &[u16], mark: &[u8], c: usize, maps: &mut [u16], at: usize)
-    requires { ⌜ LevelRoom (length (now perm)) (length (now maps)) (length (now mark)) ⌝ }
+    requires { ⌜ LevelBuffers (length (now perm)) (length (now maps)) (length (now mark)) ⌝ }
     requires { ⌜ (c < 2) × (at + length (now perm) / 2 ≤ length (now maps)) ⌝ }
     ensures { λ _. ⌜ now (maps .exit) ≡ sets (now (maps .entry)) at (halfList c (now (perm .entry)) (now (mark .entry))) ⌝ }
 {

@@ -5,7 +5,7 @@ ghost use lib.ListN.{length, getD};
 ghost use Rattle.block_networks.specs.Permutation.{partner};
 ghost use Rattle.block_sizes.specs.Sizes.{maxSize};
 ghost use Rattle.block_loops.specs.Mappings.{Paired, walkIn, sideList};
-ghost use Rattle.block_loops.specs.Marking.{unmarked, pairMarked, startOf, Leads, Traced, Visited};
+ghost use Rattle.block_loops.specs.Marking.{unmarked, pairMarked, visitStart, Leads, Traced, Visited};
 use block_bits::fill_bytes;
 use block_rows::wide;
 
@@ -23,16 +23,16 @@ pub(crate) fn mark_sides(perm: &[u16], inverse: &[u16], mark: &mut [u8])
     let pairs = perm.len() / 2;
     let mut k: usize = 0;
     while k < pairs {
-        let start = start_of(pairs, k);
+        let start = visit_start(pairs, k);
         visit(perm, inverse, mark, start);
         k += 1;
     }
 }
 
 // The first output of the pair that is taken as number k.
-fn start_of(pairs: usize, k: usize) -> usize
+fn visit_start(pairs: usize, k: usize) -> usize
     requires { ⌜ (k < pairs) × (pairs ≤ maxSize) ⌝ }
-    ensures { λ r. ⌜ r ≡ startOf pairs k ⌝ }
+    ensures { λ r. ⌜ r ≡ visitStart pairs k ⌝ }
 {
     if k == 0 { 2 * (pairs - 1) } else { 2 * (k - 1) }
 }

@@ -7,19 +7,17 @@ ghost use Rattle.lists.specs.Lists.{listOf};
 ghost use Rattle.fault.specs.Number.{answerNumber};
 ghost use Rattle.fault.specs.Buffers.{over};
 ghost use Rattle.block_elements.specs.Bits.{storeBits};
+ghost use Rattle.block_networks.specs.Permutation.{permutationCount};
 ghost use Rattle.block_networks.specs.Wanted.{Wanted, mapping, wantedBits};
 ghost use Rattle.block_sizes.specs.Sizes.{levelOf, SizeIs};
-ghost use Rattle.block_program_checks.specs.Checks.{bitCount, programFault, programAtFault};
+ghost use Rattle.block_program_checks.specs.Checks.{programFault, programAtFault};
 ghost use Rattle.block_permutation_bits.specs.ProgramCalls.{programResult, programAtResult};
 use crate::block::program_block;
 use block_bits::fill_bytes;
 use block_program_checks::check_permutation;
-use block_sizes::MAX_SIZE;
+use block_sizes::MAX_PLACES;
 use block_sizes::permutation_count;
 use fault::Answer;
-
-// The places of the largest block.
-const PLACES: usize = MAX_SIZE as usize;
 
 // The program of P(n) for the wanted inputs, from the front of `program`. Spare bits of its last byte are 0.
 pub fn program_permutation(n: u32, wanted: &[u16], program: &mut [u8]) -> Answer
@@ -61,12 +59,12 @@ fn level_of(n: u32) -> usize
 // bit positions stay small.
 fn program_wanted(n: u32, wanted: &[u16], program: &mut [u8], start: usize)
     requires { ⌜ SizeIs n × Wanted n (now wanted) ⌝ }
-    requires { ⌜ start + bitCount n ≤ 8 * length (now program) ⌝ }
+    requires { ⌜ start + permutationCount (levelOf n) ≤ 8 * length (now program) ⌝ }
     ensures { λ _. ⌜ now (program .exit) ≡ storeBits (now (program .entry)) start (wantedBits (levelOf n) (now (wanted .entry))) ⌝ }
 {
-    let mut perm = [0u16; PLACES];
-    let mut inverse = [0u16; PLACES];
-    let mut mark = [0u8; PLACES];
+    let mut perm = [0u16; MAX_PLACES];
+    let mut inverse = [0u16; MAX_PLACES];
+    let mut mark = [0u8; MAX_PLACES];
     load_mapping(wanted, &mut perm);
     let places = n as usize;
     let byte = start / 8;

@@ -24,7 +24,7 @@ use Rattle.elements.specs.Elements.{maxWires}
 use Rattle.block_rows.specs.Rows.{pairRows}
 use Rattle.block_rows.specs.Wires.{wiresPut}
 use Rattle.block_rows.proofs.WiresLaws.{wires-put, wire-after}
-use Rattle.block_permutation_rows.specs.Levels.{gapRows, joined, FeedRoom, JoinRoom}
+use Rattle.block_permutation_rows.specs.Levels.{gapRows, joinedOuts, FeedRoom, JoinRoom}
 use Rattle.fault.proofs.PartsLaws.{length-over, over-part, over-again, part-lent}
 
 -- ---- a level above 0 by the level below
@@ -74,8 +74,8 @@ then-pair A W last v e h =
 
 -- the upper half's last output is put beside the lower's, and then the outputs before them
 pub halves-joined : (half next : ℕ) (W Q : List ℕ) → JoinRoom half next (length W)
-    → Q ≡ wiresPut (2 * (half - 1)) next 1 (set W (2 * (half - 1)) (getD W (half - 1) 0)) → Q ≡ over (joined half next W) W
-unfolding joined
+    → Q ≡ wiresPut (2 * (half - 1)) next 1 (set W (2 * (half - 1)) (getD W (half - 1) 0)) → Q ≡ over (joinedOuts half next W) W
+unfolding joinedOuts
 halves-joined half next W Q r e =
     let last = 2 * (half - 1) in
     let some = r .some in
@@ -101,11 +101,11 @@ module _ (n next : ℕ) where
 
   module _ (W₀ W₁ W₂ : List ℕ) (room : 2 * 2 ^ n ≤ length W₀) (fed : W₁ ≡ over (firsts (2 ^ n) next ++ seconds (2 ^ n) next) W₀)
       (upper : W₂ ≡ over (permutationOuts n (take (2 ^ n) W₁) (upperNext n next)) W₁) where
-    pub upper-fed : take (2 ^ n) W₁ ≡ firsts (2 ^ n) next
-    upper-fed = rw (fed, append-assoc) (take-at (firsts (2 ^ n) next) _ (2 ^ n) (length-firsts (2 ^ n) next))
+    pub upper-half-fed : take (2 ^ n) W₁ ≡ firsts (2 ^ n) next
+    upper-half-fed = rw (fed, append-assoc) (take-at (firsts (2 ^ n) next) _ (2 ^ n) (length-firsts (2 ^ n) next))
 
     after-upper : W₂ ≡ over (upperOuts n next) W₁
-    after-upper = rw (← upper-fed) upper
+    after-upper = rw (← upper-half-fed) upper
 
     fed-length : length W₁ ≡ length W₀
     fed-length =
@@ -115,8 +115,8 @@ module _ (n next : ℕ) where
     lower-lent : partOf (2 ^ n) W₂ ≡ drop (2 ^ n) W₁
     lower-lent = part-lent (upperOuts n next) W₁ W₂ (2 ^ n) length-upper (omega (arith, fed-length)) after-upper
 
-    pub lower-fed : take (2 ^ n) (partOf (2 ^ n) W₂) ≡ seconds (2 ^ n) next
-    lower-fed =
+    pub lower-half-fed : take (2 ^ n) (partOf (2 ^ n) W₂) ≡ seconds (2 ^ n) next
+    lower-half-fed =
         let rest = drop (length (firsts (2 ^ n) next ++ seconds (2 ^ n) next)) W₀ in
         rw (
           lower-lent,
@@ -133,7 +133,7 @@ module _ (n next : ℕ) where
         let U = upperOuts n next in
         let L = lowerOuts n next in
         over-part U W₁ W₂ (2 ^ n) length-upper (omega (arith, fed-length)) after-upper L G (omega (arith, fed-length, length-lower))
-        (rw lower-fed at lower)
+        (rw lower-half-fed at lower)
         ∙ ap (over (U ++ L)) fed
         ∙ over-again (U ++ L) (firsts (2 ^ n) next ++ seconds (2 ^ n) next) W₀
         (simp (length-append, length-firsts, length-seconds) (omega (arith, length-upper, length-lower)))
@@ -155,8 +155,8 @@ module _ (n next : ℕ) where
         let e : 1 * i ≡ i = omega arith in
         rw (e, upper-at i (omega arith), lower-at i (i + 2 ^ n) (omega arith) (omega arith))
 
-    pub outputs-are : (ins : List ℕ) → joined (2 ^ n) (outputNext n next) W₃ ≡ permutationOuts (suc n) ins next
-    unfolding joined permutationOuts
+    pub outputs-are : (ins : List ℕ) → joinedOuts (2 ^ n) (outputNext n next) W₃ ≡ permutationOuts (suc n) ins next
+    unfolding joinedOuts permutationOuts
     outputs-are ins = let p = pow-pos n in rw (upper-at (2 ^ n - 1) (omega arith), lower-at (2 ^ n - 1) (2 * 2 ^ n - 1) (omega arith) (omega arith))
 
 -- the input rows take no other wires than the level's input wires

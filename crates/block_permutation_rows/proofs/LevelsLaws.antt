@@ -17,27 +17,27 @@ use Rattle.block_elements.specs.Rows.{stride, flat}
 use Rattle.block_networks.specs.Permutation.{permutationCount, inputRows, outputRows, firsts, seconds, upperNext, lowerNext}
 use Rattle.block_networks.specs.Permutation.{permutationOuts, upperOuts, lowerOuts, permutationRows}
 use Rattle.block_networks.proofs.PermutationLaws.{length-permutationOuts}
-use Rattle.block_permutation_rows.specs.declared.level.Parts.{Parts}
-use Rattle.block_permutation_rows.specs.Levels.{gapRows, joined, LevelRoom, PartsAt, InputRoom, OutputRoom}
-use Rattle.block_permutation_rows.proofs.HalvesLaws.{step-power, length-rows, length-upper, length-lower, upper-fed, lower-fed, after-halves}
+use Rattle.block_permutation_rows.specs.declared.level.LevelParts.{LevelParts}
+use Rattle.block_permutation_rows.specs.Levels.{gapRows, joinedOuts, LevelRoom, LevelPartsAt, InputRowsRoom, OutputRowsRoom}
+use Rattle.block_permutation_rows.proofs.HalvesLaws.{step-power, length-rows, length-upper, length-lower, upper-half-fed, lower-half-fed, after-halves}
 use Rattle.block_permutation_rows.proofs.HalvesLaws.{output-rows-are, outputs-are, inputs-taken, length-inputs, length-outputs, flat-parts}
 use Rattle.fault.proofs.PartsLaws.{length-over, over-part, over-again}
 
 -- the parts begin at bytes that fit: an entry has two
-pub record PlacesFit (p : Parts) : Type 0 where
+pub record PlacesFit (p : LevelParts) : Type 0 where
   pub half : Fits w64 (p .half * 2)
   pub upper : Fits w64 (p .upper * 2)
   pub lower : Fits w64 (p .lower * 2)
   pub outputs : Fits w64 (p .outputs * 2)
 
-pub places-fit : {level next : ℕ} {p : Parts} → PartsAt level next p → PlacesFit p
+pub places-fit : {level next : ℕ} {p : LevelParts} → LevelPartsAt level next p → PlacesFit p
 places-fit w = record { half = few (omega arith); upper = few (omega arith); lower = few (omega arith); outputs = few (omega arith) }
   where
     few : {m : ℕ} → m ≤ 2 * (stride * maxWires) → Fits w64 m
     few = fits-below tt
 
 -- the parts of a level in the part R of the table and in the list W of wires, which stay as long as the level was given them
-module _ {level next entries places : ℕ} {p : Parts} (at : PartsAt level next p) (room : LevelRoom level next entries places) (R W : List ℕ)
+module _ {level next entries places : ℕ} {p : LevelParts} (at : LevelPartsAt level next p) (room : LevelRoom level next entries places) (R W : List ℕ)
     (rows : length R ≡ entries) (wires : length W ≡ places) where
   pub upper-in : p .upper ≤ length R
   upper-in = omega arith
@@ -51,16 +51,16 @@ module _ {level next entries places : ℕ} {p : Parts} (at : PartsAt level next 
   pub half-in : p .half ≤ length W
   half-in = omega arith
 
-  pub upper-room : 1 < level → LevelRoom (level - 1) (p .«upper_next» .0) (length (partOf (p .upper) R)) (length W)
-  upper-room some = record {
+  pub upper-level-room : 1 < level → LevelRoom (level - 1) (p .«upper_next» .0) (length (partOf (p .upper) R)) (length W)
+  upper-level-room some = record {
     small = omega arith;
     wires = λ l. omega arith;
     rowRoom = rw (mid-len (p .upper) (length R) R (le-refl (length R))) (omega arith);
     wireRoom = omega arith;
   }
 
-  pub lower-room : 1 < level → LevelRoom (level - 1) (p .«lower_next» .0) (length (partOf (p .lower) R)) (length (partOf (p .half) W))
-  lower-room some = record {
+  pub lower-level-room : 1 < level → LevelRoom (level - 1) (p .«lower_next» .0) (length (partOf (p .lower) R)) (length (partOf (p .half) W))
+  lower-level-room some = record {
     small = omega arith;
     wires = λ l. omega arith;
     rowRoom = rw (mid-len (p .lower) (length R) R (le-refl (length R))) (omega arith);
@@ -68,14 +68,14 @@ module _ {level next entries places : ℕ} {p : Parts} (at : PartsAt level next 
   }
 
   -- the outputs of a level fit what is left for them
-  pub output-room : OutputRoom (p .half) (p .«output_next» .0) (length (partOf (p .outputs) R)) (length W)
+  pub output-room : OutputRowsRoom (p .half) (p .«output_next» .0) (length (partOf (p .outputs) R)) (length W)
   output-room = record {
     join = record { some = at .some; small = at .small; wires = omega arith; wireRoom = omega arith };
     rowRoom = rw (mid-len (p .outputs) (length R) R (le-refl (length R))) (omega arith);
   }
 
 -- R and W are the table's part and the list of wires after each step, F and G the parts that a callee was lent
-pub record LevelSteps (level next : ℕ) (p : Parts) (R₀ W₀ R₁ W₁ F₁ W₂ F₂ G F₃ W₄ : List ℕ) : Type 0 where
+pub record LevelSteps (level next : ℕ) (p : LevelParts) (R₀ W₀ R₁ W₁ F₁ W₂ F₂ G F₃ W₄ : List ℕ) : Type 0 where
   pub inputs : R₁ ≡ over (flat (inputRows (p .half) W₀)) R₀
   pub fed : W₁ ≡ over (firsts (p .half) next ++ seconds (p .half) next) W₀
   pub upperRows : F₁ ≡ over (flat (permutationRows (level - 1) (take (2 ^ (level - 1)) W₁) (p .«upper_next» .0))) (partOf (p .upper) R₁)
@@ -87,7 +87,7 @@ pub record LevelSteps (level next : ℕ) (p : Parts) (R₀ W₀ R₁ W₁ F₁ W
   pub outputRows :
       F₃ ≡ over (flat (gapRows (p .half - 1) (withPart (p .half) W₂ G) 1 (p .half)))
       (partOf (p .outputs) (withPart (p .lower) (withPart (p .upper) R₁ F₁) F₂))
-  pub outputWires : W₄ ≡ over (joined (p .half) (p .«output_next» .0) (withPart (p .half) W₂ G)) (withPart (p .half) W₂ G)
+  pub outputWires : W₄ ≡ over (joinedOuts (p .half) (p .«output_next» .0) (withPart (p .half) W₂ G)) (withPart (p .half) W₂ G)
 
 -- what a level writes: its rows in front of the table's part, its output wires in the place of its input wires
 pub record LevelWritten (level next : ℕ) (R₀ W₀ R W : List ℕ) : Type 0 where
@@ -140,7 +140,7 @@ pair-written level next R W low some room =
     two (x ∷ []) z = absurd (omega arith)
     two (x ∷ y ∷ l) z = (refl, refl)
 
-pub pair-room : (level : ℕ) {next entries places : ℕ} → level ≤ 1 → 1 ≤ level → LevelRoom level next entries places → InputRoom 1 next entries places
+pub pair-room : (level : ℕ) {next entries places : ℕ} → level ≤ 1 → 1 ≤ level → LevelRoom level next entries places → InputRowsRoom 1 next entries places
 unfolding permutationCount
 pair-room zero low some w = absurd (omega arith)
 pair-room (suc zero) low some w = record {
@@ -149,7 +149,7 @@ pair-room (suc zero) low some w = record {
 }
 pair-room (suc (suc n)) low some w = absurd (omega arith)
 
-module _ (level next : ℕ) (some : 1 ≤ level) (p : Parts) (at : PartsAt level next p) (R₀ W₀ R₁ W₁ F₁ W₂ F₂ G F₃ W₄ : List ℕ)
+module _ (level next : ℕ) (some : 1 ≤ level) (p : LevelParts) (at : LevelPartsAt level next p) (R₀ W₀ R₁ W₁ F₁ W₂ F₂ G F₃ W₄ : List ℕ)
     (rowRoom : stride * permutationCount level ≤ length R₀) (wireRoom : 2 ^ level ≤ length W₀)
     (s : LevelSteps level next p R₀ W₀ R₁ W₁ F₁ W₂ F₂ G F₃ W₄) where
   abbrev n : ℕ
@@ -186,7 +186,7 @@ module _ (level next : ℕ) (some : 1 ≤ level) (p : Parts) (at : PartsAt level
       ∙ sym (length-append (upperOuts n next) (lowerOuts n next) ∙ omega (arith, length-upper n next, length-lower n next, pow-succ' 2 n)) in
       s .outputWires
       ∙ ap (λ l. over l W₃)
-      (ap₂ (λ h k. joined h k W₃) (at .halfIs) (at .outputFrom) ∙ outputs-are n next W₀ W₃ both-is ins)
+      (ap₂ (λ h k. joinedOuts h k W₃) (at .halfIs) (at .outputFrom) ∙ outputs-are n next W₀ W₃ both-is ins)
       ∙ ap (over (permutationOuts (suc n) ins next)) both-is
       ∙ over-again (permutationOuts (suc n) ins next) both W₀ size
       ∙ ap (λ m. over (permutationOuts m ins next) W₀) (sym above)
@@ -208,9 +208,9 @@ module _ (level next : ℕ) (some : 1 ≤ level) (p : Parts) (at : PartsAt level
       (rw (at .halfIs) at (s .inputs))
       ∙ ap (λ r. over (flat r) R₀) (inputs-taken (2 ^ n) (2 ^ level) W₀ (omega (arith, step-power level some))) in
       let f₁ : F₁ ≡ over B (partOf (p .upper) R₁) =
-      rw (at .upperFrom, upper-fed n next W₀ W₁ W₂ room fed-is upper-is) at (s .upperRows) in
+      rw (at .upperFrom, upper-half-fed n next W₀ W₁ W₂ room fed-is upper-is) at (s .upperRows) in
       let f₂ : F₂ ≡ over C (partOf (p .lower) R₂) =
-      rw (at .halfIs, at .lowerFrom, lower-fed n next W₀ W₁ W₂ room fed-is upper-is) at (s .lowerRows) in
+      rw (at .halfIs, at .lowerFrom, lower-half-fed n next W₀ W₁ W₂ room fed-is upper-is) at (s .lowerRows) in
       let f₃ : F₃ ≡ over D (partOf (p .outputs) R₃) =
       s .outputRows
       ∙ ap (λ r. over (flat r) (partOf (p .outputs) R₃))

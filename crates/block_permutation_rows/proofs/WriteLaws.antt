@@ -13,7 +13,7 @@ use Rattle.block_networks.specs.Permutation.{permutationCount, permutationOuts,
 use Rattle.block_networks.proofs.PermutationLaws.{permutation-totals, length-permutationOuts}
 use Rattle.block_sizes.specs.Sizes.{levelOf, SizeIs}
 use Rattle.block_rows.proofs.WiresLaws.{wires-copied}
-use Rattle.block_write_checks.specs.WriteChecks.{WritePasses, rowsOf, writeFault}
+use Rattle.block_write_checks.specs.WriteChecks.{WritePasses, writeFault}
 use Rattle.block_write_checks.proofs.WriteChecksLaws.{write-passes}
 use Rattle.block_permutation_rows.specs.WriteCalls.{writtenRows, writtenOutputs}
 use Rattle.fault.proofs.PartsLaws.{length-over, over-again}
@@ -27,7 +27,7 @@ some-rows n h = omega (arith, step-count n h, pow-pos (n - 1))
 -- ---- what is written
 
 -- three entries a row, and one for each output wire
-pub length-entries : (N : ℕ) (ins : List ℕ) (next : ℕ) → length (flat (permutationRows (levelOf N) ins next)) ≡ stride * rowsOf N
+pub length-entries : (N : ℕ) (ins : List ℕ) (next : ℕ) → length (flat (permutationRows (levelOf N) ins next)) ≡ stride * permutationCount (levelOf N)
 length-entries N ins next = length-rows (levelOf N) ins next
 
 pub length-outs : (N : ℕ) (ins : List ℕ) (next : ℕ) → SizeIs N → length ins ≡ N → length (permutationOuts (levelOf N) ins next) ≡ N
@@ -35,8 +35,8 @@ length-outs N ins next size e = length-permutationOuts (levelOf N) ins next (e �
 
 -- after success the lent buffers begin with the rows and the output wires
 pub record Written (N : ℕ) (ins : List ℕ) (next : ℕ) (rows outputs : List ℕ) : Type 0 where
-  pub entriesRead : take (stride * rowsOf N) (writtenRows N ins next rows outputs) ≡ flat (permutationRows (levelOf N) ins next)
-  pub rowsRead : decode (take (stride * rowsOf N) (writtenRows N ins next rows outputs)) ≡ permutationRows (levelOf N) ins next
+  pub entriesRead : take (stride * permutationCount (levelOf N)) (writtenRows N ins next rows outputs) ≡ flat (permutationRows (levelOf N) ins next)
+  pub rowsRead : decode (take (stride * permutationCount (levelOf N)) (writtenRows N ins next rows outputs)) ≡ permutationRows (levelOf N) ins next
   pub outputsRead : take N (writtenOutputs N ins next rows outputs) ≡ permutationOuts (levelOf N) ins next
 
 pub written-read : (N : ℕ) (ins : List ℕ) (next : ℕ) (rows outputs : List ℕ) → writeFault N ins next (length rows) (length outputs) ≡ 0
@@ -45,8 +45,8 @@ written-read N ins next rows outputs e =
     let w = write-passes N ins next (length rows) (length outputs) e in
     let es = flat (permutationRows (levelOf N) ins next) in
     let outs = permutationOuts (levelOf N) ins next in
-    let front : take (stride * rowsOf N) (writtenRows N ins next rows outputs) ≡ es =
-    rw e (take-at es (drop (length es) rows) (stride * rowsOf N) (length-entries N ins next)) in
+    let front : take (stride * permutationCount (levelOf N)) (writtenRows N ins next rows outputs) ≡ es =
+    rw e (take-at es (drop (length es) rows) (stride * permutationCount (levelOf N)) (length-entries N ins next)) in
     record {
       entriesRead = front;
       rowsRead = ap decode front ∙ decode-flat (permutation-totals (levelOf N) ins next .family);
@@ -76,12 +76,12 @@ module _ (N : ℕ) (ins : List ℕ) (next rows outputs level : ℕ) (L P : List 
   inputs-copied : take (2 ^ level) P ≡ ins
   inputs-copied = rw copied (take-at ins (drop (length ins) L) (2 ^ level) (passes .inputs ∙ sym (passes .size .power) ∙ ap (λ n. 2 ^ n) (sym at)))
 
-  pub rows-put : (R S : List ℕ) → R ≡ over (flat (permutationRows level (take (2 ^ level) P) next)) S
+  pub permutation-rows-put : (R S : List ℕ) → R ≡ over (flat (permutationRows level (take (2 ^ level) P) next)) S
       → R ≡ over (flat (permutationRows (levelOf N) ins next)) S
-  rows-put R S e = rw (inputs-copied, at) at e
+  permutation-rows-put R S e = rw (inputs-copied, at) at e
 
-  pub outputs-put : (Q : List ℕ) → Q ≡ over (permutationOuts level (take (2 ^ level) P) next) P → Q ≡ over (permutationOuts (levelOf N) ins next) L
-  outputs-put Q e =
+  pub permutation-outputs-put : (Q : List ℕ) → Q ≡ over (permutationOuts level (take (2 ^ level) P) next) P → Q ≡ over (permutationOuts (levelOf N) ins next) L
+  permutation-outputs-put Q e =
       (rw (inputs-copied, at) at e)
       ∙ ap (over (permutationOuts (levelOf N) ins next)) copied
       ∙ over-again (permutationOuts (levelOf N) ins next) ins L (length-outs N ins next (passes .size) (passes .inputs) ∙ sym (passes .inputs))

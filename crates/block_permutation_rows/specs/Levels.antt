@@ -6,7 +6,7 @@ use lib.ListN.{getD}
 use Rattle.lists.specs.Lists.{listOf}
 use Rattle.block_elements.specs.Rows.{Row, X, stride}
 use Rattle.block_networks.specs.Permutation.{permutationCount, upperNext, lowerNext, outputNext}
-use Rattle.block_permutation_rows.specs.declared.level.Parts.{Parts}
+use Rattle.block_permutation_rows.specs.declared.level.LevelParts.{LevelParts}
 use Rattle.block_sizes.specs.Sizes.{maxSize, maxLevel}
 use Rattle.elements.specs.Elements.{maxWires}
 
@@ -36,7 +36,7 @@ pub record LevelRoom (level next entries places : ℕ) : Type 0 where
   pub wireRoom : 2 ^ level ≤ places
 
 -- where the parts of a level begin
-pub record PartsAt (level next : ℕ) (p : Parts) : Type 0 where
+pub record LevelPartsAt (level next : ℕ) (p : LevelParts) : Type 0 where
   pub halfIs : p .half ≡ 2 ^ (level - 1)
   pub double : 2 ^ level ≡ 2 * p .half
   pub some : 1 ≤ p .half
@@ -59,7 +59,7 @@ pub record FeedRoom (half next places : ℕ) : Type 0 where
   pub wireRoom : 2 * half ≤ places
 
 -- with the input rows
-pub record InputRoom (half next entries places : ℕ) : Type 0 where
+pub record InputRowsRoom (half next entries places : ℕ) : Type 0 where
   pub feed : FeedRoom half next places
   pub rowRoom : stride * half ≤ entries
 
@@ -71,10 +71,10 @@ pub record JoinRoom (half next places : ℕ) : Type 0 where
   pub wireRoom : 2 * half ≤ places
 
 -- with the output rows
-pub record OutputRoom (half next entries places : ℕ) : Type 0 where
+pub record OutputRowsRoom (half next entries places : ℕ) : Type 0 where
   pub join : JoinRoom half next places
   pub rowRoom : stride * (half - 1) ≤ entries
 
 -- the output wires of a level where its halves' output wires stand in the list, one half behind the other
-unfoldable pub joined : ℕ → ℕ → List ℕ → List ℕ
-joined half next wires = listOf (2 * (half - 1)) (λ o. next + o) ++ (getD wires (half - 1) 0 ∷ getD wires (2 * half - 1) 0 ∷ [])
+unfoldable pub joinedOuts : ℕ → ℕ → List ℕ → List ℕ
+joinedOuts half next wires = listOf (2 * (half - 1)) (λ o. next + o) ++ (getD wires (half - 1) 0 ∷ getD wires (2 * half - 1) 0 ∷ [])

@@ -7,8 +7,8 @@ ghost use lib.ListN.{length, take};
 ghost use Rattle.fault.specs.Buffers.{over};
 ghost use Rattle.block_elements.specs.Rows.{flat};
 ghost use Rattle.block_networks.specs.Permutation.{inputRows, firsts, seconds, permutationRows, permutationOuts};
-ghost use Rattle.block_sizes.specs.Sizes.{maxSize, maxLevel, CountIs};
-ghost use Rattle.block_permutation_rows.specs.Levels.{gapRows, GapRoom, joined, PartsAt, LevelWires, LevelRoom, FeedRoom, InputRoom, JoinRoom, OutputRoom};
+ghost use Rattle.block_sizes.specs.Sizes.{maxSize, maxLevel};
+ghost use Rattle.block_permutation_rows.specs.Levels.{gapRows, GapRoom, joinedOuts, LevelPartsAt, LevelWires, LevelRoom, FeedRoom, InputRowsRoom, JoinRoom, OutputRowsRoom};
 use block_rows::put_pairs;
 use block_rows::put_wires;
 use block_rows::row_place;
@@ -17,7 +17,7 @@ use elements::FabricWire;
 use elements::Kind;
 
 // Where the parts of one level begin: the entries of their rows in the level's stretch, and the first wire that they make.
-struct Parts {
+struct LevelParts {
     half: usize,
     upper: usize,
     lower: usize,
@@ -34,12 +34,12 @@ pub(crate) fn write_level(level: u32, next: FabricWire, rows: &mut [u16], wires:
     ensures { λ _. ⌜ now (wires .exit) ≡ over (permutationOuts level (take (2 ^ level) (now (wires .entry))) (next .0)) (now (wires .entry)) ⌝ }
 {
     if 1 < level {
-        let parts = parts_of(level, next);
+        let parts = level_parts(level, next);
         let half = parts.half;
         let upper = parts.upper;
         let lower = parts.lower;
         let outputs = parts.outputs;
-        write_inputs(rows, wires, half, next);
+        write_input_rows(rows, wires, half, next);
         write_level(level - 1, parts.upper_next, &mut rows[upper..], wires);
         write_level(
             level - 1,
@@ -47,7 +47,7 @@ pub(crate) fn write_level(level: u32, next: FabricWire, rows: &mut [u16], wires:
             &mut rows[lower..],
             &mut wires[half..],
         );
-        write_outputs(&mut rows[outputs..], wires, half, parts.output_next);
+        write_output_rows(&mut rows[outputs..], wires, half, parts.output_next);
     } else {
         write_pair(level, next, rows, wires);
     }
@@ -60,7 +60,7 @@ fn write_pair(level: u32, next: FabricWire, rows: &mut [u16], wires: &mut [u16])
     ensures { λ _. ⌜ now (wires .exit) ≡ over (permutationOuts level (take (2 ^ level) (now (wires .entry))) (next .0)) (now (wires .entry)) ⌝ }
 {
     if 0 < level {
-        write_inputs(rows, wires, 1, next);
+        write_input_rows(rows, wires, 1, next);
     }
 }
 
@@ -72,24 +72,16 @@ fn size_at(level: u32) -> u32
     1u32 << level
 }
 
-// The rows of P at a level.
-fn count_at(level: u32) -> u32
-    requires { ⌜ level ≤ maxLevel ⌝ }
-    ensures { λ r. ⌜ CountIs level r ⌝ }
-{
-    permutation_count(size_at(level)) as u32
-}
-
 // The parts of a level above 0. Each row makes two wires.
-fn parts_of(level: u32, next: FabricWire) -> Parts
+fn level_parts(level: u32, next: FabricWire) -> LevelParts
     requires { ⌜ LevelWires level (next .0) ⌝ }
-    ensures { λ r. ⌜ PartsAt level (next .0) r ⌝ }
+    ensures { λ r. ⌜ LevelPartsAt level (next .0) r ⌝ }
 {
     let half = size_at(level - 1);
-    let count = count_at(level - 1);
+    let count = permutation_count(half) as u32;
     let lower = half + count;
     let outputs = lower + count;
-    Parts {
+    LevelParts {
         half: half as usize,
         upper: row_place(half),
         lower: row_place(lower),
@@ -109,8 +101,8 @@ fn put_switches(rows: &mut [u16], count: usize, wires: &[u16], step: u16, gap: u
 }
 
 // The input X rows, and then what feeds the halves in the place of the input wires.
-fn write_inputs(rows: &mut [u16], wires: &mut [u16], half: usize, next: FabricWire)
-    requires { ⌜ InputRoom half (next .0) (length (now rows)) (length (now wires)) ⌝ }
+fn write_input_rows(rows: &mut [u16], wires: &mut [u16], half: usize, next: FabricWire)
+    requires { ⌜ InputRowsRoom half (next .0) (length (now rows)) (length (now wires)) ⌝ }
     ensures { λ _. ⌜ now (rows .exit) ≡ over (flat (inputRows half (now (wires .entry)))) (now (rows .entry)) ⌝ }
     ensures { λ _. ⌜ now (wires .exit) ≡ over (firsts half (next .0) ++ seconds half (next .0)) (now (wires .entry)) ⌝ }
 {
@@ -129,10 +121,10 @@ fn feed_halves(wires: &mut [u16], half: usize, next: FabricWire)
 }
 
 // The output X rows, and then the level's output wires in the place of the halves'.
-fn write_outputs(rows: &mut [u16], wires: &mut [u16], half: usize, next: FabricWire)
-    requires { ⌜ OutputRoom half (next .0) (length (now rows)) (length (now wires)) ⌝ }
+fn write_output_rows(rows: &mut [u16], wires: &mut [u16], half: usize, next: FabricWire)
+    requires { ⌜ OutputRowsRoom half (next .0) (length (now rows)) (length (now wires)) ⌝ }
     ensures { λ _. ⌜ now (rows .exit) ≡ over (flat (gapRows (half - 1) (now (wires .entry)) 1 half)) (now (rows .entry)) ⌝ }
-    ensures { λ _. ⌜ now (wires .exit) ≡ over (joined half (next .0) (now (wires .entry))) (now (wires .entry)) ⌝ }
+    ensures { λ _. ⌜ now (wires .exit) ≡ over (joinedOuts half (next .0) (now (wires .entry))) (now (wires .entry)) ⌝ }
 {
     put_switches(rows, half - 1, wires, 1, half);
     join_halves(wires, half, next);
@@ -141,7 +133,7 @@ fn write_outputs(rows: &mut [u16], wires: &mut [u16], half: usize, next: FabricW
 // The outputs of the output rows, then the last pair, which has no X: the upper half's last output moves beside the lower's.
 fn join_halves(wires: &mut [u16], half: usize, next: FabricWire)
     requires { ⌜ JoinRoom half (next .0) (length (now wires)) ⌝ }
-    ensures { λ _. ⌜ now (wires .exit) ≡ over (joined half (next .0) (now (wires .entry))) (now (wires .entry)) ⌝ }
+    ensures { λ _. ⌜ now (wires .exit) ≡ over (joinedOuts half (next .0) (now (wires .entry))) (now (wires .entry)) ⌝ }
 {
     let last = 2 * (half - 1);
     wires[last] = wires[half - 1];

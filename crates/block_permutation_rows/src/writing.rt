@@ -29,14 +29,20 @@ pub fn write_permutation(
     match check_permutation_write(n, inputs, next, rows.len(), outputs.len()) {
         Answer::Refused(f) => Answer::Refused(f),
         Answer::Done => {
-            put_permutation(n, inputs, next, rows, outputs);
+            write_checked_permutation(n, inputs, next, rows, outputs);
             Answer::Done
         }
     }
 }
 
 // P(n) where all checks pass. The outputs' buffer holds the input wires first.
-fn put_permutation(n: u32, inputs: &[u16], next: FabricWire, rows: &mut [u16], outputs: &mut [u16])
+fn write_checked_permutation(
+    n: u32,
+    inputs: &[u16],
+    next: FabricWire,
+    rows: &mut [u16],
+    outputs: &mut [u16],
+)
     requires { ⌜ WritePasses n (now inputs) (next .0) (length (now rows)) (length (now outputs)) ⌝ }
     ensures { λ _. ⌜ now (rows .exit) ≡ over (flat (permutationRows (levelOf n) (now (inputs .entry)) (next .0))) (now (rows .entry)) ⌝ }
     ensures { λ _. ⌜ now (outputs .exit) ≡ over (permutationOuts (levelOf n) (now (inputs .entry)) (next .0)) (now (outputs .entry)) ⌝ }

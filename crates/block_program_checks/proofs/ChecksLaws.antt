@@ -19,13 +19,14 @@ use Rattle.fault.proofs.ChecksLaws.{unless-zero, and-then-zero, first-of-zero, 
 use Rattle.block_elements.specs.Bits.{bytesFor}
 use Rattle.block_networks.specs.Wanted.{Wanted}
 use Rattle.block_networks.specs.Selection.{selectionLevel, wholeCount, selectionCount, Selected}
-use Rattle.block_sizes.specs.Sizes.{maxSize, maxLevel, sizeAllowed, levelOf, SizeIs, Sides}
-use Rattle.block_sizes.proofs.SizesLaws.{size-is, power-allowed, few-rows, sides-allowed, side-level, power-small}
+use Rattle.block_sizes.specs.Sizes.{maxSize, maxLevel, sizeAllowed, levelOf, SizeIs, SelectionSizes}
+use Rattle.block_sizes.proofs.SizesLaws.{size-is, power-allowed, few-rows, selection-sizes-allowed, selection-level-small, power-small}
 use Rattle.block_program_checks.specs.Bits.{bitsAtFault}
 use Rattle.block_program_checks.proofs.BitsLaws.{bits-faultless, bits-at-front}
 use Rattle.block_program_checks.specs.Checks.{firstSource, selectedAllowed, selectedFault, notAmong, isNew, twiceFault, sourceFault, wantedFault}
-use Rattle.block_program_checks.specs.Checks.{bitCount, programFault, programAtFault, selectionWantedFault, selectionProgramFault, selectionProgramAtFault}
+use Rattle.block_program_checks.specs.Checks.{programFault, programAtFault, selectionWantedFault, selectionProgramFault, selectionProgramAtFault}
 use Rattle.block_program_checks.specs.Checks.{SelectionPasses}
+use Rattle.block_networks.specs.Permutation.{permutationCount}
 
 -- ---- check 9, entry by entry
 
@@ -105,15 +106,15 @@ module _ {wanted mark : List ℕ} {i x : ℕ} (M : Marked wanted i mark) (here :
   mark-is : getD mark x 0 ≡ cond (isNew wanted i) 0 1
   mark-is = rw here at (M .each x fits)
 
-  pub unseen : getD mark x 0 ≡ 0 → isNew wanted i ≡ true
-  unseen e = go (isNew wanted i) mark-is
+  pub comes-first : getD mark x 0 ≡ 0 → isNew wanted i ≡ true
+  comes-first e = go (isNew wanted i) mark-is
     where
       go : (b : Bool) → getD mark x 0 ≡ cond b 0 1 → b ≡ true
       go true q = refl
       go false q = absurd (omega arith)
 
-  pub seen : getD mark x 0 ≢ 0 → isNew wanted i ≡ false
-  seen n = go (isNew wanted i) mark-is
+  pub comes-again : getD mark x 0 ≢ 0 → isNew wanted i ≡ false
+  comes-again n = go (isNew wanted i) mark-is
     where
       go : (b : Bool) → getD mark x 0 ≡ cond b 0 1 → b ≡ false
       go true q = absurd (n q)
@@ -160,45 +161,45 @@ wanted-faultless N wanted = (
 
 -- from bit 0 on, the checks are the same
 pub fault-at : (N : ℕ) (wanted : List ℕ) (room : ℕ) → programAtFault N wanted 0 room ≡ programFault N wanted room
-fault-at N wanted room = ap (andThen (wantedFault N wanted)) (sym (bits-at-front (bitCount N) room))
+fault-at N wanted room = ap (andThen (wantedFault N wanted)) (sym (bits-at-front (permutationCount (levelOf N)) room))
 
 -- what is known where all checks pass
 pub record ProgramPasses (N : ℕ) (wanted : List ℕ) (start room : ℕ) : Type 0 where
   pub size : SizeIs N
   pub wantedOnce : Wanted N wanted
-  pub fits : start + bitCount N ≤ 8 * room
+  pub fits : start + permutationCount (levelOf N) ≤ 8 * room
 
 pub program-passes : {N : ℕ} {wanted : List ℕ} {start room : ℕ} → programAtFault N wanted start room ≡ 0 → ProgramPasses N wanted start room
 program-passes {N} {wanted} {start} {room} e =
-    let h = and-then-zero (wantedFault N wanted) (bitsAtFault (bitCount N) start room) .0 e in
+    let h = and-then-zero (wantedFault N wanted) (bitsAtFault (permutationCount (levelOf N)) start room) .0 e in
     let w = wanted-faultless N wanted .0 (h .0) in
-    record { size = size-is N (w .0); wantedOnce = w .1; fits = bits-faultless (bitCount N) start room .0 (h .1) }
+    record { size = size-is N (w .0); wantedOnce = w .1; fits = bits-faultless (permutationCount (levelOf N)) start room .0 (h .1) }
 
 -- success from plain bounds
-pub program-at-succeeds : (n : ℕ) {wanted : List ℕ} (start room : ℕ) → n ≤ maxLevel → Wanted (2 ^ n) wanted → start + bitCount (2 ^ n) ≤ 8 * room
+pub program-at-succeeds : (n : ℕ) {wanted : List ℕ} (start room : ℕ) → n ≤ maxLevel → Wanted (2 ^ n) wanted → start + permutationCount (levelOf (2 ^ n)) ≤ 8 * room
     → programAtFault (2 ^ n) wanted start room ≡ 0
 program-at-succeeds n {wanted} start room l W fits =
-    and-then-zero _ _ .1 (wanted-faultless (2 ^ n) wanted .1 (power-allowed n l, W), bits-faultless (bitCount (2 ^ n)) start room .1 fits)
+    and-then-zero _ _ .1 (wanted-faultless (2 ^ n) wanted .1 (power-allowed n l, W), bits-faultless (permutationCount (levelOf (2 ^ n))) start room .1 fits)
 
-pub program-succeeds : (n : ℕ) {wanted : List ℕ} (room : ℕ) → n ≤ maxLevel → Wanted (2 ^ n) wanted → bytesFor (bitCount (2 ^ n)) ≤ room
+pub program-succeeds : (n : ℕ) {wanted : List ℕ} (room : ℕ) → n ≤ maxLevel → Wanted (2 ^ n) wanted → bytesFor (permutationCount (levelOf (2 ^ n))) ≤ room
     → programFault (2 ^ n) wanted room ≡ 0
 program-succeeds n {wanted} room l W fits = sym (fault-at (2 ^ n) wanted room) ∙ program-at-succeeds n 0 room l W (omega arith)
 
-pub few-bits : {N : ℕ} → SizeIs N → bitCount N ≤ maxLevel * maxSize
+pub few-bits : {N : ℕ} → SizeIs N → permutationCount (levelOf N) ≤ maxLevel * maxSize
 few-bits {N} size = few-rows (levelOf N) (size .level)
 
 -- ---- S(m, n)
 
 -- the checks that ask for no room
-pub selection-wanted-faultless : (m n : ℕ) (wanted : List ℕ) → (selectionWantedFault m n wanted ≡ 0) ↔ ((Sides m n) × Selected m n wanted)
+pub selection-wanted-faultless : (m n : ℕ) (wanted : List ℕ) → (selectionWantedFault m n wanted ≡ 0) ↔ ((SelectionSizes m n) × Selected m n wanted)
 unfolding selectionWantedFault
 selection-wanted-faultless m n wanted = (
   λ e.
-      let h = simp (and-then-zero, sides-allowed, list-faultless, selected-faultless) at e in
+      let h = simp (and-then-zero, selection-sizes-allowed, list-faultless, selected-faultless) at e in
       (h .0, rw (h .1 .0) at (h .1 .1)),
   λ w.
       let size = w .1 .size in
-      simp (and-then-zero, sides-allowed, list-faultless, selected-faultless) (w .0, (size, rw (← size) at (w .1))),
+      simp (and-then-zero, selection-sizes-allowed, list-faultless, selected-faultless) (w .0, (size, rw (← size) at (w .1))),
 )
 
 -- from bit 0 on, the checks are the same
@@ -216,7 +217,7 @@ selection-program-passes {m} {n} {wanted} {start} {room} e =
 pub selection-program-at-succeeds : (m n : ℕ) {wanted : List ℕ} (start room : ℕ) → 1 ≤ m → m ≤ maxSize → 1 ≤ n → n ≤ maxSize
     → Selected m n wanted → start + selectionCount m n ≤ 8 * room → selectionProgramAtFault m n wanted start room ≡ 0
 selection-program-at-succeeds m n {wanted} start room m1 mm n1 nm W fits =
-    let s : Sides m n = record { someInputs = m1; inputs = mm; someOutputs = n1; outputs = nm } in
+    let s : SelectionSizes m n = record { someInputs = m1; inputs = mm; someOutputs = n1; outputs = nm } in
     and-then-zero _ _ .1 (selection-wanted-faultless m n wanted .1 (s, W), bits-faultless (selectionCount m n) start room .1 fits)
 
 pub selection-program-succeeds : (m n : ℕ) {wanted : List ℕ} (room : ℕ) → 1 ≤ m → m ≤ maxSize → 1 ≤ n → n ≤ maxSize
@@ -224,8 +225,8 @@ pub selection-program-succeeds : (m n : ℕ) {wanted : List ℕ} (room : ℕ) �
 selection-program-succeeds m n {wanted} room m1 mm n1 nm W fits =
     sym (selection-fault-at m n wanted room) ∙ selection-program-at-succeeds m n 0 room m1 mm n1 nm W (omega arith)
 
-pub few-selection-bits : {m n : ℕ} → Sides m n → selectionCount m n ≤ 2 * (maxLevel * maxSize) + maxSize
+pub few-selection-bits : {m n : ℕ} → SelectionSizes m n → selectionCount m n ≤ 2 * (maxLevel * maxSize) + maxSize
 unfolding selectionCount wholeCount
 few-selection-bits {m} {n} s =
     let level : ℕ = selectionLevel m n in
-    omega (arith, few-rows level (side-level s), power-small level (side-level s))
+    omega (arith, few-rows level (selection-level-small s), power-small level (selection-level-small s))

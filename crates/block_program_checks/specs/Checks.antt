@@ -9,7 +9,7 @@ use Rattle.fault.specs.declared.Fault.{Fault}
 use Rattle.fault.specs.Checks.{unless, andThen, firstOf, listFault}
 use Rattle.block_networks.specs.Permutation.{permutationCount}
 use Rattle.block_networks.specs.Selection.{selectionCount, Selected}
-use Rattle.block_sizes.specs.Sizes.{sizeAllowed, levelOf, sidesFault, Sides}
+use Rattle.block_sizes.specs.Sizes.{sizeAllowed, levelOf, selectionSizesFault, SelectionSizes}
 use Rattle.block_program_checks.specs.Bits.{bitsFault, bitsAtFault}
 
 -- ---- check 9
@@ -49,23 +49,19 @@ sourceFault N wanted = andThen (selectedFault N wanted) (twiceFault wanted)
 unfoldable pub wantedFault : ℕ → List ℕ → ℕ
 wantedFault N wanted = andThen (unless (sizeAllowed N) Fault.Inputs) (andThen (listFault N wanted) (sourceFault N wanted))
 
--- the program bits of P(N)
-abbrev pub bitCount : ℕ → ℕ
-bitCount N = permutationCount (levelOf N)
-
 -- the checks of a call that is lent a program of so many bytes: these, then 11
 abbrev pub programFault : ℕ → List ℕ → ℕ → ℕ
-programFault N wanted room = andThen (wantedFault N wanted) (bitsFault (bitCount N) room)
+programFault N wanted room = andThen (wantedFault N wanted) (bitsFault (permutationCount (levelOf N)) room)
 
 -- the same where the bits begin with bit `start`
 abbrev pub programAtFault : ℕ → List ℕ → ℕ → ℕ → ℕ
-programAtFault N wanted start room = andThen (wantedFault N wanted) (bitsAtFault (bitCount N) start room)
+programAtFault N wanted start room = andThen (wantedFault N wanted) (bitsAtFault (permutationCount (levelOf N)) start room)
 
 -- ---- S(m, n)
 
 -- 2, 4, 12, 9
 unfoldable pub selectionWantedFault : ℕ → ℕ → List ℕ → ℕ
-selectionWantedFault m n wanted = andThen (sidesFault m n) (andThen (listFault n wanted) (selectedFault m wanted))
+selectionWantedFault m n wanted = andThen (selectionSizesFault m n) (andThen (listFault n wanted) (selectedFault m wanted))
 
 -- these, then 11
 abbrev pub selectionProgramFault : ℕ → ℕ → List ℕ → ℕ → ℕ
@@ -77,6 +73,6 @@ selectionProgramAtFault m n wanted start room = andThen (selectionWantedFault m 
 
 -- what is known where all checks pass
 pub record SelectionPasses (m n : ℕ) (wanted : List ℕ) (start room : ℕ) : Type 0 where
-  pub sides : Sides m n
+  pub sides : SelectionSizes m n
   pub selected : Selected m n wanted
   pub fits : start + selectionCount m n ≤ 8 * room

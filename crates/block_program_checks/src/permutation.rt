@@ -9,27 +9,24 @@ ghost use Rattle.block_program_checks.specs.Checks.{twiceFault, sourceFa
 use crate::bits::check_bits;
 use crate::selection::check_selected;
 use block_rows::wide;
-use block_sizes::MAX_SIZE;
+use block_sizes::MAX_PLACES;
 use block_sizes::permutation_count;
 use block_sizes::size_allowed;
 use fault::Answer;
 use fault::Fault;
 
-// The places of the largest block.
-const PLACES: usize = MAX_SIZE as usize;
-
 // The checks 2, 12, 9 and 11, the last for bits from bit `start` on in a program of `room` bytes.
 pub fn check_permutation(n: u32, wanted: &[u16], start: usize, room: usize) -> Answer
     ensures { λ r. ⌜ answerNumber r ≡ programAtFault n (now (wanted .entry)) start room ⌝ }
 {
-    match check_wanted(n, wanted) {
+    match check_permutation_wanted(n, wanted) {
         Answer::Refused(f) => Answer::Refused(f),
         Answer::Done => check_bits(permutation_count(n) as u32, start, room),
     }
 }
 
 // The checks 2, 12 and 9.
-fn check_wanted(n: u32, wanted: &[u16]) -> Answer
+fn check_permutation_wanted(n: u32, wanted: &[u16]) -> Answer
     ensures { λ r. ⌜ answerNumber r ≡ wantedFault n (now (wanted .entry)) ⌝ }
 {
     if !size_allowed(n) {
@@ -57,7 +54,7 @@ fn check_once(wanted: &[u16]) -> Answer
     requires { ⌜ Selected maxSize (length (now wanted)) (now wanted) ⌝ }
     ensures { λ r. ⌜ answerNumber r ≡ twiceFault (now (wanted .entry)) ⌝ }
 {
-    let mut mark = [0u8; PLACES];
+    let mut mark = [0u8; MAX_PLACES];
     let mut i: usize = 0;
     while i < wanted.len() {
         let x = wide(wanted[i]) - 1;

@@ -4,7 +4,7 @@ ghost use Rattle.fault.specs.Number.{answerNumber};
 ghost use Rattle.block_program_checks.specs.Checks.{selectedFault, selectionWantedFault, selectionProgramAtFault};
 use crate::bits::check_bits;
 use block_rows::wide;
-use block_sizes::check_sides;
+use block_sizes::check_selection_sizes;
 use block_sizes::selection_count;
 use fault::Answer;
 use fault::Fault;
@@ -13,17 +13,17 @@ use fault::Fault;
 pub fn check_selection(m: u32, n: u32, wanted: &[u16], start: usize, room: usize) -> Answer
     ensures { λ r. ⌜ answerNumber r ≡ selectionProgramAtFault m n (now (wanted .entry)) start room ⌝ }
 {
-    match check_wanted(m, n, wanted) {
+    match check_selection_wanted(m, n, wanted) {
         Answer::Refused(f) => Answer::Refused(f),
         Answer::Done => check_bits(selection_count(m, n) as u32, start, room),
     }
 }
 
 // The checks 2, 4, 12 and 9.
-fn check_wanted(m: u32, n: u32, wanted: &[u16]) -> Answer
+fn check_selection_wanted(m: u32, n: u32, wanted: &[u16]) -> Answer
     ensures { λ r. ⌜ answerNumber r ≡ selectionWantedFault m n (now (wanted .entry)) ⌝ }
 {
-    match check_sides(m, n) {
+    match check_selection_sizes(m, n) {
         Answer::Refused(f) => Answer::Refused(f),
         Answer::Done => {
             if wanted.len() != n as usize {

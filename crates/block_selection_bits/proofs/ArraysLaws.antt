@@ -11,7 +11,7 @@ use Rattle.lists.specs.Lists.{listOf}
 use Rattle.lists.proofs.ListsLaws.{length-listOf, getD-listOf}
 use Rattle.fault.specs.Buffers.{over}
 use Rattle.block_sizes.specs.Sizes.{maxSize}
-use Rattle.block_selection_bits.specs.Arrays.{Holds, Blank}
+use Rattle.block_selection_bits.specs.Arrays.{PlacesHold, Blank}
 
 pub blank : Blank (replicate maxSize 0)
 blank = record { size = length-replicate {A = ℕ} maxSize 0; each = λ i. go i (decLt i maxSize) }
@@ -21,8 +21,8 @@ blank = record { size = length-replicate {A = ℕ} maxSize 0; each = λ i. go i 
     go i (no l) = List·getD-eq-default (replicate maxSize 0) 0 {n = i} (rw (length-replicate {A = ℕ} maxSize 0) (omega arith))
 
 -- one place changes
-pub holds-set : {f g : ℕ → ℕ} {array : List ℕ} (i v : ℕ) → Holds f array → i < maxSize → g i ≡ v → ((j : ℕ) → j ≢ i → g j ≡ f j)
-    → Holds g (set array i v)
+pub holds-set : {f g : ℕ → ℕ} {array : List ℕ} (i v : ℕ) → PlacesHold f array → i < maxSize → g i ≡ v → ((j : ℕ) → j ≢ i → g j ≡ f j)
+    → PlacesHold g (set array i v)
 holds-set {f} {g} {array} i v H l here there = record { size = simp length-set (H .size); each = λ j. go j (ℕ-discrete j i) }
   where
     go : (j : ℕ) → Dec (j ≡ i) → getD (set array i v) j 0 ≡ g j

@@ -35,8 +35,8 @@ module _ {wanted heads : List ℕ} {o : ℕ} (W : Demand maxSize wanted) (C : Ne
     pub copy-is : getD heads (mapping wanted o) 0 ≡ copyOf (mapping wanted) (length wanted) o
     copy-is = C .each (omega arith) o l ∙ sym (copy-early (mapping wanted) (length wanted) o l)
 
-    pub copy-lt : getD heads (mapping wanted o) 0 < maxSize
-    copy-lt = rw copy-is (omega (arith, copy-below (mapping wanted) (length wanted) o l, W .few))
+    pub next-copy-lt : getD heads (mapping wanted o) 0 < maxSize
+    next-copy-lt = rw copy-is (omega (arith, copy-below (mapping wanted) (length wanted) o l, W .few))
 
     pub copies-more : NextCopies wanted (o + 1) (set heads (mapping wanted o) (getD heads (mapping wanted o) 0 + 1))
     copies-more = record { size = simp length-set (C .size); each = λ m x k. go x k (ℕ-discrete (mapping wanted x) j) }

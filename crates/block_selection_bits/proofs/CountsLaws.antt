@@ -12,7 +12,7 @@ use Rattle.lists.specs.Counting.{countOf}
 use Rattle.lists.proofs.CountingLaws.{count-le}
 use Rattle.block_networks.specs.Selection.{wanting}
 use Rattle.block_sizes.specs.Sizes.{maxSize}
-use Rattle.block_selection_bits.specs.Arrays.{Holds, Blank}
+use Rattle.block_selection_bits.specs.Arrays.{PlacesHold, Blank}
 use Rattle.block_selection_bits.proofs.ArraysLaws.{holds-set}
 
 pub wanting-le : (want : ℕ → ℕ) (k j : ℕ) → wanting want k j ≤ k
@@ -28,11 +28,11 @@ pub wanting-other : (want : ℕ → ℕ) (k j : ℕ) → j ≢ want k → wantin
 unfolding wanting countOf
 wanting-other want k j d = rw (add-one k, ne-eqb (want k) j (λ e. d (sym e))) (add-zero _)
 
-pub counted-none : (want : ℕ → ℕ) {counts : List ℕ} → Blank counts → Holds (wanting want 0) counts
+pub counted-none : (want : ℕ → ℕ) {counts : List ℕ} → Blank counts → PlacesHold (wanting want 0) counts
 unfolding wanting countOf
 counted-none want B = record { size = B .size; each = B .each }
 
-pub counted-more : (want : ℕ → ℕ) {counts : List ℕ} (k : ℕ) → want k < maxSize → Holds (wanting want k) counts
-    → Holds (wanting want (k + 1)) (set counts (want k) (getD counts (want k) 0 + 1))
-counted-more want {counts} k l H =
+pub wanting-counted : (want : ℕ → ℕ) {counts : List ℕ} (k : ℕ) → want k < maxSize → PlacesHold (wanting want k) counts
+    → PlacesHold (wanting want (k + 1)) (set counts (want k) (getD counts (want k) 0 + 1))
+wanting-counted want {counts} k l H =
     holds-set (want k) _ H l (wanting-own want k ∙ ap (λ c. c + 1) (sym (H .each (want k)))) (wanting-other want k)

@@ -27,17 +27,17 @@ use Rattle.lists.proofs.CountingLaws.{passed}
 use Rattle.block_networks.specs.Completion.{completed, RisingCompletion}
 use Rattle.block_networks.proofs.CompletionLaws.{taken-here, taken-nowhere}
 use Rattle.block_networks.specs.Selection.{copies, isWanted, headOf, isHead, positionOf, chainProgram, wholeCount, selectionLevel, selectionCount, selectionBits}
-use Rattle.block_networks.proofs.SelectionLaws.{inputs-fit, outputs-fit}
+use Rattle.block_networks.proofs.SelectionLaws.{selection-inputs-fit, selection-outputs-fit}
 use Rattle.block_networks.proofs.SelectionRouting.{selected-lt, selection-by-lists}
 use Rattle.block_networks.proofs.Heads.{head-le, first-perm, position-rule}
 use Rattle.block_sizes.specs.Sizes.{maxSize, levelOf, SizeIs}
-use Rattle.block_sizes.proofs.SizesLaws.{size-is, power-allowed, side-level}
+use Rattle.block_sizes.proofs.SizesLaws.{size-is, power-allowed, selection-level-small}
 use Rattle.block_permutation_bits.specs.ProgramCalls.{programAtResult}
 use Rattle.block_program_checks.proofs.ChecksLaws.{program-at-succeeds}
 use Rattle.block_program_checks.specs.Checks.{SelectionPasses}
 use Rattle.block_permutation_bits.proofs.ProgramLaws.{program-stored}
-use Rattle.block_selection_bits.specs.Arrays.{Demand, Holds, isCounted, headBy, HeadsFit, positionBy, Positioned, NetworkRoom, Found}
-use Rattle.block_selection_bits.specs.Arrays.{networkBits, chainBit, chainBits, firstBits, firstCount, secondBits}
+use Rattle.block_selection_bits.specs.Arrays.{Demand, PlacesHold, isCounted, headBy, HeadsFit, positionBy, Positioned, NetworkRoom, PositionsFound}
+use Rattle.block_selection_bits.specs.Arrays.{networkBits, chainBitBy, chainBitsBy, firstBits, firstCount, secondNetworkBits}
 use Rattle.block_selection_bits.proofs.ArraysLaws.{over-front, over-taken}
 use Rattle.block_selection_bits.proofs.CopiesLaws.{copies-none}
 
@@ -72,7 +72,7 @@ same-completion : (N : ℕ) {has has′ : ℕ → Bool} {f f′ : ℕ → ℕ} �
     → (Perm N (takerOf N (completed N has f)) (completed N has f)) × RisingCompletion N has f (completed N has f)
 same-completion N p q h = rw (p, q) h
 
-module _ (want : ℕ → ℕ) (n : ℕ) {counts : List ℕ} (H : Holds (copies want n) counts) where
+module _ (want : ℕ → ℕ) (n : ℕ) {counts : List ℕ} (H : PlacesHold (copies want n) counts) where
   counted-wanted : isCounted counts ≡ isWanted want n
   counted-wanted = fun-ext (λ j. ap (ltb 0) (H .each j))
 
@@ -106,10 +106,10 @@ demand-most W = record {
   most = omega arith;
 }
 
-pub found : {N : ℕ} {wanted counts heads list : List ℕ} → Demand N wanted → Holds (copies (mapping wanted) (length wanted)) counts
+pub found : {N : ℕ} {wanted counts heads list : List ℕ} → Demand N wanted → PlacesHold (copies (mapping wanted) (length wanted)) counts
     → (heads₀ list₀ : List ℕ) → length heads ≡ maxSize → length list ≡ maxSize
     → heads ≡ over (listOf N (headBy counts)) heads₀ → list ≡ over (wantedOf N (takerOf N (positionBy counts N))) list₀
-    → Found N wanted counts heads list
+    → PositionsFound N wanted counts heads list
 found {N} {wanted} {counts} {heads} {list} W H heads₀ list₀ sh sl eh el =
     let want = mapping wanted in
     let n = length wanted in record {
@@ -149,7 +149,7 @@ module _ {N : ℕ} {π ρ : ℕ → ℕ} (P : Perm N π ρ) {list : List ℕ} (e
 
 -- ---- the whole program
 
-module _ {N : ℕ} {wanted counts heads list : List ℕ} (F : Found N wanted counts heads list) (fits : length wanted ≤ N) where
+module _ {N : ℕ} {wanted counts heads list : List ℕ} (F : PositionsFound N wanted counts heads list) (fits : length wanted ≤ N) where
   abbrev want : ℕ → ℕ
   want = mapping wanted
 
@@ -166,37 +166,37 @@ module _ {N : ℕ} {wanted counts heads list : List ℕ} (F : Found N wanted cou
       let input : x ≡ takerOf N (positionOf want n N) (i + 1) = omega (arith, listed-at (i + 1) p) in
       ap (ltb 0) (F .counted .each x) ∙ ap (isWanted want n) input ∙ wanted-at-head want n N fits (i + 1) p ∙ ap (isHead want n N) (add-one i)
 
-  chain-is : (level : ℕ) → N ≡ 2 ^ level → chainBits counts (take N list) ≡ chainProgram want n level
+  chain-is : (level : ℕ) → N ≡ 2 ^ level → chainBitsBy counts (take N list) ≡ chainProgram want n level
   chain-is level e =
       let l : length (take N list) ≡ N = ap length (F .listed) ∙ length-listOf N _ in
       rw (l, ← e) (listOf-ext (N - 1) _ _ (λ i k. ap oneIf (chain-bit-is i (omega arith))))
 
   -- the first network, the chain, the second network
   parts : (m k : ℕ) → n ≡ k → N ≡ 2 ^ selectionLevel m k
-      → firstBits counts (take N list) ++ secondBits N wanted ≡ selectionBits m k wanted
+      → firstBits counts (take N list) ++ secondNetworkBits N wanted ≡ selectionBits m k wanted
   parts m k size e =
       let level : ℕ = selectionLevel m k in
       let same : levelOf N ≡ level = ap ceilLog e ∙ ceilLog-power level in
-      append-assoc (networkBits (take N list)) (chainBits counts (take N list)) _
+      append-assoc (networkBits (take N list)) (chainBitsBy counts (take N list)) _
       ∙ rw (network-bits (first-perm want n N fits) (F .listed), chain-is level e, same, e, size) (sym (selection-by-lists m k wanted))
 
   -- stored one behind the other
   pub program-whole : (m k : ℕ) → n ≡ k → N ≡ 2 ^ selectionLevel m k → (program : List ℕ) (start : ℕ) {first last : List ℕ} {second : ℕ}
       → let L : List ℕ = take N list in
-      second ≡ start + firstCount (length L) → first ≡ storeBits program start (firstBits counts L) → last ≡ storeBits first second (secondBits N wanted)
+      second ≡ start + firstCount (length L) → first ≡ storeBits program start (firstBits counts L) → last ≡ storeBits first second (secondNetworkBits N wanted)
       → last ≡ storeBits program start (selectionBits m k wanted)
   program-whole m k size e program start at one two =
       let L : List ℕ = take N list in
-      let sizes = ap₂ _+_ (length-wantedBits (levelOf (length L)) L) (length-listOf (length L - 1) (chainBit counts L)) in
-      rw (two, at, one) (stored-behind program start (firstBits counts L) (secondBits N wanted) (firstCount (length L))
-      (length-append (networkBits L) (chainBits counts L) ∙ sizes)
+      let sizes = ap₂ _+_ (length-wantedBits (levelOf (length L)) L) (length-listOf (length L - 1) (chainBitBy counts L)) in
+      rw (two, at, one) (stored-behind program start (firstBits counts L) (secondNetworkBits N wanted) (firstCount (length L))
+      (length-append (networkBits L) (chainBitsBy counts L) ∙ sizes)
       ∙ ap (storeBits program start) (parts m k size e))
 
 -- ---- where the checks pass
 
 module _ {m n : ℕ} {wanted : List ℕ} {start room : ℕ} (P : SelectionPasses m n wanted start room) {N : ℕ} (e : N ≡ 2 ^ selectionLevel m n) where
   pub size-allowed : SizeIs N
-  size-allowed = rw e (size-is _ (power-allowed (selectionLevel m n) (side-level (P .sides))))
+  size-allowed = rw e (size-is _ (power-allowed (selectionLevel m n) (selection-level-small (P .sides))))
 
   pub demand : Demand N wanted
   demand =
@@ -206,9 +206,9 @@ module _ {m n : ℕ} {wanted : List ℕ} {start room : ℕ} (P : SelectionPasses
         inputs = record {
           size = refl;
           low = λ o l. W .low o (rw (← size) l);
-          high = λ o l. omega (arith, W .high o (rw (← size) l), inputs-fit m n);
+          high = λ o l. omega (arith, W .high o (rw (← size) l), selection-inputs-fit m n);
         };
-        few = omega (arith, outputs-fit m n);
+        few = omega (arith, selection-outputs-fit m n);
         most = size-allowed .most;
       }
 

@@ -20,7 +20,7 @@ use Rattle.block_networks.specs.Wanted.{takerOf}
 use Rattle.lists.proofs.CountingLaws.{passed, both-ways}
 use Rattle.block_networks.specs.Completion.{FilledBy}
 use Rattle.block_sizes.specs.Sizes.{maxSize}
-use Rattle.block_selection_bits.specs.Arrays.{Holds, Blank, isCounted, headBy, HeadsFit, headInput, positionBy, Positioned, IdleFrom, NextIdle, Placed}
+use Rattle.block_selection_bits.specs.Arrays.{PlacesHold, Blank, isCounted, headBy, HeadsFit, headInput, positionBy, Positioned, IdleFrom, NextIdle, PlacedNext}
 use Rattle.block_selection_bits.proofs.ArraysLaws.{holds-set, over-past}
 
 -- ---- heads
@@ -32,20 +32,20 @@ head-more counts j = rw (add-one j)
 pub head-lt : {counts : List ℕ} → HeadsFit counts → (j : ℕ) → 0 < getD counts j 0 → headBy counts j < maxSize
 head-lt {counts} F j l = omega (arith, head-more counts j, F .each (j + 1))
 
-pub heads-none : (counts : List ℕ) {list : List ℕ} → Blank list → Holds (headInput counts 0) list
+pub heads-none : (counts : List ℕ) {list : List ℕ} → Blank list → PlacesHold (headInput counts 0) list
 unfolding headInput
 heads-none counts B = record { size = B .size; each = B .each }
 
 -- one input more
-pub heads-more : {counts list : List ℕ} → HeadsFit counts → (k : ℕ) → Holds (headInput counts k) list
-    → Holds (headInput counts (k + 1)) (cond (isCounted counts k) (set list (headBy counts k) (k + 1)) list)
+pub heads-more : {counts list : List ℕ} → HeadsFit counts → (k : ℕ) → PlacesHold (headInput counts k) list
+    → PlacesHold (headInput counts (k + 1)) (cond (isCounted counts k) (set list (headBy counts k) (k + 1)) list)
 unfolding headInput
 heads-more {counts} {list} F k H = rw (add-one k) (go (passed (isCounted counts k)))
   where
     f : ℕ → ℕ
     f p = cond (isCounted counts k && eqb (headBy counts k) p) (suc k) (headInput counts k p)
 
-    go : (isCounted counts k ≡ true) ⊎ (isCounted counts k ≡ false) → Holds f (cond (isCounted counts k) (set list (headBy counts k) (suc k)) list)
+    go : (isCounted counts k ≡ true) ⊎ (isCounted counts k ≡ false) → PlacesHold f (cond (isCounted counts k) (set list (headBy counts k) (suc k)) list)
     go (inl e) =
         rw e (holds-set (headBy counts k) (suc k) H (head-lt F k (ltb-true 0 (getD counts k 0) e))
         (rw (e, eq-eqb (headBy counts k) (headBy counts k) refl))
@@ -64,10 +64,10 @@ pub record NoHeadHere (counts : List ℕ) (k p entry : ℕ) : Type 0 where
   pub is : entry ≡ 0
   pub other : (x : ℕ) → x < k → isCounted counts x ≡ true → headBy counts x ≢ p
 
-pub head-here : (counts : List ℕ) (k p : ℕ) → (HeadHere counts k p (headInput counts k p)) ⊎ (NoHeadHere counts k p (headInput counts k p))
+pub head-found : (counts : List ℕ) (k p : ℕ) → (HeadHere counts k p (headInput counts k p)) ⊎ (NoHeadHere counts k p (headInput counts k p))
 unfolding headInput
-head-here counts zero p = inr (record { is = refl; other = λ x l. absurd (not-suc-le-zero l) })
-head-here counts (suc k) p = go (passed (isCounted counts k)) (ℕ-discrete (headBy counts k) p) (head-here counts k p)
+head-found counts zero p = inr (record { is = refl; other = λ x l. absurd (not-suc-le-zero l) })
+head-found counts (suc k) p = go (passed (isCounted counts k)) (ℕ-discrete (headBy counts k) p) (head-found counts k p)
   where
     e : ℕ
     e = headInput counts k p
@@ -191,21 +191,21 @@ module _ {N : ℕ} {counts : List ℕ} (P : Positioned N counts) (p : ℕ) (l : 
 abbrev pub takers : List ℕ → ℕ → ℕ → ℕ
 takers counts N q = suc (takerOf N (positionBy counts N) q)
 
-module _ {N : ℕ} {counts : List ℕ} (P : Positioned N counts) {old list : List ℕ} (H : Holds (headInput counts N) old)
+module _ {N : ℕ} {counts : List ℕ} (P : Positioned N counts) {old list : List ℕ} (H : PlacesHold (headInput counts N) old)
     (p : ℕ) (l : p < N) (held : list ≡ over (listOf p (takers counts N)) old) {from : ℕ} (C : Cursor counts N p from) where
   -- nothing is changed there yet
   entry : getD list p 0 ≡ headInput counts N p
   entry = ap (λ a. getD a p 0) held ∙ over-past p (takers counts N) old p (le-refl p) ∙ H .each p
 
   pub step-asks : N ≤ length counts → getD list p 0 ≡ 0 → IdleFrom counts from
-  step-asks few z = elim (head-here counts N p) [
+  step-asks few z = elim (head-found counts N p) [
     | inl t ↦ absurd (omega (arith, t .is, entry))
     | inr t ↦ idle-from P p l t few C
   ]
 
-  pub step-places : N ≤ maxSize → {new : List ℕ} {next : ℕ} → Placed counts p from list new next
+  pub step-places : N ≤ maxSize → {new : List ℕ} {next : ℕ} → PlacedNext counts p from list new next
       → (Cursor counts N (p + 1) next) × (new ≡ over (listOf (p + 1) (takers counts N)) old)
-  step-places few {new} {next} S = go (head-here counts N p)
+  step-places few {new} {next} S = go (head-found counts N p)
     where
       more : set (over (listOf p (takers counts N)) old) p (takers counts N p) ≡ over (listOf (p + 1) (takers counts N)) old
       more = listOf-over p (takers counts N) old (rw (H .size) (omega arith))

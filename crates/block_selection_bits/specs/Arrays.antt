@@ -22,13 +22,13 @@ pub record Demand (N : ℕ) (wanted : List ℕ) : Type 0 where
   pub most : N ≤ maxSize
 
 -- an array with a place for each of the largest block's positions; place i holds f i, which is 0 past the end
-pub record Holds (f : ℕ → ℕ) (array : List ℕ) : Type 0 where
+pub record PlacesHold (f : ℕ → ℕ) (array : List ℕ) : Type 0 where
   pub size : length array ≡ maxSize
   pub each : (i : ℕ) → getD array i 0 ≡ f i
 
 -- none of its places is used yet
 abbrev pub Blank : List ℕ → Type 0
-Blank array = Holds (λ i. 0) array
+Blank array = PlacesHold (λ i. 0) array
 
 -- ---- positions, by counts: `counts` tells for each input how many outputs want it
 
@@ -75,7 +75,7 @@ pub record NextIdle (counts : List ℕ) (from x : ℕ) : Type 0 where
 
 -- place p after one step: a head keeps its input, and another place gets the next idle input from `from` on; `next` is where the idle
 -- inputs go on
-pub record Placed (counts : List ℕ) (p from : ℕ) (old new : List ℕ) (next : ℕ) : Type 0 where
+pub record PlacedNext (counts : List ℕ) (p from : ℕ) (old new : List ℕ) (next : ℕ) : Type 0 where
   pub head : getD old p 0 ≢ 0 → (new ≡ old) × (next ≡ from)
   pub free : getD old p 0 ≡ 0 → (new ≡ set old p next) × (1 ≤ next) × NextIdle counts from (next - 1)
 
@@ -92,22 +92,22 @@ abbrev pub networkBits : List ℕ → List ℕ
 networkBits list = wantedBits (levelOf (length list)) list
 
 -- the bit of the Y at position i + 1: the input there is a wanted one
-abbrev pub chainBit : List ℕ → List ℕ → ℕ → ℕ
-chainBit counts list i = oneIf (isCounted counts (getD list (i + 1) 0 - 1))
+abbrev pub chainBitBy : List ℕ → List ℕ → ℕ → ℕ
+chainBitBy counts list i = oneIf (isCounted counts (getD list (i + 1) 0 - 1))
 
-abbrev pub chainBits : List ℕ → List ℕ → List ℕ
-chainBits counts list = listOf (length list - 1) (chainBit counts list)
+abbrev pub chainBitsBy : List ℕ → List ℕ → List ℕ
+chainBitsBy counts list = listOf (length list - 1) (chainBitBy counts list)
 
 -- the bits of the first network and the chain, for the list of the inputs of the positions
 abbrev pub firstBits : List ℕ → List ℕ → List ℕ
-firstBits counts list = networkBits list ++ chainBits counts list
+firstBits counts list = networkBits list ++ chainBitsBy counts list
 
 abbrev pub firstCount : ℕ → ℕ
 firstCount N = permutationCount (levelOf N) + (N - 1)
 
 -- the bits of the second network of N positions
-abbrev pub secondBits : ℕ → List ℕ → List ℕ
-secondBits N wanted = wantedBits (levelOf N) (wantedOf N (copyOf (mapping wanted) (length wanted)))
+abbrev pub secondNetworkBits : ℕ → List ℕ → List ℕ
+secondNetworkBits N wanted = wantedBits (levelOf N) (wantedOf N (copyOf (mapping wanted) (length wanted)))
 
 -- ---- copies
 
@@ -119,8 +119,8 @@ pub record NextCopies (wanted : List ℕ) (o : ℕ) (heads : List ℕ) : Type 0 
 
 -- ---- all that is found before a bit is stored
 
-pub record Found (N : ℕ) (wanted counts heads list : List ℕ) : Type 0 where
-  pub counted : Holds (copies (mapping wanted) (length wanted)) counts
+pub record PositionsFound (N : ℕ) (wanted counts heads list : List ℕ) : Type 0 where
+  pub counted : PlacesHold (copies (mapping wanted) (length wanted)) counts
   pub headed : NextCopies wanted 0 heads
   pub listSize : length list ≡ maxSize
   pub listed : take N list ≡ wantedOf N (takerOf N (positionOf (mapping wanted) (length wanted) N))

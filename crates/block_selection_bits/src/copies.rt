@@ -8,7 +8,7 @@ ghost use Rattle.block_networks.specs.Wanted.{mapping, wantedOf};
 ghost use Rattle.block_networks.specs.Selection.{copyOf};
 ghost use Rattle.block_sizes.specs.Sizes.{maxSize};
 ghost use Rattle.block_selection_bits.specs.Arrays.{Demand, NextCopies};
-use crate::counting::input_of;
+use crate::counting::input_wanted_by;
 
 // The positions of `size` outputs, counted from 1. `heads` has the heads of the wanted inputs, and is used up.
 pub(crate) fn list_copies(size: usize, wanted: &[u16], heads: &mut [u16], list: &mut [u16])
@@ -32,7 +32,7 @@ fn next_copy(wanted: &[u16], heads: &mut [u16], o: usize) -> u16
     if wanted.len() <= o {
         return o as u16;
     }
-    let j = input_of(wanted, o);
+    let j = input_wanted_by(wanted, o);
     let p = heads[j];
     heads[j] = p + 1;
     p

@@ -5,25 +5,25 @@ ghost use lib.ListN.{length};
 ghost use Rattle.block_networks.specs.Wanted.{mapping};
 ghost use Rattle.block_networks.specs.Selection.{copies};
 ghost use Rattle.block_sizes.specs.Sizes.{maxSize};
-ghost use Rattle.block_selection_bits.specs.Arrays.{Demand, Holds, Blank};
+ghost use Rattle.block_selection_bits.specs.Arrays.{Demand, PlacesHold, Blank};
 use block_rows::wide;
 
 // How many outputs want each input, in `counts`.
 pub(crate) fn count_wanted(wanted: &[u16], counts: &mut [u16])
     requires { ⌜ Demand maxSize (now wanted) ⌝ }
     requires { ⌜ Blank (now counts) ⌝ }
-    ensures { λ _. ⌜ Holds (copies (mapping (now (wanted .entry))) (length (now (wanted .entry)))) (now (counts .exit)) ⌝ }
+    ensures { λ _. ⌜ PlacesHold (copies (mapping (now (wanted .entry))) (length (now (wanted .entry)))) (now (counts .exit)) ⌝ }
 {
     let mut i: usize = 0;
     while i < wanted.len() {
-        let j = input_of(wanted, i);
+        let j = input_wanted_by(wanted, i);
         counts[j] += 1;
         i += 1;
     }
 }
 
 // The input that output o wants, counted from 0.
-pub(crate) fn input_of(wanted: &[u16], o: usize) -> usize
+pub(crate) fn input_wanted_by(wanted: &[u16], o: usize) -> usize
     requires { ⌜ Demand maxSize (now wanted) × (o < length (now wanted)) ⌝ }
     ensures { λ r. ⌜ (r ≡ mapping (now (wanted .entry)) o) × (r < maxSize) ⌝ }
 {

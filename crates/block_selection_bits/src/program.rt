@@ -10,8 +10,8 @@ ghost use Rattle.lists.specs.Counting.{oneIf};
 ghost use Rattle.block_networks.specs.Selection.{selectionBits};
 ghost use Rattle.block_sizes.specs.Sizes.{maxSize, levelOf, SizeIs};
 ghost use Rattle.block_program_checks.specs.Checks.{SelectionPasses};
-ghost use Rattle.block_selection_bits.specs.Arrays.{Demand, Blank, isCounted, Found, NetworkRoom, NextCopies};
-ghost use Rattle.block_selection_bits.specs.Arrays.{networkBits, chainBits, firstBits, firstCount, secondBits};
+ghost use Rattle.block_selection_bits.specs.Arrays.{Demand, Blank, isCounted, PositionsFound, NetworkRoom, NextCopies};
+ghost use Rattle.block_selection_bits.specs.Arrays.{networkBits, chainBitsBy, firstBits, firstCount, secondNetworkBits};
 use crate::copies::list_copies;
 use crate::counting::count_wanted;
 use crate::positions::place_heads;
@@ -19,22 +19,19 @@ use crate::positions::place_idle;
 use block_bits::store_bit;
 use block_permutation_bits::program_permutation_at;
 use block_rows::wide;
-use block_sizes::MAX_SIZE;
+use block_sizes::MAX_PLACES;
 use block_sizes::permutation_count;
-use block_sizes::selection_size;
-
-// The places of the largest block.
-const PLACES: usize = MAX_SIZE as usize;
+use block_sizes::selection_positions;
 
 // The bits of S(m, n) for the wanted inputs, stored from bit `start` on, which lies in the program's first byte.
 pub(crate) fn store_program(m: u32, n: u32, wanted: &[u16], program: &mut [u8], start: usize)
     requires { ⌜ SelectionPasses m n (now wanted) start (length (now program)) × (start < 8) ⌝ }
     ensures { λ _. ⌜ now (program .exit) ≡ storeBits (now (program .entry)) start (selectionBits m n (now (wanted .entry))) ⌝ }
 {
-    let mut counts = [0u16; PLACES];
-    let mut heads = [0u16; PLACES];
-    let mut list = [0u16; PLACES];
-    let size = selection_size(m, n);
+    let mut counts = [0u16; MAX_PLACES];
+    let mut heads = [0u16; MAX_PLACES];
+    let mut list = [0u16; MAX_PLACES];
+    let size = selection_positions(m, n);
     find_positions(size, wanted, &mut counts, &mut heads, &mut list);
     let second = store_first(&counts, &list[..size], program, start);
     store_second(size, wanted, &mut heads, &mut list, program, second);
@@ -50,7 +47,7 @@ fn find_positions(
 )
     requires { ⌜ Demand size (now wanted) ⌝ }
     requires { ⌜ Blank (now counts) × (length (now heads) ≡ maxSize) × Blank (now list) ⌝ }
-    ensures { λ _. ⌜ Found size (now (wanted .entry)) (now (counts .exit)) (now (heads .exit)) (now (list .exit)) ⌝ }
+    ensures { λ _. ⌜ PositionsFound size (now (wanted .entry)) (now (counts .exit)) (now (heads .exit)) (now (list .exit)) ⌝ }
 {
     count_wanted(wanted, counts);
     place_heads(size, counts, heads, list);
@@ -74,7 +71,7 @@ fn store_first(counts: &[u16], list: &[u16], program: &mut [u8], start: usize) -
 fn store_chain(counts: &[u16], list: &[u16], program: &mut [u8], start: usize)
     requires { ⌜ SizeIs (length (now list)) × Wanted (length (now list)) (now list) ⌝ }
     requires { ⌜ (length (now counts) ≡ maxSize) × (start ≤ 65536) ⌝ }
-    ensures { λ _. ⌜ now (program .exit) ≡ storeBits (now (program .entry)) start (chainBits (now (counts .entry)) (now (list .entry))) ⌝ }
+    ensures { λ _. ⌜ now (program .exit) ≡ storeBits (now (program .entry)) start (chainBitsBy (now (counts .entry)) (now (list .entry))) ⌝ }
 {
     let rows = list.len() - 1;
     let mut i: usize = 0;
@@ -106,7 +103,7 @@ fn store_second(
     requires { ⌜ SizeIs size × Demand size (now wanted) ⌝ }
     requires { ⌜ NextCopies (now wanted) 0 (now heads) × (length (now list) ≡ maxSize) ⌝ }
     requires { ⌜ start + permutationCount (levelOf size) ≤ 8 * length (now program) ⌝ }
-    ensures { λ _. ⌜ now (program .exit) ≡ storeBits (now (program .entry)) start (secondBits size (now (wanted .entry))) ⌝ }
+    ensures { λ _. ⌜ now (program .exit) ≡ storeBits (now (program .entry)) start (secondNetworkBits size (now (wanted .entry))) ⌝ }
 {
     list_copies(size, wanted, heads, list);
     store_network(&list[..size], program, start);

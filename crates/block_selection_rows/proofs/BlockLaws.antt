@@ -24,8 +24,8 @@ use Rattle.elements.specs.Elements.{maxWires}
 use Rattle.block_rows.proofs.WiresLaws.{wire-after}
 use Rattle.block_write_checks.specs.WriteChecks.{WritePasses}
 use Rattle.block_permutation_rows.proofs.WriteLaws.{length-entries, length-outs}
-use Rattle.block_selection_rows.specs.declared.block.Parts.{Parts}
-use Rattle.block_selection_rows.specs.Block.{PartsAt, BlockWires, BlockRoom, ChainRoom}
+use Rattle.block_selection_rows.specs.declared.block.SelectionParts.{SelectionParts}
+use Rattle.block_selection_rows.specs.Block.{SelectionPartsAt, BlockWires, BlockRoom, ChainRoom}
 use Rattle.block_selection_rows.proofs.ChainLaws.{rows-same, outs-same, length-chain}
 
 -- ---- wires
@@ -49,13 +49,13 @@ pub filled-over : (n : ℕ) (new old l : List ℕ) → l ≡ filled n new old �
 filled-over n new old l e z = rw z at e
 
 -- where the parts begin lies in the table's part, at bytes that fit: an entry has two
-pub record PlacesIn (p : Parts) (rows : ℕ) : Type 0 where
+pub record PlacesIn (p : SelectionParts) (rows : ℕ) : Type 0 where
   pub chain : p .chain ≤ rows
   pub second : p .second ≤ rows
   pub chainFits : Fits w64 (p .chain * 2)
   pub secondFits : Fits w64 (p .second * 2)
 
-pub places-in : {N next rows to places : ℕ} {from : List ℕ} {p : Parts} → BlockRoom N from next rows to → PartsAt (levelOf N) next p → places ≡ rows
+pub places-in : {N next rows to places : ℕ} {from : List ℕ} {p : SelectionParts} → BlockRoom N from next rows to → SelectionPartsAt (levelOf N) next p → places ≡ rows
     → PlacesIn p places
 places-in {N} room at same =
     let l = room .rowRoom in
@@ -69,7 +69,7 @@ places-in {N} room at same =
 
 -- ---- the steps. R, A and T are the table's part, `from` and `to` after each, F the parts of the table that a callee was lent
 
-module _ (N next : ℕ) (p : Parts) (R₀ A₀ T₀ : List ℕ) (room : BlockRoom N A₀ next (length R₀) (length T₀)) (at : PartsAt (levelOf N) next p) where
+module _ (N next : ℕ) (p : SelectionParts) (R₀ A₀ T₀ : List ℕ) (room : BlockRoom N A₀ next (length R₀) (length T₀)) (at : SelectionPartsAt (levelOf N) next p) where
   abbrev level : ℕ
   level = levelOf N
 
@@ -85,9 +85,9 @@ module _ (N next : ℕ) (p : Parts) (R₀ A₀ T₀ : List ℕ) (room : BlockRoo
   taken : take N A₀ ≡ padded (2 ^ level) A₀
   taken = taken-padded N A₀ (room .fromRoom) ∙ ap (λ n. padded n A₀) (sym power)
 
-  pub first-passes : WritePasses N (take N A₀) next (length R₀) (length T₀)
+  pub first-network-passes : WritePasses N (take N A₀) next (length R₀) (length T₀)
   unfolding wholeCount wholeWires
-  first-passes = record {
+  first-network-passes = record {
     size = room .made .size;
     inputs = length-take-le N A₀ (room .fromRoom);
     made = rw taken (fed .first-fed);

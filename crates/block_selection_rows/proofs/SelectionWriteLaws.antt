@@ -13,10 +13,10 @@ use Rattle.powers.proofs.PowersLaws.{ceilLog-power}
 use Rattle.block_elements.specs.Rows.{stride, flat, decode}
 use Rattle.block_elements.proofs.RowsLaws.{length-flat, decode-flat}
 use Rattle.block_networks.specs.Selection.{selectionLevel, padded, wholeRows, wholeOuts, selectionRows, selectionOuts, selectionCount, selectionWires}
-use Rattle.block_networks.proofs.SelectionLaws.{outputs-fit, length-padded, getD-padded, below-padded, length-wholeOuts}
+use Rattle.block_networks.proofs.SelectionLaws.{selection-outputs-fit, length-padded, getD-padded, below-padded, length-wholeOuts}
 use Rattle.block_networks.proofs.SelectionLaws.{length-selectionRows, selection-totals, length-selectionOuts}
 use Rattle.block_sizes.specs.Sizes.{maxSize, levelOf}
-use Rattle.block_sizes.proofs.SizesLaws.{size-is, power-allowed, power-small, side-level}
+use Rattle.block_sizes.proofs.SizesLaws.{size-is, power-allowed, power-small, selection-level-small}
 use Rattle.block_write_checks.specs.WriteChecks.{SelectionWritePasses, selectionWriteFault}
 use Rattle.block_write_checks.proofs.WriteChecksLaws.{some-wire}
 use Rattle.block_selection_rows.specs.WriteCalls.{selectionWrittenRows, selectionWrittenOutputs}
@@ -91,7 +91,7 @@ module _ (m n : ℕ) (ins : List ℕ) (next rows outputs N : ℕ) (A : List ℕ)
   level-is = ap levelOf size ∙ ceilLog-power level
 
   few : N ≤ maxSize
-  few = rw size (power-small level (side-level (passes .sides)))
+  few = rw size (power-small level (selection-level-small (passes .sides)))
 
   wires-are : A ≡ padded maxSize ins
   wires-are =
@@ -101,7 +101,7 @@ module _ (m n : ℕ) (ins : List ℕ) (next rows outputs N : ℕ) (A : List ℕ)
   unfolding selectionWires selectionCount
   block-room = record {
     made = record {
-      size = rw size (size-is (2 ^ level) (power-allowed level (side-level (passes .sides))));
+      size = rw size (size-is (2 ^ level) (power-allowed level (selection-level-small (passes .sides))));
       wires = rw level-is (passes .wires);
     };
     some = some-wire passes;
@@ -114,21 +114,21 @@ module _ (m n : ℕ) (ins : List ℕ) (next rows outputs N : ℕ) (A : List ℕ)
   inputs-are : padded (2 ^ level) A ≡ padded (2 ^ level) ins
   inputs-are = ap (padded (2 ^ level)) wires-are ∙ padded-again (2 ^ level) maxSize ins (omega (arith, few))
 
-  pub rows-put : (R₀ R : List ℕ) → R ≡ over (flat (wholeRows (levelOf N) A next)) R₀ → R ≡ over (flat (selectionRows m n ins next)) R₀
+  pub selection-rows-put : (R₀ R : List ℕ) → R ≡ over (flat (wholeRows (levelOf N) A next)) R₀ → R ≡ over (flat (selectionRows m n ins next)) R₀
   unfolding wholeRows selectionRows
-  rows-put R₀ R e = rw (level-is, inputs-are) at e
+  selection-rows-put R₀ R e = rw (level-is, inputs-are) at e
 
   outs-are : wholeOuts (levelOf N) A next ≡ wholeOuts level ins next
   unfolding wholeOuts
   outs-are = rw (level-is, inputs-are)
 
   -- the first n of the block's output wires are copied to the lent list
-  pub outputs-put : (L T O₀ O : List ℕ) → length O₀ ≡ outputs → T ≡ over (wholeOuts (levelOf N) A next) L → O ≡ over (take (length O₀) (take n T)) O₀
+  pub selection-outputs-put : (L T O₀ O : List ℕ) → length O₀ ≡ outputs → T ≡ over (wholeOuts (levelOf N) A next) L → O ≡ over (take (length O₀) (take n T)) O₀
       → O ≡ over (selectionOuts m n ins next) O₀
   unfolding selectionOuts
-  outputs-put L T O₀ O long e put =
+  selection-outputs-put L T O₀ O long e put =
       let outs = wholeOuts (levelOf N) A next in
-      let enough : n ≤ length outs = omega (arith, ap length outs-are, length-wholeOuts level ins next, outputs-fit m n) in
+      let enough : n ≤ length outs = omega (arith, ap length outs-are, length-wholeOuts level ins next, selection-outputs-fit m n) in
       let front : take n T ≡ selectionOuts m n ins next =
       ap (take n) e ∙ take-append-le n outs (drop (length outs) L) enough ∙ ap (take n) outs-are in
       put

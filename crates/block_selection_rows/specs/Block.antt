@@ -9,12 +9,12 @@ use Rattle.block_networks.specs.Permutation.{permutationCount}
 use Rattle.block_networks.specs.Selection.{chainNext, secondNext, wholeCount, wholeWires}
 use Rattle.block_sizes.specs.Sizes.{levelOf, SizeIs}
 use Rattle.elements.specs.Elements.{maxWires}
-use Rattle.block_selection_rows.specs.declared.block.Parts.{Parts}
+use Rattle.block_selection_rows.specs.declared.block.SelectionParts.{SelectionParts}
 
 -- ---- the block of N positions
 
 -- where its chain and its second P begin
-pub record PartsAt (level next : ℕ) (p : Parts) : Type 0 where
+pub record SelectionPartsAt (level next : ℕ) (p : SelectionParts) : Type 0 where
   pub chainAt : p .chain ≡ stride * permutationCount level
   pub secondAt : p .second ≡ stride * (permutationCount level + (2 ^ level - 1))
   pub chainFrom : p .«chain_next» .0 ≡ chainNext level next

@@ -9,7 +9,7 @@ ghost use Rattle.block_networks.specs.Permutation.{permutationRows, permutation
 ghost use Rattle.block_networks.specs.Selection.{chainRows, chainOuts, wholeRows, wholeOuts};
 ghost use Rattle.block_sizes.specs.Sizes.{levelOf};
 ghost use Rattle.block_write_checks.specs.WriteChecks.{WritePasses};
-ghost use Rattle.block_selection_rows.specs.Block.{PartsAt, BlockWires, BlockRoom, ChainRoom, LinkRoom};
+ghost use Rattle.block_selection_rows.specs.Block.{SelectionPartsAt, BlockWires, BlockRoom, ChainRoom, LinkRoom};
 use block_permutation_rows::write_permutation;
 use block_rows::put_pairs;
 use block_rows::put_wires;
@@ -19,7 +19,7 @@ use elements::FabricWire;
 use elements::Kind;
 
 // Where the chain and the second P begin: the entries of their rows in the block's stretch, and the first wire that they make.
-struct Parts {
+struct SelectionParts {
     chain: usize,
     second: usize,
     chain_next: FabricWire,
@@ -38,7 +38,7 @@ pub(crate) fn write_block(
     ensures { λ _. ⌜ now (rows .exit) ≡ over (flat (wholeRows (levelOf size) (now (from .entry)) (next .0))) (now (rows .entry)) ⌝ }
     ensures { λ _. ⌜ now (to .exit) ≡ over (wholeOuts (levelOf size) (now (from .entry)) (next .0)) (now (to .entry)) ⌝ }
 {
-    let parts = parts_of(size, next);
+    let parts = selection_parts(size, next);
     let chain = parts.chain;
     let second = parts.second;
     write_network(size, next, rows, from, to);
@@ -47,13 +47,13 @@ pub(crate) fn write_block(
 }
 
 // A row of P makes two wires, a row of the chain one.
-fn parts_of(size: u32, next: FabricWire) -> Parts
+fn selection_parts(size: u32, next: FabricWire) -> SelectionParts
     requires { ⌜ BlockWires size (next .0) ⌝ }
-    ensures { λ r. ⌜ PartsAt (levelOf size) (next .0) r ⌝ }
+    ensures { λ r. ⌜ SelectionPartsAt (levelOf size) (next .0) r ⌝ }
 {
     let count = permutation_count(size) as u32;
     let links = size - 1;
-    Parts {
+    SelectionParts {
         chain: row_place(count),
         second: row_place(count + links),
         chain_next: next.plus(2 * count),

@@ -9,14 +9,11 @@ ghost use Rattle.block_write_checks.specs.WriteChecks.{selectionWriteFault, Sel
 ghost use Rattle.block_selection_rows.specs.WriteCalls.{selectionWrittenRows, selectionWrittenOutputs};
 use crate::block::write_block;
 use block_rows::copy_wires;
-use block_sizes::MAX_SIZE;
-use block_sizes::selection_size;
+use block_sizes::MAX_PLACES;
+use block_sizes::selection_positions;
 use block_write_checks::check_selection_write;
 use elements::FabricWire;
 use fault::Answer;
-
-// The places of the largest block.
-const PLACES: usize = MAX_SIZE as usize;
 
 // S(m, n) on the input wires, where `next` is the next unmade wire.
 pub fn write_selection(
@@ -34,14 +31,14 @@ pub fn write_selection(
     match check_selection_write(m, n, inputs, next, rows.len(), outputs.len()) {
         Answer::Refused(f) => Answer::Refused(f),
         Answer::Done => {
-            put_selection(m, n, inputs, next, rows, outputs);
+            write_checked_selection(m, n, inputs, next, rows, outputs);
             Answer::Done
         }
     }
 }
 
 // S(m, n) where all checks pass. The call's own lists of wires take 2,048 bytes; inputs past m stay wire 0.
-fn put_selection(
+fn write_checked_selection(
     m: u32,
     n: u32,
     inputs: &[u16],
@@ -53,9 +50,9 @@ fn put_selection(
     ensures { λ _. ⌜ now (rows .exit) ≡ over (flat (selectionRows m n (now (inputs .entry)) (next .0))) (now (rows .entry)) ⌝ }
     ensures { λ _. ⌜ now (outputs .exit) ≡ over (selectionOuts m n (now (inputs .entry)) (next .0)) (now (outputs .entry)) ⌝ }
 {
-    let mut from = [0u16; PLACES];
-    let mut to = [0u16; PLACES];
-    let size = selection_size(m, n) as u32;
+    let mut from = [0u16; MAX_PLACES];
+    let mut to = [0u16; MAX_PLACES];
+    let size = selection_positions(m, n) as u32;
     let end = n as usize;
     copy_wires(inputs, &mut from);
     write_block(size, next, rows, &mut from, &mut to);

@@ -15,7 +15,7 @@ use Rattle.block_networks.specs.Permutation.{permutationCount}
 use Rattle.block_networks.proofs.PermutationLaws.{permutation-count}
 use Rattle.block_networks.specs.Selection.{selectionLevel, wholeCount, wholeWires, selectionCount, selectionWires}
 use Rattle.block_networks.proofs.SelectionLaws.{level-least}
-use Rattle.block_sizes.specs.Sizes.{maxSize, maxLevel, sizeAllowed, levelOf, sideAllowed, sidesFault, SizeIs, CountIs, Sides}
+use Rattle.block_sizes.specs.Sizes.{maxSize, maxLevel, sizeAllowed, levelOf, selectionSizeAllowed, selectionSizesFault, SizeIs, CountIs, SelectionSizes}
 
 pub size-is : (N : ℕ) → sizeAllowed N ≡ true → SizeIs N
 unfolding sizeAllowed ceilPower
@@ -37,9 +37,9 @@ power-small n h = pow-mono h
 
 -- ---- the sizes of S
 
-pub sides-allowed : (m n : ℕ) → (sidesFault m n ≡ 0) ↔ Sides m n
-unfolding sidesFault sideAllowed
-sides-allowed m n = (
+pub selection-sizes-allowed : (m n : ℕ) → (selectionSizesFault m n ≡ 0) ↔ SelectionSizes m n
+unfolding selectionSizesFault selectionSizeAllowed
+selection-sizes-allowed m n = (
   λ e.
       let h = simp (and-then-zero, unless-zero, and-eq-true-iff) at e in
       record {
@@ -51,8 +51,8 @@ sides-allowed m n = (
   λ s. rw (le-leb 1 m (s .someInputs), le-leb m maxSize (s .inputs), le-leb 1 n (s .someOutputs), le-leb n maxSize (s .outputs)),
 )
 
-pub side-level : {m n : ℕ} → Sides m n → selectionLevel m n ≤ maxLevel
-side-level {m} {n} s = level-least m n maxLevel (s .inputs) (s .outputs)
+pub selection-level-small : {m n : ℕ} → SelectionSizes m n → selectionLevel m n ≤ maxLevel
+selection-level-small {m} {n} s = level-least m n maxLevel (s .inputs) (s .outputs)
 
 -- ---- counts
 
@@ -77,17 +77,17 @@ count-most level top h =
 pub few-rows : (level : ℕ) → level ≤ maxLevel → permutationCount level ≤ maxLevel * maxSize
 few-rows level h = count-most level maxLevel h
 
--- the rows of P(n), n = 2 ^ level, as they are counted
-pub counted : {n level count : ℕ} → n ≡ 2 ^ level → level ≤ maxLevel → count ≡ permutationCount (levelOf n) → CountIs level count
-counted {n} {level} {count} e few c =
+-- `permutation_count` counts the rows of P(n), n = 2 ^ level
+pub count-at : {n level count : ℕ} → n ≡ 2 ^ level → level ≤ maxLevel → count ≡ permutationCount (levelOf n) → CountIs level count
+count-at {n} {level} {count} e few c =
     let same : count ≡ permutationCount level = c ∙ ap permutationCount (ap levelOf e ∙ ceilLog-power level) in
     record { count-is = same; most-rows = rw same (few-rows level few) }
 
-pub few-wires : (m n : ℕ) → Sides m n → selectionWires m n ≤ 4 * (maxLevel * maxSize) + maxSize
+pub few-wires : (m n : ℕ) → SelectionSizes m n → selectionWires m n ≤ 4 * (maxLevel * maxSize) + maxSize
 unfolding selectionWires wholeWires
 few-wires m n s =
     let level : ℕ = selectionLevel m n in
-    omega (arith, few-rows level (side-level s), power-small level (side-level s))
+    omega (arith, few-rows level (selection-level-small s), power-small level (selection-level-small s))
 
 -- the counts of S(m, n) from those of one of its networks, for any m and n of 32 bits
 pub record SelectionCounts (m n one size : ℕ) : Type 0 where

@@ -23,12 +23,12 @@ abbrev pub levelOf : ℕ → ℕ
 levelOf N = ceilLog N
 
 -- a number of inputs or outputs of S
-unfoldable pub sideAllowed : ℕ → Bool
-sideAllowed n = leb 1 n && leb n maxSize
+unfoldable pub selectionSizeAllowed : ℕ → Bool
+selectionSizeAllowed n = leb 1 n && leb n maxSize
 
 -- 2, then 4
-unfoldable pub sidesFault : ℕ → ℕ → ℕ
-sidesFault m n = andThen (unless (sideAllowed m) Fault.Inputs) (unless (sideAllowed n) Fault.Outputs)
+unfoldable pub selectionSizesFault : ℕ → ℕ → ℕ
+selectionSizesFault m n = andThen (unless (selectionSizeAllowed m) Fault.Inputs) (unless (selectionSizeAllowed n) Fault.Outputs)
 
 pub record SizeIs (N : ℕ) : Type 0 where
   pub power : 2 ^ levelOf N ≡ N
@@ -36,7 +36,7 @@ pub record SizeIs (N : ℕ) : Type 0 where
   pub some : 1 ≤ N
   pub most : N ≤ maxSize
 
-pub record Sides (m n : ℕ) : Type 0 where
+pub record SelectionSizes (m n : ℕ) : Type 0 where
   pub someInputs : 1 ≤ m
   pub inputs : m ≤ maxSize
   pub someOutputs : 1 ≤ n

@@ -4,12 +4,15 @@ ghost use Prim.Native.Nat.{_^_, _≤_, max};
 ghost use Rattle.fault.specs.Number.{answerNumber};
 ghost use Rattle.block_networks.specs.Permutation.{permutationCount};
 ghost use Rattle.block_networks.specs.Selection.{selectionLevel, selectionCount, selectionWires};
-ghost use Rattle.block_sizes.specs.Sizes.{sizeAllowed, levelOf, sidesFault};
+ghost use Rattle.block_sizes.specs.Sizes.{sizeAllowed, levelOf, selectionSizesFault};
 use fault::Answer;
 use fault::Fault;
 
 // The largest number of positions of a block.
 pub const MAX_SIZE: u32 = 512;
+
+// That number as a length: the places of an array that serves every block.
+pub const MAX_PLACES: usize = MAX_SIZE as usize;
 
 // Whether P may have n positions: a power of two from 1 to 512.
 pub fn size_allowed(n: u32) -> bool
@@ -25,8 +28,8 @@ pub fn size_allowed(n: u32) -> bool
 }
 
 // The checks of S(m, n)'s sizes: 2, then 4.
-pub fn check_sides(m: u32, n: u32) -> Answer
-    ensures { λ r. ⌜ answerNumber r ≡ sidesFault m n ⌝ }
+pub fn check_selection_sizes(m: u32, n: u32) -> Answer
+    ensures { λ r. ⌜ answerNumber r ≡ selectionSizesFault m n ⌝ }
 {
     if m == 0 {
         return Answer::Refused(Fault::Inputs);
@@ -47,11 +50,13 @@ pub fn check_sides(m: u32, n: u32) -> Answer
 pub fn permutation_count(n: u32) -> usize
     ensures { λ r. ⌜ r ≡ permutationCount (levelOf n) ⌝ }
 {
-    row_count(powers::ceil_power(n) as usize, powers::ceil_log(n) as usize)
+    let size = powers::ceil_power(n) as usize;
+    let level = powers::ceil_log(n) as usize;
+    size * level + 1 - size
 }
 
 // The positions of S(m, n): the smallest power of two not below both.
-pub fn selection_size(m: u32, n: u32) -> usize
+pub fn selection_positions(m: u32, n: u32) -> usize
     ensures { λ r. ⌜ r ≡ 2 ^ selectionLevel m n ⌝ }
 {
     powers::ceil_power(larger(m, n)) as usize
@@ -61,7 +66,7 @@ pub fn selection_size(m: u32, n: u32) -> usize
 pub fn selection_count(m: u32, n: u32) -> usize
     ensures { λ r. ⌜ r ≡ selectionCount m n ⌝ }
 {
-    let size = selection_size(m, n);
+    let size = selection_positions(m, n);
     let one = permutation_count(larger(m, n));
     one + (size - 1 + one)
 }
@@ -70,19 +75,12 @@ pub fn selection_count(m: u32, n: u32) -> usize
 pub fn selection_wires(m: u32, n: u32) -> usize
     ensures { λ r. ⌜ r ≡ selectionWires m n ⌝ }
 {
-    let size = selection_size(m, n);
+    let size = selection_positions(m, n);
     let one = permutation_count(larger(m, n));
     2 * one + (size - 1 + 2 * one)
 }
 
-// The rows of P(n), n = 2 ^ level.
-fn row_count(n: usize, level: usize) -> usize
-    requires { ⌜ (n ≡ 2 ^ level) × (level ≤ 32) ⌝ }
-    ensures { λ r. ⌜ r ≡ permutationCount level ⌝ }
-{
-    n * level + 1 - n
-}
-
+// The larger of two numbers.
 fn larger(m: u32, n: u32) -> u32
     ensures { λ r. ⌜ r ≡ max m n ⌝ }
 {

@@ -10,8 +10,8 @@ use Rattle.powers.proofs.PowersLaws.{ceilLog-power}
 use Rattle.block_elements.specs.Rows.{stride}
 use Rattle.block_networks.specs.Permutation.{permutationCount}
 use Rattle.block_networks.specs.Selection.{wholeCount, wholeWires, selectionCount, selectionWires}
-use Rattle.block_sizes.specs.Sizes.{maxLevel, levelOf, Sides}
-use Rattle.block_sizes.proofs.SizesLaws.{size-is, power-allowed, sides-allowed}
+use Rattle.block_sizes.specs.Sizes.{maxLevel, levelOf, SelectionSizes}
+use Rattle.block_sizes.proofs.SizesLaws.{size-is, power-allowed, selection-sizes-allowed}
 use Rattle.elements.specs.Elements.{maxWires}
 use Rattle.block_write_checks.proofs.WiresLaws.{wires-faultless, buffers-faultless}
 use Rattle.block_write_checks.specs.WriteChecks.{writeFault, selectionWriteFault, SelectionWritePasses, WritePasses}
@@ -71,7 +71,7 @@ module _ (m n : ℕ) (ins : List ℕ) (next rows outputs : ℕ) where
   pub selection-write-passes : selectionWriteFault m n ins next rows outputs ≡ 0 → SelectionWritePasses m n ins next rows outputs
   unfolding selectionWriteFault
   selection-write-passes e =
-      let h = simp (and-then-zero, sides-allowed, list-faultless, wires-faultless, buffers-faultless) at e in
+      let h = simp (and-then-zero, selection-sizes-allowed, list-faultless, wires-faultless, buffers-faultless) at e in
       let wires = h .1 .1 .0 in
       let room = h .1 .1 .1 in
       record {
@@ -84,11 +84,11 @@ module _ (m n : ℕ) (ins : List ℕ) (next rows outputs : ℕ) where
       }
 
   -- and the other way round
-  pub selection-write-succeeds : Sides m n → length ins ≡ m → Below next ins → (1 ≤ selectionWires m n → next + selectionWires m n ≤ maxWires)
+  pub selection-write-succeeds : SelectionSizes m n → length ins ≡ m → Below next ins → (1 ≤ selectionWires m n → next + selectionWires m n ≤ maxWires)
       → stride * selectionCount m n ≤ rows → n ≤ outputs → selectionWriteFault m n ins next rows outputs ≡ 0
   unfolding selectionWriteFault
   selection-write-succeeds sides inputs made wires rowRoom outputRoom =
-      simp (and-then-zero, sides-allowed, list-faultless, wires-faultless, buffers-faultless)
+      simp (and-then-zero, selection-sizes-allowed, list-faultless, wires-faultless, buffers-faultless)
       (sides, (inputs, (record { given = made; new = wires }, record { rowRoom = rowRoom; outputRoom = outputRoom })))
 
 -- a row makes a wire or two

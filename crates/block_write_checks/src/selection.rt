@@ -1,11 +1,11 @@
 // The checks of writing S. They touch no buffer.
 ghost use mathlib.Core.Path.{_≡_};
 ghost use Rattle.fault.specs.Number.{answerNumber};
-ghost use Rattle.block_sizes.specs.Sizes.{Sides};
+ghost use Rattle.block_sizes.specs.Sizes.{SelectionSizes};
 ghost use Rattle.block_write_checks.specs.WriteChecks.{wiresAndRoomFault, selectionWriteFault};
 use crate::wires::check_room;
 use crate::wires::check_wires;
-use block_sizes::check_sides;
+use block_sizes::check_selection_sizes;
 use block_sizes::selection_count;
 use block_sizes::selection_wires;
 use elements::FabricWire;
@@ -23,7 +23,7 @@ pub fn check_selection_write(
 ) -> Answer
     ensures { λ r. ⌜ answerNumber r ≡ selectionWriteFault m n (now (inputs .entry)) (next .0) rows outputs ⌝ }
 {
-    match check_sides(m, n) {
+    match check_selection_sizes(m, n) {
         Answer::Refused(f) => Answer::Refused(f),
         Answer::Done => check_wires_and_room(m, n, inputs, next, rows, outputs),
     }
@@ -38,7 +38,7 @@ fn check_wires_and_room(
     rows: usize,
     outputs: usize,
 ) -> Answer
-    requires { ⌜ Sides m n ⌝ }
+    requires { ⌜ SelectionSizes m n ⌝ }
     ensures { λ r. ⌜ answerNumber r ≡ wiresAndRoomFault m n (now (inputs .entry)) (next .0) rows outputs ⌝ }
 {
     if inputs.len() != m as usize {

@@ -18,7 +18,7 @@ use Rattle.block_elements.specs.Bits.{setBit, storeBits, pack}
 use Rattle.block_networks.specs.Permutation.{permutationCount}
 use Rattle.block_networks.specs.Wanted.{wantedBits}
 use Rattle.block_networks.specs.Selection.{selectionLevel, wholeCount, wholeWires, selectionCount, selectionWires, selectionBits}
-use Rattle.block_sizes.specs.Sizes.{sizeAllowed, levelOf, sideAllowed, sidesFault}
+use Rattle.block_sizes.specs.Sizes.{sizeAllowed, levelOf, selectionSizeAllowed, selectionSizesFault}
 use Rattle.block_program_checks.specs.Bits.{bitsFault}
 use Rattle.block_program_checks.specs.Checks.{selectedFault, notAmong, twiceFault, sourceFault, wantedFault, programFault, selectionWantedFault, selectionProgramFault}
 use Rattle.block_permutation_bits.specs.ProgramCalls.{programResult}
@@ -67,7 +67,7 @@ programs N wanted bits = record {
 
 -- S(m, n) likewise
 unfoldable pub selects : ℕ → ℕ → List ℕ → List ℕ → Figure
-unfolding firstOf listOf firstFit ceilLog sideAllowed sidesFault selectedFault selectionWantedFault listFault bitsFault setBit storeBits pack
+unfolding firstOf listOf firstFit ceilLog selectionSizeAllowed selectionSizesFault selectedFault selectionWantedFault listFault bitsFault setBit storeBits pack
 selects m n wanted bits = record {
   computed = selectionProgramFault m n wanted 1 ∷ (selectionBits m n wanted ++ selectionProgramResult m n wanted (255 ∷ []));
   stated = 0 ∷ (bits ++ pack bits);

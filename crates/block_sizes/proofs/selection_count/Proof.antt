@@ -9,11 +9,11 @@ use Rattle.block_sizes.proofs.selection_count.Statement.{statement}
 use Rattle.block_sizes.proofs.selection_count.Tie as tie
 
 counted : (c : tie.After-permutation-count)
-    → let a = c .before .before .before .args in SelectionCounts (a .m) (a .n) (c .permutation-count .result) (c .before .before .selection-size .result)
+    → let a = c .before .before .before .args in SelectionCounts (a .m) (a .n) (c .permutation-count .result) (c .before .before .selection-positions .result)
 counted c =
     let a = c .before .before .before .args in
     selection-counts (a .m) (a .n) _ _ (omega arith) (omega arith)
-    (c .permutation-count .ensures ∙ ap (λ n. permutationCount (levelOf n)) (c .before .larger .ensures)) (c .before .before .selection-size .ensures)
+    (c .permutation-count .ensures ∙ ap (λ n. permutationCount (levelOf n)) (c .before .larger .ensures)) (c .before .before .selection-positions .ensures)
 
 some : tie.Need-sub-result
 some c = counted c .some

@@ -9,11 +9,11 @@ use Rattle.block_sizes.proofs.selection_wires.Statement.{statement}
 use Rattle.block_sizes.proofs.selection_wires.Tie as tie
 
 counted : (c : tie.After-permutation-count)
-    → let a = c .before .before .before .args in SelectionCounts (a .m) (a .n) (c .permutation-count .result) (c .before .before .selection-size .result)
+    → let a = c .before .before .before .args in SelectionCounts (a .m) (a .n) (c .permutation-count .result) (c .before .before .selection-positions .result)
 counted c =
     let a = c .before .before .before .args in
     selection-counts (a .m) (a .n) _ _ (omega arith) (omega arith)
-    (c .permutation-count .ensures ∙ ap (λ n. permutationCount (levelOf n)) (c .before .larger .ensures)) (c .before .before .selection-size .ensures)
+    (c .permutation-count .ensures ∙ ap (λ n. permutationCount (levelOf n)) (c .before .larger .ensures)) (c .before .before .selection-positions .ensures)
 
 doubled : tie.Need-mul-result
 doubled c = let s = counted c in omega arith

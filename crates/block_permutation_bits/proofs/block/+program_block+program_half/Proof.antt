@@ -5,7 +5,7 @@ use mathlib.Core.Path.{_≡_, refl, _∙_, ap}
 use Prim.Native.Nat.{ℕ, _+_, _-_, _*_, _/_, _^_, _≤_, _<_}
 use native.Mathlib.Nat.{le-add-right}
 use native.Mathlib.Omega.{arith}
-use mir.Syntax.{w64}
+use mir.Syntax.{w32, w64}
 use mir.Val.{Fits}
 use mir.Facts.{fits-below}
 use borrow.Fn.Kinds.{In}
@@ -15,10 +15,11 @@ use lib.ListN.{length, take, drop}
 use lib.Pow.{pow-mono}
 use Rattle.block_elements.specs.Bits.{AreBytes, storeBits}
 use Rattle.block_networks.specs.Permutation.{permutationCount}
-use Rattle.block_sizes.specs.Sizes.{maxLevel}
+use Rattle.block_sizes.specs.Sizes.{maxSize, maxLevel}
+use Rattle.block_sizes.proofs.SizesLaws.{count-at}
 use Rattle.block_loops.specs.Mappings.{listBits}
-use Rattle.block_loops.specs.Levels.{HalfRoom}
-use Rattle.block_loops.proofs.LevelsLaws.{Halving, halving, level-room, half-room, part-room, upper-perm, lower-perm, block-stored}
+use Rattle.block_loops.specs.Levels.{HalfBuffers}
+use Rattle.block_loops.proofs.LevelsLaws.{Halving, halving, level-buffers, half-buffers, part-room, upper-perm, lower-perm, block-stored}
 use Rattle.block_permutation_bits.proofs.block.program_block.Reads as program-block
 use Rattle.block_permutation_bits.proofs.block.program_block.Kinds as program-block-kinds
 use Rattle.block_permutation_bits.proofs.block.+program_block+program_half.Lts-program_block as program-block-lts
@@ -26,7 +27,7 @@ use Rattle.block_permutation_bits.proofs.block.program_half.Reads as pr
 use Rattle.block_permutation_bits.proofs.block.program_half.Kinds as program-half-kinds
 use Rattle.block_permutation_bits.proofs.block.+program_block+program_half.Lts-program_half as program-half-lts
 use Rattle.block_permutation_bits.proofs.level.program_level.Reads as program-level-reads
-use Rattle.block_permutation_bits.proofs.block.row_count.Reads as row-count-reads
+use Rattle.block_sizes.proofs.permutation_count.Reads as permutation-count-reads
 use Rattle.block_permutation_bits.proofs.block.program_pair.Reads as program-pair-reads
 use Rattle.block_permutation_bits.proofs.block.+program_block+program_half.{statement}
 use Rattle.block_permutation_bits.proofs.block.+program_block+program_half.Tie.{close}
@@ -46,8 +47,8 @@ half-at t = and 4 program-half-kinds.ps (is 4 program-half-kinds.ps μ-program-h
 -- what is known of the calls of each
 abbrev block-calls : ℕ → program-block-lts.Claims
 block-calls t = (
-  row-count-reads.Asked,
-  row-count-reads.Learnt,
+  permutation-count-reads.Asked,
+  permutation-count-reads.Learnt,
   program-level-reads.Asked,
   program-level-reads.Learnt,
   and 4 program-half-kinds.ps (falls 4 program-half-kinds.ps _<_ μ-program-half t) program-half.Pre,
@@ -66,7 +67,7 @@ some-below : {level : ℕ} → 1 < level → 0 < level
 some-below l = omega arith
 
 -- the places of a half lie in its arrays, and are small
-module _ {level at N scratch marks : ℕ} (room : HalfRoom level at N scratch marks) where
+module _ {level at N scratch marks : ℕ} (room : HalfBuffers level at N scratch marks) where
   few-places : N ≤ 2 * 2 ^ 8
   few-places = let p : 2 ^ level ≤ 2 ^ 8 = pow-mono (room .few) in omega arith
 
@@ -86,6 +87,9 @@ module _ {level at N scratch marks : ℕ} (room : HalfRoom level at N scratch ma
 module _ {level N : ℕ} (H : Halving level N) where
   few-levels : level - 1 ≤ maxLevel
   few-levels = omega arith
+
+  few-halves : Fits w32 (N / 2)
+  few-halves = fits-below {n = maxSize} tt (omega arith)
 
   upper-within : 0 + N / 2 ≤ N
   upper-within = omega arith
@@ -129,7 +133,7 @@ module _ (t : ℕ) where
   Started = program-block-lts.Start (block-calls t) (block-at t) program-block.Post
 
   abbrev Counted : Type 0
-  Counted = program-block-lts.After-row-count (block-calls t) (block-at t) program-block.Post
+  Counted = program-block-lts.After-permutation-count (block-calls t) (block-at t) program-block.Post
 
   abbrev Levelled : Type 0
   Levelled = program-block-lts.After-program-level (block-calls t) (block-at t) program-block.Post
@@ -172,8 +176,12 @@ module _ (t : ℕ) where
   mark-size : (c : Levelled) → length (c .program-level .last .1 .1 .0) ≡ length (start (halved (counted c)) .args .perm .now)
   mark-size c = c .program-level .kept .1 .1 .0 ∙ start (halved (counted c)) .pre .1 .1 .0 .marksSize
 
-  for-count : program-block-lts.Need-row-count-requires (block-calls t) (block-at t) program-block.Post
-  for-count c κs = (sized c .half, few-levels (sized c))
+  half-fits : program-block-lts.Need-cast-permutation-count (block-calls t) (block-at t) program-block.Post
+  half-fits c = few-halves (sized c)
+
+  -- the rows of a half
+  rows : (c : Counted) → c .permutation-count .result ≡ permutationCount (start (halved c) .args .level - 1)
+  rows c = count-at (sized (halved c) .half) (few-levels (sized (halved c))) (c .permutation-count .ensures) .count-is
 
   upper-place : program-block-lts.Need-add-upper (block-calls t) (block-at t) program-block.Post
   upper-place c = upper-place-fits (sized (halved c)) (start (halved c) .args .start) (start (halved c) .pre .1 .1 .1)
@@ -184,8 +192,8 @@ module _ (t : ℕ) where
       let s = start (halved n) in (
         s .pre .1 .0,
         (
-          level-room (s .args .level) (s .pre .1 .1 .0) (some-below (halved n .if1 .taken)),
-          level-bits-fit (sized (halved n)) (s .args .start) (s .pre .1 .1 .1) (n .row-count .result) (n .row-count .ensures .count-is),
+          level-buffers (s .args .level) (s .pre .1 .1 .0) (some-below (halved n .if1 .taken)),
+          level-bits-fit (sized (halved n)) (s .args .start) (s .pre .1 .1 .1) (n .permutation-count .result) (rows n),
         ),
       )
 
@@ -199,7 +207,7 @@ module _ (t : ℕ) where
         half-falls (h .if1 .taken) (s .pre .0),
         (
           upper-perm {level = s .args .level} (s .pre .1 .0) room l (v .program-level .ensures) (scratch-size v),
-          (half-room (s .args .level) 0 room l (upper-within (sized h)) (scratch-size v) refl (mark-size v), upper-bits-fit (sized h) (s .args .start) (s .pre .1 .1 .1)),
+          (half-buffers (s .args .level) 0 room l (upper-within (sized h)) (scratch-size v) refl (mark-size v), upper-bits-fit (sized h) (s .args .start) (s .pre .1 .1 .1)),
         ),
       )
 
@@ -207,7 +215,7 @@ module _ (t : ℕ) where
   lower-fits c =
       let n = counted (levelled (c .before .before .before .before .before .before .before .before .before .before .before .before)) in
       let s = start (halved n) in
-      lower-place-fits (sized (halved n)) (s .args .start) (s .pre .1 .1 .1) (n .row-count .result) (n .row-count .ensures .count-is)
+      lower-place-fits (sized (halved n)) (s .args .start) (s .pre .1 .1 .1) (n .permutation-count .result) (rows n)
 
   for-lower : program-block-lts.Need-program-half-requires-2 (block-calls t) (block-at t) program-block.Post
   for-lower c κs =
@@ -223,8 +231,8 @@ module _ (t : ℕ) where
           lower-perm {level = s .args .level} (s .pre .1 .0) room l (v .program-level .ensures) (scratch-size v)
               (half .last .0) (half .kept .0) (half .ensures .1),
           (
-            half-room (s .args .level) _ room l (lower-within (sized h)) (half .kept .0 ∙ scratch-size v) (half .kept .1 .0) (half .kept .1 .1 .0 ∙ mark-size v),
-            lower-bits-fit (sized h) (s .args .start) (s .pre .1 .1 .1) (counted v .row-count .result) (counted v .row-count .ensures .count-is),
+            half-buffers (s .args .level) _ room l (lower-within (sized h)) (half .kept .0 ∙ scratch-size v) (half .kept .1 .0) (half .kept .1 .1 .0 ∙ mark-size v),
+            lower-bits-fit (sized h) (s .args .start) (s .pre .1 .1 .1) (counted v .permutation-count .result) (rows (counted v)),
           ),
         ),
       )
@@ -254,7 +262,7 @@ module _ (t : ℕ) where
       let half = u .program-half in
       let bytes : AreBytes (s .args .program .now) = record { each = λ i. halved n .before .slice-known4 .given i .fits } in
       block-stored {level = s .args .level} (s .pre .1 .0) (s .pre .1 .1 .0) (some-below (halved n .if1 .taken)) (v .program-level .ensures) (scratch-size v)
-      (half .last .0) (half .kept .0) (half .ensures .1) bytes (n .row-count .ensures .count-is) (half .ensures .0) (w .program-half2 .ensures .0)
+      (half .last .0) (half .kept .0) (half .ensures .1) bytes (rows n) (half .ensures .0) (w .program-half2 .ensures .0)
 
 for-pair : (t : ℕ) → program-block-lts.Need-program-pair-requires (block-calls t) (block-at t) program-block.Post
 for-pair t c κs =
@@ -326,7 +334,7 @@ pub +program-block+program-half-spec : {M : Type 1} → statement M
 +program-block+program-half-spec =
     close μ-program-block μ-program-half
     (λ t. program-block-lts.spec (block-calls t) (block-at t) program-block.Post
-    (λ c. some-below (c .if1 .taken)) (for-count t) (upper-place t) (for-level t) (for-upper t) (lower-fits t) (for-lower t) (for-pair t)
+    (λ c. some-below (c .if1 .taken)) (half-fits t) (λ c κs. tt) (upper-place t) (for-level t) (for-upper t) (lower-fits t) (for-lower t) (for-pair t)
     (same-perm t) (same-scratch t) (same-marks t) (same-program t)
     (stored t) (λ c. refl) (λ c. c .before .before .program-pair .kept .1 .0) (paired t))
     λ t. program-half-lts.spec (half-calls t) (half-at t) program-half.Post

@@ -27,14 +27,14 @@ for-visit c κs =
     let pre = at .before .before .before .before .before .before .before .before .pre in
     let S = at .loop .inv .1 in
     let k = c .before .before .loop-test .taken in
-    let o = c .before .start-of .ensures in
+    let o = c .before .visit-start .ensures in
     (pre .0, (pre .1 .0, (S .size, (rw (S .size) (start-below (pre .0) k S o), leads (pre .0) k S o))))
 
 again : tie.Need-loop-again Inv-loop μ-loop
 again c =
     let at = c .before .before .before .before .before .before in
     let k = c .before .before .before .before .before .loop-test .taken in
-    let o = c .before .before .before .before .start-of .ensures in
+    let o = c .before .before .before .before .visit-start .ensures in
     (omega arith, swept-more (at .before .before .before .before .before .before .before .before .pre .0) k (at .loop .inv .1) o (c .before .before .visit .ensures))
 
 same : tie.Need-same-length Inv-loop μ-loop

@@ -8,17 +8,17 @@ use native.Mathlib.Nat.{le-refl}
 use native.Mathlib.Omega.{arith}
 use borrow.Fn.Kinds.{In}
 use borrow.Fn.PlainCycle.{Measures, is, falls, and}
-use Rattle.block_permutation_rows.specs.declared.level.Parts.{Parts}
-use Rattle.block_permutation_rows.specs.Levels.{LevelRoom, OutputRoom}
+use Rattle.block_permutation_rows.specs.declared.level.LevelParts.{LevelParts}
+use Rattle.block_permutation_rows.specs.Levels.{LevelRoom, OutputRowsRoom}
 use Rattle.fault.specs.Buffers.{partOf, withPart}
 use Rattle.fault.proofs.PartsLaws.{length-with}
-use Rattle.block_permutation_rows.proofs.LevelsLaws.{LevelWritten, PlacesFit, places-fit, upper-in, lower-in, outputs-in, half-in, upper-room, lower-room, output-room, level-written}
+use Rattle.block_permutation_rows.proofs.LevelsLaws.{LevelWritten, PlacesFit, places-fit, upper-in, lower-in, outputs-in, half-in, upper-level-room, lower-level-room, output-room, level-written}
 use Rattle.block_permutation_rows.proofs.level.write_level.Reads as write-level
 use Rattle.block_permutation_rows.proofs.level.write_level.Kinds as write-level-kinds
 use Rattle.block_permutation_rows.proofs.level.+write_level.Lts-write_level as write-level-lts
-use Rattle.block_permutation_rows.proofs.level.parts_of.Reads as parts-of-reads
-use Rattle.block_permutation_rows.proofs.level.write_inputs.Reads as write-inputs-reads
-use Rattle.block_permutation_rows.proofs.level.write_outputs.Reads as write-outputs-reads
+use Rattle.block_permutation_rows.proofs.level.level_parts.Reads as level-parts-reads
+use Rattle.block_permutation_rows.proofs.level.write_input_rows.Reads as write-input-rows-reads
+use Rattle.block_permutation_rows.proofs.level.write_output_rows.Reads as write-output-rows-reads
 use Rattle.block_permutation_rows.proofs.level.write_pair.Reads as write-pair-reads
 use Rattle.block_permutation_rows.proofs.level.+write_level.{statement}
 use Rattle.block_permutation_rows.proofs.level.+write_level.Tie.{close}
@@ -35,14 +35,14 @@ write-level-below t = and 2 write-level-kinds.ps (falls 2 write-level-kinds.ps _
 -- what is known of the functions that it calls, itself among them
 abbrev claims : ℕ → write-level-lts.Claims
 claims t = (
-  parts-of-reads.Asked,
-  parts-of-reads.Learnt,
-  write-inputs-reads.Asked,
-  write-inputs-reads.Learnt,
+  level-parts-reads.Asked,
+  level-parts-reads.Learnt,
+  write-input-rows-reads.Asked,
+  write-input-rows-reads.Learnt,
   write-level-below t,
   write-level.Post,
-  write-outputs-reads.Asked,
-  write-outputs-reads.Learnt,
+  write-output-rows-reads.Asked,
+  write-output-rows-reads.Learnt,
   write-pair-reads.Asked,
   write-pair-reads.Learnt,
 )
@@ -59,10 +59,10 @@ module _ (t : ℕ) where
   Started = write-level-lts.Start (claims t) (write-level-at t) write-level.Post
 
   abbrev Parted : Type 0
-  Parted = write-level-lts.After-parts-of (claims t) (write-level-at t) write-level.Post
+  Parted = write-level-lts.After-level-parts (claims t) (write-level-at t) write-level.Post
 
   abbrev Inputs : Type 0
-  Inputs = write-level-lts.After-write-inputs (claims t) (write-level-at t) write-level.Post
+  Inputs = write-level-lts.After-write-input-rows (claims t) (write-level-at t) write-level.Post
 
   abbrev Upper : Type 0
   Upper = write-level-lts.After-write-level (claims t) (write-level-at t) write-level.Post
@@ -71,7 +71,7 @@ module _ (t : ℕ) where
   Lower = write-level-lts.After-write-level2 (claims t) (write-level-at t) write-level.Post
 
   abbrev Outputs : Type 0
-  Outputs = write-level-lts.After-write-outputs (claims t) (write-level-at t) write-level.Post
+  Outputs = write-level-lts.After-write-output-rows (claims t) (write-level-at t) write-level.Post
 
   abbrev start : Parted → Started
   start c = c .before .before .before .before
@@ -89,14 +89,14 @@ module _ (t : ℕ) where
   lower c = c .before .before .before .before .before .before .before
 
   -- the parts of the level, and the buffers once each half is written
-  abbrev partsOf : Inputs → Parts
-  partsOf c = parted c .parts-of .result
+  abbrev partsOf : Inputs → LevelParts
+  partsOf c = parted c .level-parts .result
 
   abbrev inputRows : Inputs → List ℕ
-  inputRows c = c .write-inputs .last .0
+  inputRows c = c .write-input-rows .last .0
 
   abbrev inputWires : Inputs → List ℕ
-  inputWires c = c .write-inputs .last .1 .0
+  inputWires c = c .write-input-rows .last .1 .0
 
   abbrev upperRows : Upper → List ℕ
   upperRows c = withPart (partsOf (inputs c) .upper) (inputRows (inputs c)) (c .write-level .last .1 .1 .0)
@@ -114,10 +114,10 @@ module _ (t : ℕ) where
   upper-rows : (c : Upper) → length (upperRows c) ≡ length (start (parted (inputs c)) .args .rows .now)
   upper-rows c =
       length-with (partsOf (inputs c) .upper) (inputRows (inputs c)) (c .write-level .last .1 .1 .0) (c .write-level .kept .1 .1 .0)
-      ∙ inputs c .write-inputs .kept .0
+      ∙ inputs c .write-input-rows .kept .0
 
   upper-wires : (c : Upper) → length (upperWires c) ≡ length (start (parted (inputs c)) .args .wires .now)
-  upper-wires c = c .write-level .kept .1 .1 .1 .0 ∙ inputs c .write-inputs .kept .1 .0
+  upper-wires c = c .write-level .kept .1 .1 .1 .0 ∙ inputs c .write-input-rows .kept .1 .0
 
   lower-rows : (c : Lower) → length (lowerRows c) ≡ length (start (parted (inputs (upper c))) .args .rows .now)
   lower-rows c =
@@ -132,26 +132,26 @@ module _ (t : ℕ) where
   -- the parts that are lent begin within them
   upper-at : (c : Inputs) → partsOf c .upper ≤ length (inputRows c)
   upper-at c =
-      upper-in (parted c .parts-of .ensures) (start (parted c) .pre .1) (inputRows c) (inputWires c) (c .write-inputs .kept .0)
-      (c .write-inputs .kept .1 .0)
+      upper-in (parted c .level-parts .ensures) (start (parted c) .pre .1) (inputRows c) (inputWires c) (c .write-input-rows .kept .0)
+      (c .write-input-rows .kept .1 .0)
 
   lower-at : (c : Upper) → partsOf (inputs c) .lower ≤ length (upperRows c)
   lower-at c =
       let p = parted (inputs c) in
-      lower-in (p .parts-of .ensures) (start p .pre .1) (upperRows c) (upperWires c) (upper-rows c) (upper-wires c)
+      lower-in (p .level-parts .ensures) (start p .pre .1) (upperRows c) (upperWires c) (upper-rows c) (upper-wires c)
 
   half-at : (c : Upper) → partsOf (inputs c) .half ≤ length (upperWires c)
   half-at c =
       let p = parted (inputs c) in
-      half-in (p .parts-of .ensures) (start p .pre .1) (upperRows c) (upperWires c) (upper-rows c) (upper-wires c)
+      half-in (p .level-parts .ensures) (start p .pre .1) (upperRows c) (upperWires c) (upper-rows c) (upper-wires c)
 
   outputs-at : (c : Lower) → partsOf (inputs (upper c)) .outputs ≤ length (lowerRows c)
   outputs-at c =
       let p = parted (inputs (upper c)) in
-      outputs-in (p .parts-of .ensures) (start p .pre .1) (lowerRows c) (lowerWires c) (lower-rows c) (lower-wires c)
+      outputs-in (p .level-parts .ensures) (start p .pre .1) (lowerRows c) (lowerWires c) (lower-rows c) (lower-wires c)
 
   fits : (c : Inputs) → PlacesFit (partsOf c)
-  fits c = places-fit (parted c .parts-of .ensures)
+  fits c = places-fit (parted c .level-parts .ensures)
 
   -- each half is a smaller block that fits what it is lent, and the outputs fit
   smaller : (c : Inputs) → start (parted c) .args .level - 1 < t
@@ -160,8 +160,8 @@ module _ (t : ℕ) where
   upper-asked : (c : Inputs) → LevelRoom (start (parted c) .args .level - 1) (partsOf c .«upper_next» .0) (length (partOf (partsOf c .upper) (inputRows c)))
       (length (inputWires c))
   upper-asked c =
-      upper-room (parted c .parts-of .ensures) (start (parted c) .pre .1) (inputRows c) (inputWires c) (c .write-inputs .kept .0)
-      (c .write-inputs .kept .1 .0) (parted c .before .if1 .taken)
+      upper-level-room (parted c .level-parts .ensures) (start (parted c) .pre .1) (inputRows c) (inputWires c) (c .write-input-rows .kept .0)
+      (c .write-input-rows .kept .1 .0) (parted c .before .if1 .taken)
 
   lower-asked : (c : Upper) → (
       let inp = inputs c in
@@ -169,40 +169,40 @@ module _ (t : ℕ) where
       (length (partOf (partsOf inp .half) (upperWires c))))
   lower-asked c =
       let p = parted (inputs c) in
-      lower-room (p .parts-of .ensures) (start p .pre .1) (upperRows c) (upperWires c) (upper-rows c) (upper-wires c) (p .before .if1 .taken)
+      lower-level-room (p .level-parts .ensures) (start p .pre .1) (upperRows c) (upperWires c) (upper-rows c) (upper-wires c) (p .before .if1 .taken)
 
   outputs-asked : (c : Lower) → (
       let p = partsOf (inputs (upper c)) in
-      OutputRoom (p .half) (p .«output_next» .0) (length (partOf (p .outputs) (lowerRows c))) (length (lowerWires c)))
+      OutputRowsRoom (p .half) (p .«output_next» .0) (length (partOf (p .outputs) (lowerRows c))) (length (lowerWires c)))
   outputs-asked c =
       let p = parted (inputs (upper c)) in
-      output-room (p .parts-of .ensures) (start p .pre .1) (lowerRows c) (lowerWires c) (lower-rows c) (lower-wires c)
+      output-room (p .level-parts .ensures) (start p .pre .1) (lowerRows c) (lowerWires c) (lower-rows c) (lower-wires c)
 
   -- all steps of a level are done
   done : (c : Outputs) → (
       let p = parted (inputs (upper (lower c))) in
       LevelWritten (start p .args .level) (start p .args .next .0) (start p .args .rows .now) (start p .args .wires .now)
-      (withPart (p .parts-of .result .outputs) (lowerRows (lower c)) (c .write-outputs .last .0)) (c .write-outputs .last .1 .0))
+      (withPart (p .level-parts .result .outputs) (lowerRows (lower c)) (c .write-output-rows .last .0)) (c .write-output-rows .last .1 .0))
   done c =
       let low = lower c in
       let up = upper low in
       let inp = inputs up in
       let p = parted inp in
-      level-written (start p .args .level) (start p .args .next .0) (some-below (p .before .if1 .taken)) (p .parts-of .result) (p .parts-of .ensures)
+      level-written (start p .args .level) (start p .args .next .0) (some-below (p .before .if1 .taken)) (p .level-parts .result) (p .level-parts .ensures)
       (start p .args .rows .now) (start p .args .wires .now) (inputRows inp) (inputWires inp)
       (up .write-level .last .1 .1 .0) (upperWires up)
       (low .write-level2 .last .1 .1 .0) (low .write-level2 .last .1 .1 .1 .0)
-      (c .write-outputs .last .0) (c .write-outputs .last .1 .0)
+      (c .write-output-rows .last .0) (c .write-output-rows .last .1 .0)
       (start p .pre .1 .rowRoom) (start p .pre .1 .wireRoom)
       (record {
-        inputs = inp .write-inputs .ensures .0;
-        fed = inp .write-inputs .ensures .1;
+        inputs = inp .write-input-rows .ensures .0;
+        fed = inp .write-input-rows .ensures .1;
         upperRows = up .write-level .ensures .0;
         upperWires = up .write-level .ensures .1;
         lowerRows = low .write-level2 .ensures .0;
         lowerWires = low .write-level2 .ensures .1;
-        outputRows = c .write-outputs .ensures .0;
-        outputWires = c .write-outputs .ensures .1;
+        outputRows = c .write-output-rows .ensures .0;
+        outputWires = c .write-output-rows .ensures .1;
       })
 
 pub +write-level-spec : {M : Type 1} → statement M

@@ -5,7 +5,7 @@ use Rattle.block_permutation_rows.proofs.LevelsLaws.{level-none, pair-w
 use Rattle.block_permutation_rows.proofs.level.write_pair.Statement.{statement}
 use Rattle.block_permutation_rows.proofs.level.write_pair.Tie as tie
 
-room : tie.Need-write-inputs-requires
+room : tie.Need-write-input-rows-requires
 room c κs =
     let s = c .before .before .before .before .before in
     pair-room (s .args .level) (s .pre .0) (c .before .before .if1 .taken) (s .pre .1)
@@ -15,7 +15,7 @@ pair c =
     let then = c .before .before .before .before .before .before .before in
     let s = then .before .before .before in
     let a = s .args in
-    let put = c .before .before .before .before .write-inputs in
+    let put = c .before .before .before .before .write-input-rows in
     let w = pair-written (a .level) (a .next .0) (a .rows .now) (a .wires .now) (s .pre .0) (then .if1 .taken) (s .pre .1 .wireRoom) in
     (put .ensures .0 ∙ w .0, put .ensures .1 ∙ w .1)
 

@@ -8,7 +8,7 @@ use lib.ListN.{length, getD}
 use Rattle.fault.specs.Checks.{firstOf}
 use Rattle.block_sizes.specs.Sizes.{maxSize}
 use Rattle.block_program_checks.specs.Checks.{firstSource, isNew, twiceFault}
-use Rattle.block_program_checks.proofs.ChecksLaws.{Marked, marked-none, marked-more, unseen, seen, source-refused, source-passed}
+use Rattle.block_program_checks.proofs.ChecksLaws.{Marked, marked-none, marked-more, comes-first, comes-again, source-refused, source-passed}
 use Rattle.block_program_checks.proofs.permutation.check_once.Statement.{statement}
 use Rattle.block_program_checks.proofs.permutation.check_once.Tie as tie
 
@@ -42,12 +42,12 @@ unfolding twiceFault
 twice c =
     let at = c .before .before .before .before in
     source-refused (isNew (at .before .before .args .wanted .now)) _ (at .loop .i) (omega arith) (at .loop .inv .1)
-    (seen (at .loop .inv .2) (here (c .before)) (fits (c .before)) (c .if1 .taken))
+    (comes-again (at .loop .inv .2) (here (c .before)) (fits (c .before)) (c .if1 .taken))
 
 again : tie.Need-loop-again Inv-loop μ-loop
 again c =
     let at = c .before .before .before .before in
-    let new = unseen (at .loop .inv .2) (here (c .before)) (fits (c .before)) (c .if1 .left) in (
+    let new = comes-first (at .loop .inv .2) (here (c .before)) (fits (c .before)) (c .if1 .left) in (
       omega arith,
       source-passed (isNew (at .before .before .args .wanted .now)) (at .loop .i) (at .loop .inv .1) new,
       marked-more (at .loop .inv .2) (here (c .before)) (fits (c .before)),

@@ -13,14 +13,14 @@ use Rattle.block_program_checks.proofs.permutation.check_permutation.Ti
 
 -- where the other checks are done, none fails
 none : (c : tie.After-enum-told) → let a = c .before .before .before .before .args in 0 ≡ wantedFault (a .n) (a .wanted .now)
-none c = ap answerNumber (sym (c .enum-told .given .1)) ∙ c .before .before .check-wanted .ensures
+none c = ap answerNumber (sym (c .enum-told .given .1)) ∙ c .before .before .check-permutation-wanted .ensures
 
 few : tie.Need-cast-check-bits
 few c = omega (arith, few-bits (size-is _ (wanted-faultless _ _ .0 (sym (none (c .before))) .0)), c .permutation-count .ensures)
 
 refused : tie.Need-returns
 refused c =
-    first-refuses (c .before .f .given .0 .0) _ _ (ap answerNumber (sym (c .before .f .given .1)) ∙ c .before .before .before .check-wanted .ensures)
+    first-refuses (c .before .f .given .0 .0) _ _ (ap answerNumber (sym (c .before .f .given .1)) ∙ c .before .before .before .check-permutation-wanted .ensures)
 
 room : tie.Need-returns-2
 room c =

@@ -7,7 +7,7 @@ use lib.ListN.{length, set, length-set}
 use Rattle.lists.specs.Lists.{listOf}
 use Rattle.fault.specs.Buffers.{over}
 use Rattle.fault.proofs.BuffersLaws.{listOf-over}
-use Rattle.block_selection_bits.specs.Arrays.{Holds, headBy, headInput}
+use Rattle.block_selection_bits.specs.Arrays.{PlacesHold, headBy, headInput}
 use Rattle.block_selection_bits.proofs.PositionsLaws.{head-more, head-lt, heads-none, heads-more}
 use Rattle.block_selection_bits.proofs.positions.place_heads.Statement.{statement}
 use Rattle.block_selection_bits.proofs.positions.place_heads.Tie as tie
@@ -15,7 +15,7 @@ use Rattle.block_selection_bits.proofs.positions.place_heads.Tie as tie
 abbrev Inv-loop : tie.InvT-loop
 Inv-loop size counts heads₀ list₀ head₀ j₀ heads list head j =
     (j ≤ size) × (head ≡ headBy counts j) × (length heads ≡ length heads₀) × (heads ≡ over (listOf j (headBy counts)) heads₀)
-    × Holds (headInput counts j) list
+    × PlacesHold (headInput counts j) list
 
 abbrev μ-loop : tie.MeasureT-loop
 μ-loop size counts heads₀ list₀ head₀ j₀ heads list head j = size - j

@@ -8,13 +8,13 @@ use Rattle.lists.specs.Lists.{listOf}
 use Rattle.block_elements.specs.Bits.{storeBits}
 use Rattle.lists.proofs.CountingLaws.{one-lt}
 use Rattle.block_bits.proofs.StoreLaws.{store-none, store-step}
-use Rattle.block_selection_bits.specs.Arrays.{isCounted, chainBit}
+use Rattle.block_selection_bits.specs.Arrays.{isCounted, chainBitBy}
 use Rattle.block_selection_bits.proofs.program.store_chain.Statement.{statement}
 use Rattle.block_selection_bits.proofs.program.store_chain.Tie as tie
 
 abbrev Inv-loop : tie.InvT-loop
 Inv-loop counts list program₀ start rows i₀ program i =
-    (i ≤ rows) × (length program ≡ length program₀) × (program ≡ storeBits program₀ start (listOf i (chainBit counts list)))
+    (i ≤ rows) × (length program ≡ length program₀) × (program ≡ storeBits program₀ start (listOf i (chainBitBy counts list)))
 
 abbrev μ-loop : tie.MeasureT-loop
 μ-loop counts list program₀ start rows i₀ program i = rows - i
@@ -44,14 +44,14 @@ again c =
     let list = a .list .now in
     let i = at .loop .i in
     let small : bit .result < 2 = rw (bit .ensures) (one-lt (isCounted counts (getD list (i + 1) 0 - 1))) in
-    let stored = store-step (a .program .now) (a .start) i (chainBit counts list) (at .loop .inv .2) small (bit .ensures) in
+    let stored = store-step (a .program .now) (a .start) i (chainBitBy counts list) (at .loop .inv .2) small (bit .ensures) in
     (omega arith, store .kept .0 ∙ at .loop .inv .1, store .ensures ∙ stored)
 
 all : tie.Need-returns Inv-loop μ-loop
 all c =
     let a = c .before .before .before .before .before .args in
     let e : c .before .loop .i ≡ length (a .list .now) - 1 = omega arith in
-    c .before .loop .inv .2 ∙ ap (λ k. storeBits (a .program .now) (a .start) (listOf k (chainBit (a .counts .now) (a .list .now)))) e
+    c .before .loop .inv .2 ∙ ap (λ k. storeBits (a .program .now) (a .start) (listOf k (chainBitBy (a .counts .now) (a .list .now)))) e
 
 pub store-chain-spec : {M : Type 1} → statement M
 store-chain-spec =

@@ -9,7 +9,7 @@ use Rattle.block_elements.specs.Bits.{storeBits}
 use Rattle.block_networks.proofs.WantedLaws.{length-wantedBits}
 use Rattle.block_sizes.specs.Sizes.{levelOf}
 use Rattle.block_sizes.proofs.SizesLaws.{few-rows}
-use Rattle.block_selection_bits.specs.Arrays.{networkBits, chainBits}
+use Rattle.block_selection_bits.specs.Arrays.{networkBits, chainBitsBy}
 use Rattle.block_selection_bits.proofs.PartsLaws.{stored-behind}
 use Rattle.block_selection_bits.proofs.program.store_first.Statement.{statement}
 use Rattle.block_selection_bits.proofs.program.store_first.Tie as tie
@@ -43,7 +43,7 @@ stored c =
     let s = c .before .before .before .before .before .before .before .before .before .before .before .before in
     let a = s .args in
     let list = a .list .now in
-    let C = chainBits (a .counts .now) list in (
+    let C = chainBitsBy (a .counts .now) list in (
       ap (λ k. a .start + k + (length list - 1)) (count .ensures) ∙ add-assoc (a .start) _ (length list - 1),
       chain .ensures ∙ ap₂ (λ p k. storeBits p (a .start + k) C) (network .ensures) (count .ensures)
           ∙ stored-behind (a .program .now) (a .start) (networkBits list) C _ (length-wantedBits (levelOf (length list)) list),

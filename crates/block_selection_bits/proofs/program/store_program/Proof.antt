@@ -13,15 +13,15 @@ use Rattle.block_selection_bits.proofs.program.store_program.Statement.
 use Rattle.block_selection_bits.proofs.program.store_program.Tie as tie
 
 -- the size is that of the network, and the wanted inputs are its
-module _ (c : tie.After-selection-size) where
-  wanted-inputs : Demand (c .selection-size .result) (c .before .before .before .args .wanted .now)
-  wanted-inputs = demand (c .before .before .before .pre .0) (c .selection-size .ensures)
+module _ (c : tie.After-selection-positions) where
+  wanted-inputs : Demand (c .selection-positions .result) (c .before .before .before .args .wanted .now)
+  wanted-inputs = demand (c .before .before .before .pre .0) (c .selection-positions .ensures)
 
 for-positions : tie.Need-find-positions-requires
 for-positions c κs = (wanted-inputs (c .before .before .before), (blank, refl, blank))
 
 -- where the size was found
-abbrev sized : tie.After-find-positions → tie.After-selection-size
+abbrev sized : tie.After-find-positions → tie.After-selection-positions
 sized placed = placed .before .before .before .before
 
 front : tie.Need-array-share-prefix-list
@@ -33,13 +33,13 @@ part : tie.Need-slice-aggregate-store-first-2
 part c =
     let placed = c .before .before .before .before .before in
     let most = wanted-inputs (sized placed) .most in
-    sym (length-take-le (sized placed .selection-size .result) _ (rw (placed .find-positions .ensures .listSize) most))
+    sym (length-take-le (sized placed .selection-positions .result) _ (rw (placed .find-positions .ensures .listSize) most))
 
 for-first : tie.Need-store-first-requires
 for-first c κs =
     let placed = c .before .before .before .before .before .before in
     let found = placed .find-positions .ensures in
-    let size = sized placed .selection-size in
+    let size = sized placed .selection-positions in
     let s = sized placed .before .before .before in
     let a = s .args in
     let perm = first-perm (mapping (a .wanted .now)) (length (a .wanted .now)) (size .result) (wanted-inputs (sized placed) .few) in
@@ -54,7 +54,7 @@ for-second c κs =
     let first = behind .store-first in
     let placed = behind .before .before .before .before .before .before .before in
     let found = placed .find-positions .ensures in
-    let size = sized placed .selection-size in
+    let size = sized placed .selection-positions in
     let s = sized placed .before .before .before in
     let len = ap length (found .listed) ∙ length-listOf (size .result) _ in
     let room = second-room (s .pre .0) (size .ensures) len (first .ensures .0) in (
@@ -68,7 +68,7 @@ stored c =
     let behind = c .before .before .before .before .before .before .before .before .before .before in
     let first = behind .store-first in
     let placed = behind .before .before .before .before .before .before .before in
-    let size = sized placed .selection-size in
+    let size = sized placed .selection-positions in
     let s = sized placed .before .before .before in
     let a = s .args in
     program-whole (placed .find-positions .ensures) (wanted-inputs (sized placed) .few) (a .m) (a .n) (s .pre .0 .selected .size) (size .ensures)

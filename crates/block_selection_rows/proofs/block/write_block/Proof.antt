@@ -6,7 +6,7 @@ use Prim.Native.Nat.{ℕ}
 use lib.ListN.{length}
 use Rattle.fault.specs.Buffers.{withPart}
 use Rattle.fault.proofs.PartsLaws.{length-with}
-use Rattle.block_selection_rows.proofs.BlockLaws.{PlacesIn, places-in, first-passes, chain-room, second-passes, block-written}
+use Rattle.block_selection_rows.proofs.BlockLaws.{PlacesIn, places-in, first-network-passes, chain-room, second-passes, block-written}
 use Rattle.block_selection_rows.proofs.block.write_block.Statement.{statement}
 use Rattle.block_selection_rows.proofs.block.write_block.Tie as tie
 
@@ -17,34 +17,34 @@ chained c = c .before .before .before .before .before .before .before .before
 abbrev first : tie.After-write-chain → tie.After-write-network
 first c = c .before .before .before .before .before .before .before .before
 
-abbrev parted : tie.After-write-network → tie.After-parts-of
+abbrev parted : tie.After-write-network → tie.After-selection-parts
 parted c = c .before .before .before .before
 
-abbrev start : tie.After-parts-of → tie.Start
+abbrev start : tie.After-selection-parts → tie.Start
 start c = c .before .before .before .before
 
 -- the table's part once the chain is written, and where the parts begin in it
 abbrev chainedRows : tie.After-write-chain → List ℕ
-chainedRows c = withPart (parted (first c) .parts-of .result .chain) (first c .write-network .last .1 .1 .0) (c .write-chain .last .1 .1 .0)
+chainedRows c = withPart (parted (first c) .selection-parts .result .chain) (first c .write-network .last .1 .1 .0) (c .write-chain .last .1 .1 .0)
 
 chained-rows : (c : tie.After-write-chain) → length (chainedRows c) ≡ length (start (parted (first c)) .args .rows .now)
 chained-rows c =
-    length-with (parted (first c) .parts-of .result .chain) (first c .write-network .last .1 .1 .0) (c .write-chain .last .1 .1 .0)
+    length-with (parted (first c) .selection-parts .result .chain) (first c .write-network .last .1 .1 .0) (c .write-chain .last .1 .1 .0)
     (c .write-chain .kept .1 .1 .0)
     ∙ first c .write-network .kept .1 .1 .0
 
-first-places : (c : tie.After-write-network) → PlacesIn (parted c .parts-of .result) (length (c .write-network .last .1 .1 .0))
-first-places c = places-in (start (parted c) .pre) (parted c .parts-of .ensures) (c .write-network .kept .1 .1 .0)
+first-places : (c : tie.After-write-network) → PlacesIn (parted c .selection-parts .result) (length (c .write-network .last .1 .1 .0))
+first-places c = places-in (start (parted c) .pre) (parted c .selection-parts .ensures) (c .write-network .kept .1 .1 .0)
 
-second-places : (c : tie.After-write-chain) → PlacesIn (parted (first c) .parts-of .result) (length (chainedRows c))
-second-places c = places-in (start (parted (first c)) .pre) (parted (first c) .parts-of .ensures) (chained-rows c)
+second-places : (c : tie.After-write-chain) → PlacesIn (parted (first c) .selection-parts .result) (length (chainedRows c))
+second-places c = places-in (start (parted (first c)) .pre) (parted (first c) .selection-parts .ensures) (chained-rows c)
 
 first-fits : tie.Need-write-network-requires
 first-fits c κs =
     let parts = c .before .before .before in
     let s = start parts in
     let a = s .args in
-    first-passes (a .size) (a .next .0) (parts .parts-of .result) (a .rows .now) (a .from .now) (a .to .now) (s .pre) (parts .parts-of .ensures)
+    first-network-passes (a .size) (a .next .0) (parts .selection-parts .result) (a .rows .now) (a .from .now) (a .to .now) (s .pre) (parts .selection-parts .ensures)
 
 chain-fits : tie.Need-write-chain-requires
 chain-fits c κs =
@@ -52,7 +52,7 @@ chain-fits c κs =
     let parts = parted one in
     let s = start parts in
     let a = s .args in
-    chain-room (a .size) (a .next .0) (parts .parts-of .result) (a .rows .now) (a .from .now) (a .to .now) (s .pre) (parts .parts-of .ensures)
+    chain-room (a .size) (a .next .0) (parts .selection-parts .result) (a .rows .now) (a .from .now) (a .to .now) (s .pre) (parts .selection-parts .ensures)
     (one .write-network .last .1 .1 .0) (one .write-network .last .1 .1 .1 .1 .0) (one .write-network .ensures)
 
 second-fits : tie.Need-write-network-requires-2
@@ -62,7 +62,7 @@ second-fits c κs =
     let parts = parted one in
     let s = start parts in
     let a = s .args in
-    second-passes (a .size) (a .next .0) (parts .parts-of .result) (a .rows .now) (a .from .now) (a .to .now) (s .pre) (parts .parts-of .ensures)
+    second-passes (a .size) (a .next .0) (parts .selection-parts .result) (a .rows .now) (a .from .now) (a .to .now) (s .pre) (parts .selection-parts .ensures)
     (one .write-network .last .1 .1 .0) (one .write-network .last .1 .1 .1 .1 .0) (one .write-network .ensures)
     (two .write-chain .last .1 .1 .0) (two .write-chain .last .1 .1 .1 .0) (two .write-chain .ensures)
 
@@ -71,7 +71,7 @@ same-rows : tie.Need-same-length
 same-rows c =
     let three = c .before .before .before .before in
     let two = chained three in
-    length-with (parted (first two) .parts-of .result .second) (chainedRows two) (three .write-network2 .last .1 .1 .0) (three .write-network2 .kept .1 .1 .0)
+    length-with (parted (first two) .selection-parts .result .second) (chainedRows two) (three .write-network2 .last .1 .1 .0) (three .write-network2 .kept .1 .1 .0)
     ∙ chained-rows two
 
 same-to : tie.Need-same-length-3
@@ -85,7 +85,7 @@ written c =
     let parts = parted one in
     let s = start parts in
     let a = s .args in
-    block-written (a .size) (a .next .0) (parts .parts-of .result) (a .rows .now) (a .from .now) (a .to .now) (s .pre) (parts .parts-of .ensures)
+    block-written (a .size) (a .next .0) (parts .selection-parts .result) (a .rows .now) (a .from .now) (a .to .now) (s .pre) (parts .selection-parts .ensures)
     (one .write-network .last .1 .1 .0) (one .write-network .last .1 .1 .1 .1 .0) (one .write-network .ensures)
     (two .write-chain .last .1 .1 .0) (two .write-chain .last .1 .1 .1 .0) (two .write-chain .ensures)
     (three .write-network2 .last .1 .1 .0) (three .write-network2 .last .1 .1 .1 .1 .0) (three .write-network2 .ensures)

@@ -14,7 +14,7 @@ none : (c : tie.After-enum-told) → let a = c .before .before .before .before .
     0 ≡ selectionWriteFault (a .m) (a .n) (a .inputs .now) (a .next .0) (length (a .rows .now)) (length (a .outputs .now))
 none c = ap answerNumber (sym (c .enum-told .given .1)) ∙ c .before .before .check-selection-write .ensures
 
-passes : tie.Need-put-selection-requires
+passes : tie.Need-write-checked-selection-requires
 passes c κs = selection-write-passes _ _ _ _ _ _ (sym (none (c .before .before)))
 
 -- where one fails, its number is the answer
@@ -33,7 +33,7 @@ done : tie.Need-returns-2
 done c =
     let put = c .before .before .before .before in
     let z = none (put .before .before .before) in
-    (z, (is-filled _ _ _ _ (put .put-selection .ensures .0) z, is-filled _ _ _ _ (put .put-selection .ensures .1) z))
+    (z, (is-filled _ _ _ _ (put .write-checked-selection .ensures .0) z, is-filled _ _ _ _ (put .write-checked-selection .ensures .1) z))
 
 pub write-selection-spec : {M : Type 1} → statement M
 write-selection-spec =

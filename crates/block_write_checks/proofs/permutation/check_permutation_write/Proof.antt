@@ -9,12 +9,13 @@ use borrow.Author.Tests.{not-true, not-false, eq-eqb, ne-eqb}
 use Rattle.fault.specs.Number.{answerNumber}
 use Rattle.fault.specs.Checks.{andThen, listFault}
 use Rattle.fault.proofs.ChecksLaws.{first-refuses, second-answers}
-use Rattle.block_sizes.specs.Sizes.{maxSize, maxLevel, sizeAllowed}
+use Rattle.block_sizes.specs.Sizes.{maxSize, maxLevel, sizeAllowed, levelOf}
 use Rattle.block_sizes.proofs.SizesLaws.{size-is, few-rows}
 use Rattle.block_write_checks.specs.Wires.{wiresFault, buffersFault}
-use Rattle.block_write_checks.specs.WriteChecks.{rowsOf, writeFault}
+use Rattle.block_write_checks.specs.WriteChecks.{writeFault}
 use Rattle.block_write_checks.proofs.permutation.check_permutation_write.Statement.{statement}
 use Rattle.block_write_checks.proofs.permutation.check_permutation_write.Tie as tie
+use Rattle.block_networks.specs.Permutation.{permutationCount}
 
 size : tie.Need-returns
 unfolding writeFault
@@ -32,7 +33,7 @@ count c =
     rw (allowed (c .before), ne-eqb (length (a .inputs .now)) (a .n) other)
 
 -- the rows are counted
-counted : (c : tie.After-permutation-count) → c .permutation-count .result ≡ rowsOf (c .before .before .before .before .before .args .n)
+counted : (c : tie.After-permutation-count) → c .permutation-count .result ≡ permutationCount (levelOf (c .before .before .before .before .before .args .n))
 counted c = c .permutation-count .ensures
 
 few : (c : tie.After-permutation-count) → c .permutation-count .result ≤ maxLevel * maxSize

@@ -1,4 +1,4 @@
--- `block_selection_rows::block::parts_of` meets its contract: the chain follows the first P, and the second P the chain. Assumes nothing.
+-- `block_selection_rows::block::selection_parts` meets its contract: the chain follows the first P, and the second P the chain. Assumes nothing.
 use native.Mathlib.Omega.{arith}
 use Prim.Native.Nat.{_+_, _-_, _*_, _^_, _≤_, _<_}
 use borrow.Author.Needs.{needs}
@@ -6,8 +6,8 @@ use Rattle.block_networks.specs.Selection.{wholeCount, wholeWires}
 use Rattle.block_sizes.specs.Sizes.{maxLevel, maxSize, levelOf}
 use Rattle.block_sizes.proofs.SizesLaws.{few-rows}
 use Rattle.block_selection_rows.proofs.BlockLaws.{wire-later}
-use Rattle.block_selection_rows.proofs.block.parts_of.Statement.{statement}
-use Rattle.block_selection_rows.proofs.block.parts_of.Tie as tie
+use Rattle.block_selection_rows.proofs.block.selection_parts.Statement.{statement}
+use Rattle.block_selection_rows.proofs.block.selection_parts.Tie as tie
 
 -- P has few rows
 few : (c : tie.After-permutation-count) → c .permutation-count .result ≤ maxLevel * maxSize
@@ -35,8 +35,8 @@ parts c =
       whole = omega arith;
     }
 
-pub parts-of-spec : {M : Type 1} → statement M
-parts-of-spec =
+pub selection-parts-spec : {M : Type 1} → statement M
+selection-parts-spec =
     tie.close
     (tie.spec
     (λ c κs. search needs) (λ c. let f = few c in omega arith) (λ c. search needs) (λ c κs. search needs)

@@ -1,4 +1,4 @@
--- `block_selection_rows::writing::put_selection` meets its contract: the block on the input wires and zeros, and its first n outputs. Assumes nothing.
+-- `block_selection_rows::writing::write_checked_selection` meets its contract: the block on the input wires and zeros, and its first n outputs. Assumes nothing.
 use native.Mathlib.Omega.{arith}
 use mathlib.Core.Path.{_≡_, refl, sym}
 use lib.ListN.{take}
@@ -7,22 +7,22 @@ use lib.Seq.{length-take-le}
 use Rattle.fault.specs.Buffers.{over}
 use Rattle.block_networks.specs.Selection.{selectionLevel}
 use Rattle.block_sizes.specs.Sizes.{maxSize}
-use Rattle.block_sizes.proofs.SizesLaws.{power-small, side-level}
-use Rattle.block_selection_rows.proofs.SelectionWriteLaws.{zeroWires, block-room, rows-put, outputs-put}
-use Rattle.block_selection_rows.proofs.writing.put_selection.Statement.{statement}
-use Rattle.block_selection_rows.proofs.writing.put_selection.Tie as tie
+use Rattle.block_sizes.proofs.SizesLaws.{power-small, selection-level-small}
+use Rattle.block_selection_rows.proofs.SelectionWriteLaws.{zeroWires, block-room, selection-rows-put, selection-outputs-put}
+use Rattle.block_selection_rows.proofs.writing.write_checked_selection.Statement.{statement}
+use Rattle.block_selection_rows.proofs.writing.write_checked_selection.Tie as tie
 
 small : tie.Need-cast-size
 small c =
     let start = c .before .before .before .before in
     let a = start .args in
-    omega (arith, c .selection-size .ensures, power-small (selectionLevel (a .m) (a .n)) (side-level (start .pre .sides)))
+    omega (arith, c .selection-positions .ensures, power-small (selectionLevel (a .m) (a .n)) (selection-level-small (start .pre .sides)))
 
 -- the way back from the block to the copied input wires, and to the block's size
 abbrev copied : tie.After-to → tie.After-copy-wires
 copied c = c .before .before .before .before
 
-abbrev sized : tie.After-copy-wires → tie.After-selection-size
+abbrev sized : tie.After-copy-wires → tie.After-selection-positions
 sized c = c .before .before
 
 -- the input wires stand before zeros
@@ -36,7 +36,7 @@ room c κs =
     let size = sized copy in
     let start = size .before .before .before .before in
     let a = start .args in
-    block-room (a .m) (a .n) (a .inputs .now) (a .next .0) _ _ (size .selection-size .result) _ (start .pre) (size .selection-size .ensures)
+    block-room (a .m) (a .n) (a .inputs .now) (a .next .0) _ _ (size .selection-positions .result) _ (start .pre) (size .selection-positions .ensures)
     (loaded copy)
 
 outputs-part : tie.Need-slice-aggregate-copy-wires-2
@@ -54,14 +54,14 @@ written c =
     let size = sized copy in
     let start = size .before .before .before .before in
     let a = start .args in (
-      rows-put (a .m) (a .n) (a .inputs .now) (a .next .0) _ _ (size .selection-size .result) _ (start .pre) (size .selection-size .ensures)
+      selection-rows-put (a .m) (a .n) (a .inputs .now) (a .next .0) _ _ (size .selection-positions .result) _ (start .pre) (size .selection-positions .ensures)
           (loaded copy) _ _ (block .write-block .ensures .0),
-      outputs-put (a .m) (a .n) (a .inputs .now) (a .next .0) _ _ (size .selection-size .result) _ (start .pre) (size .selection-size .ensures)
+      selection-outputs-put (a .m) (a .n) (a .inputs .now) (a .next .0) _ _ (size .selection-positions .result) _ (start .pre) (size .selection-positions .ensures)
           (loaded copy) _ _ (a .outputs .now) _ refl (block .write-block .ensures .1) (out .copy-wires2 .ensures),
     )
 
-pub put-selection-spec : {M : Type 1} → statement M
-put-selection-spec =
+pub write-checked-selection-spec : {M : Type 1} → statement M
+write-checked-selection-spec =
     tie.close
     (tie.spec
     (λ c κs. search needs) small (λ c. search needs) (λ c κs. search needs) (λ c. search needs) (λ c. search needs) room (λ c. search needs) outputs-part
