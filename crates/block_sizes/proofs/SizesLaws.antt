@@ -110,3 +110,8 @@ selection-counts m n one size lm ln e f =
       count = rw (e, f);
       wires = rw (e, f);
     }
+
+-- a row makes a wire or two
+pub rows-make : (m n : ℕ) → selectionCount m n ≤ selectionWires m n
+unfolding selectionCount selectionWires wholeCount wholeWires
+rows-make m n = omega arith

@@ -9,7 +9,7 @@ use Rattle.fault.proofs.ChecksLaws.{unless-zero, and-then-zero, list-faultless}
 use Rattle.powers.proofs.PowersLaws.{ceilLog-power}
 use Rattle.block_elements.specs.Rows.{stride}
 use Rattle.block_networks.specs.Permutation.{permutationCount}
-use Rattle.block_networks.specs.Selection.{wholeCount, wholeWires, selectionCount, selectionWires}
+use Rattle.block_networks.specs.Selection.{selectionCount, selectionWires}
 use Rattle.block_sizes.specs.Sizes.{maxLevel, levelOf, SelectionSizes}
 use Rattle.block_sizes.proofs.SizesLaws.{size-is, power-allowed, selection-sizes-allowed}
 use Rattle.elements.specs.Elements.{maxWires}
@@ -90,11 +90,6 @@ module _ (m n : ℕ) (ins : List ℕ) (next rows outputs : ℕ) where
   selection-write-succeeds sides inputs made wires rowRoom outputRoom =
       simp (and-then-zero, selection-sizes-allowed, list-faultless, wires-faultless, buffers-faultless)
       (sides, (inputs, (record { given = made; new = wires }, record { rowRoom = rowRoom; outputRoom = outputRoom })))
-
--- a row makes a wire or two
-pub rows-make : (m n : ℕ) → selectionCount m n ≤ selectionWires m n
-unfolding selectionCount selectionWires wholeCount wholeWires
-rows-make m n = omega arith
 
 -- wire 0 is made
 pub some-wire : {m n : ℕ} {ins : List ℕ} {next rows outputs : ℕ} → SelectionWritePasses m n ins next rows outputs → 0 < next

@@ -5,3 +5,4 @@ pub use Rattle.block_program_checks.specs.Checks.{SelectionPasses, programFault
 pub use Rattle.block_selection_bits.specs.ProgramCalls.{selectionProgramAtResult, selectionProgramResult}
 pub use Rattle.block_selection_rows.specs.WriteCalls.{selectionWrittenOutputs, selectionWrittenRows}
 pub use Rattle.block_write_checks.specs.WriteChecks.{SelectionWritePasses, selectionWriteFault, writeFault}
+pub use Rattle.block_counts.specs.BlockCounting.{permutationCounting, selectionCounting}

@@ -5,6 +5,8 @@ pub use block_bits::fill_bytes;
 pub use block_bits::read_bit;
 pub use block_bits::smaller;
 pub use block_bits::store_bit;
+pub use block_counts::count_permutation;
+pub use block_counts::count_selection;
 pub use block_permutation_bits::program_permutation;
 pub use block_permutation_bits::program_permutation_at;
 pub use block_permutation_rows::write_permutation;

@@ -2,12 +2,13 @@
 // 0 where it was done. A slice is a pointer and a length there. A refusal writes through no pointer.
 ghost use mathlib.Core.Path.{_≡_};
 ghost use lib.ListN.{length};
+ghost use Rattle.elements.specs.Elements.{countOutcome};
 ghost use Rattle.plan.specs.Faults.{planFault};
 ghost use Rattle.plan_evaluation_checks.specs.EvaluationChecks.{evaluateFault};
 ghost use Rattle.plan_evaluation.specs.Evaluation.{evaluateResult};
 ghost use Rattle.plan_reading.specs.PlanFile.{planRead};
 ghost use Rattle.blocks.specs.Calls.{writeFault, selectionWriteFault, writtenRows, writtenOutputs, selectionWrittenRows, selectionWrittenOutputs};
-ghost use Rattle.blocks.specs.Calls.{programFault, selectionProgramFault, programResult, selectionProgramResult};
+ghost use Rattle.blocks.specs.Calls.{permutationCounting, selectionCounting, programFault, selectionProgramFault, programResult, selectionProgramResult};
 ghost use Rattle.fabric.specs.Fabrics.{counting, fabricResult, fabricFault, planProgramFault, planProgramResult, runFault, runWork, runResult};
 ghost use Rattle.capi.specs.Exports.{exportOutcome, countsOf};
 use elements::CountAnswer;
@@ -65,6 +66,51 @@ pub extern "C" fn mkd_plan_evaluate(plan: Plan, row: &[u8], result: &mut [u8]) -
     plan_evaluation::evaluate(plan, row, result).number()
 }
 
+// The header's struct mkd_counts: number 0 where the block or the fabric was counted, its counts all zero where not.
+#[repr(C)]
+pub struct Counted {
+    pub number: u32,
+    pub rows: u32,
+    pub wires: u32,
+    pub bits: u32,
+}
+
+// The answer of counting as the header's struct.
+fn export_counts(answer: CountAnswer) -> Counted
+    ensures { λ r. ⌜ countsOf r ≡ countOutcome answer ⌝ }
+{
+    match answer {
+        CountAnswer::Counted(c) => Counted {
+            number: 0,
+            rows: c.rows,
+            wires: c.wires,
+            bits: c.bits,
+        },
+        CountAnswer::Refused(f) => Counted {
+            number: f.number(),
+            rows: 0,
+            wires: 0,
+            bits: 0,
+        },
+    }
+}
+
+// The rows, wires and program bits of the permutation network P(n).
+#[no_mangle]
+pub extern "C" fn mkd_permutation_count(n: u32) -> Counted
+    ensures { λ r. ⌜ countsOf r ≡ permutationCounting n ⌝ }
+{
+    export_counts(blocks::count_permutation(n))
+}
+
+// The rows, wires and program bits of the selection network S(m, n).
+#[no_mangle]
+pub extern "C" fn mkd_selection_count(m: u32, n: u32) -> Counted
+    ensures { λ r. ⌜ countsOf r ≡ selectionCounting m n ⌝ }
+{
+    export_counts(blocks::count_selection(m, n))
+}
+
 // Writes the permutation network P(n): its rows and its output wires.
 #[no_mangle]
 pub extern "C" fn mkd_permutation_write(
@@ -116,34 +162,12 @@ pub extern "C" fn mkd_selection_program(m: u32, n: u32, wanted: &[u16], program:
     blocks::program_selection(m, n, wanted, program).number()
 }
 
-// The header's struct mkd_counts: number 0 where the fabric was counted, its counts all zero where not.
-#[repr(C)]
-pub struct Counted {
-    pub number: u32,
-    pub rows: u32,
-    pub wires: u32,
-    pub bits: u32,
-}
-
 // The rows, wires and program bits of the fabric of u inputs, k gates and v outputs.
 #[no_mangle]
 pub extern "C" fn mkd_count(u: u32, k: u32, v: u32) -> Counted
     ensures { λ r. ⌜ countsOf r ≡ counting u k v ⌝ }
 {
-    match fabric::count_fabric(u, k, v) {
-        CountAnswer::Counted(c) => Counted {
-            number: 0,
-            rows: c.rows,
-            wires: c.wires,
-            bits: c.bits,
-        },
-        CountAnswer::Refused(f) => Counted {
-            number: f.number(),
-            rows: 0,
-            wires: 0,
-            bits: 0,
-        },
-    }
+    export_counts(fabric::count_fabric(u, k, v))
 }
 
 // The table of that fabric.

@@ -1,0 +1,2 @@
+-- what counting P and S answers
+pub mod BlockCounting
