@@ -65,7 +65,7 @@ extern "C" {
 
 /*
  * The rows, wires and program bits of P(n), of S(m, n), and of the fabric of u, k and v, which
- * mkd_count gives at run time. The wires of P and S are those that their rows make: after a block
+ * mkd_permutation_count, mkd_selection_count and mkd_count give at run time. The wires of P and S are those that their rows make: after a block
  * the next unmade wire is as many higher. The wires of a fabric are all, with wire 0 and the
  * inputs.
  *
@@ -194,6 +194,30 @@ uint32_t mkd_plan_fault(struct mkd_plan plan);
 uint32_t mkd_plan_evaluate(struct mkd_plan plan, const uint8_t *row, size_t row_len,
                            uint8_t *result, size_t result_len);
 
+/* The answer of a counting: of P(n), of S(m, n), or of the fabric of u, k and v. */
+struct mkd_counts {
+    uint32_t number; /* 0, or the refusal */
+    uint32_t rows;
+    uint32_t wires; /* of a block those that its rows make; of a fabric all, with wire 0 and the inputs */
+    uint32_t bits;  /* program bits */
+};
+
+/*
+ * Counts the rows, wires and program bits of P(n): those of the macros MKD_PERMUTATION_ROWS,
+ * MKD_PERMUTATION_WIRES and MKD_PERMUTATION_BITS.
+ *
+ * Refusal: 2 if n is not a power of two from 1 to 512. Refused: rows, wires and bits are 0.
+ */
+struct mkd_counts mkd_permutation_count(uint32_t n);
+
+/*
+ * Counts those of S(m, n): MKD_SELECTION_ROWS, MKD_SELECTION_WIRES and MKD_SELECTION_BITS.
+ *
+ * Refusals, in this order: 2 if m is not 1 to 512; 4 if n is not 1 to 512. Refused: rows, wires and
+ * bits are 0.
+ */
+struct mkd_counts mkd_selection_count(uint32_t m, uint32_t n);
+
 /*
  * Writes P(n), the permutation network of n inputs and outputs, as n log n - n + 1 rows, log to
  * base 2. A row is three entries: kind 1 (X), left wire, right wire. It makes two wires, the next
@@ -287,14 +311,6 @@ uint32_t mkd_selection_write(uint32_t m, uint32_t n, const uint16_t *inputs, siz
  */
 uint32_t mkd_selection_program(uint32_t m, uint32_t n, const uint16_t *wanted, size_t wanted_len,
                                uint8_t *program, size_t program_len);
-
-/* The answer of a counting: of the fabric of u, k and v. */
-struct mkd_counts {
-    uint32_t number; /* 0, or the refusal */
-    uint32_t rows;
-    uint32_t wires; /* all: wire 0, the inputs, and those that the rows make */
-    uint32_t bits;  /* program bits */
-};
 
 /*
  * Counts the rows, wires and program bits of the fabric of u inputs, k gates and v outputs. They

@@ -27,13 +27,13 @@ pub struct BlockSize {
 }
 
 impl BlockSize {
-    /// Two wires a row of P.
-    const fn of_permutation(n: u32) -> BlockSize {
-        let rows = n * n.ilog2() + 1 - n;
-        BlockSize {
-            rows,
-            wires: 2 * rows,
-        }
+    /// What counting answered.
+    fn of(counts: raw::Counts) -> Result<BlockSize, Fault> {
+        answer(counts.number)?;
+        Ok(BlockSize {
+            rows: counts.rows,
+            wires: counts.wires,
+        })
     }
 
     /// Entries of the rows: three each.
@@ -60,11 +60,8 @@ impl BlockSize {
 /// assert_eq!(count_permutation(3), Err(Fault::Inputs));
 /// # Ok::<(), Fault>(())
 /// ```
-pub const fn count_permutation(n: u32) -> Result<BlockSize, Fault> {
-    if !n.is_power_of_two() || n > MAX_SIZE {
-        return Err(Fault::Inputs);
-    }
-    Ok(BlockSize::of_permutation(n))
+pub fn count_permutation(n: u32) -> Result<BlockSize, Fault> {
+    BlockSize::of(raw::count_permutation(n))
 }
 
 /// Writes P(n) on these input wires: its rows, three entries each, to the first of `rows`, and its
@@ -162,20 +159,8 @@ pub fn program_permutation(n: u32, wanted: &[u16], program: &mut [u8]) -> Result
 /// assert_eq!(count_selection(512, 513), Err(Fault::Outputs));
 /// # Ok::<(), Fault>(())
 /// ```
-pub const fn count_selection(m: u32, n: u32) -> Result<BlockSize, Fault> {
-    if m == 0 || m > MAX_SIZE {
-        return Err(Fault::Inputs);
-    }
-    if n == 0 || n > MAX_SIZE {
-        return Err(Fault::Outputs);
-    }
-    let positions = if m > n { m } else { n }.next_power_of_two();
-    let network = BlockSize::of_permutation(positions);
-    let chain = positions - 1;
-    Ok(BlockSize {
-        rows: 2 * network.rows + chain,
-        wires: 2 * network.wires + chain,
-    })
+pub fn count_selection(m: u32, n: u32) -> Result<BlockSize, Fault> {
+    BlockSize::of(raw::count_selection(m, n))
 }
 
 /// Writes S(m, n) on these input wires: its rows, three entries each, to the first of `rows`, and

@@ -14,7 +14,7 @@ pub struct Read {
     pub plan: Plan,
 }
 
-/// `struct mkd_counts`: number 0 with a fabric's counts, or a refusal with counts 0.
+/// `struct mkd_counts`: number 0 with a block's or a fabric's counts, or a refusal with counts 0.
 #[repr(C)]
 #[derive(Clone, Copy, Debug, PartialEq, Eq)]
 pub struct Counts {
@@ -34,6 +34,7 @@ extern "C" {
         result: *mut u8,
         result_len: usize,
     ) -> u32;
+    fn mkd_permutation_count(n: u32) -> Counts;
     pub(crate) fn mkd_permutation_write(
         n: u32,
         inputs: *const u16,
@@ -51,6 +52,7 @@ extern "C" {
         program: *mut u8,
         program_len: usize,
     ) -> u32;
+    fn mkd_selection_count(m: u32, n: u32) -> Counts;
     pub(crate) fn mkd_selection_write(
         m: u32,
         n: u32,
@@ -91,6 +93,18 @@ extern "C" {
 pub fn plan_read(file: &[u8]) -> Read {
     // SAFETY: the pointer and length are a slice's; the call only reads it and keeps no pointer.
     unsafe { mkd_plan_read(file.as_ptr(), file.len()) }
+}
+
+/// `mkd_permutation_count` of a size.
+pub fn count_permutation(n: u32) -> Counts {
+    // SAFETY: all goes by value, and every value is allowed.
+    unsafe { mkd_permutation_count(n) }
+}
+
+/// `mkd_selection_count` of two sizes.
+pub fn count_selection(m: u32, n: u32) -> Counts {
+    // SAFETY: all goes by value, and every value is allowed.
+    unsafe { mkd_selection_count(m, n) }
 }
 
 /// `mkd_count` of three counts.

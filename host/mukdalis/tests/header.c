@@ -88,6 +88,25 @@ static int selections_fail(void)
     return 0;
 }
 
+/* The counts of P and of S, and their refusals. */
+static int counts_fail(void)
+{
+    const struct mkd_counts p = mkd_permutation_count(4);
+    const struct mkd_counts s = mkd_selection_count(1, 2);
+    const struct mkd_counts no_p = mkd_permutation_count(3);
+    const struct mkd_counts no_s = mkd_selection_count(512, 513);
+
+    if (p.number || p.rows != 5 || p.wires != 10 || p.bits != 5)
+        return fails("the counts of P");
+    if (s.number || s.rows != 3 || s.wires != 5 || s.bits != 3)
+        return fails("the counts of S");
+    if (no_p.number != MKD_INPUTS || no_p.rows || no_p.wires || no_p.bits)
+        return fails("no size of P");
+    if (no_s.number != MKD_OUTPUTS || no_s.rows || no_s.wires || no_s.bits)
+        return fails("no size of S");
+    return 0;
+}
+
 /* The fabric (1, 1, 1), and its run with the program of NOT. */
 static int fabrics_fail(void)
 {
@@ -166,7 +185,8 @@ static void print_faults(void)
 
 int main(void)
 {
-    if (plans_fail() || permutations_fail() || selections_fail() || fabrics_fail())
+    if (plans_fail() || counts_fail() || permutations_fail() || selections_fail() ||
+        fabrics_fail())
         return 1;
     print_layout();
     print_faults();

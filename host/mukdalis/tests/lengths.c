@@ -66,7 +66,11 @@ static int permutation_fails(uint32_t n)
     const size_t outputs_len = MKD_OUTPUTS_LEN(n);
     const size_t program_len = MKD_PROGRAM_LEN(MKD_PERMUTATION_BITS(n));
     const uint32_t next = MKD_LAST_WIRE + 1 - MKD_PERMUTATION_WIRES(n);
+    const struct mkd_counts counts = mkd_permutation_count(n);
 
+    if (counts.number || counts.rows != MKD_PERMUTATION_ROWS(n) ||
+        counts.wires != MKD_PERMUTATION_WIRES(n) || counts.bits != MKD_PERMUTATION_BITS(n))
+        return fails("the counts of P");
     if (mkd_permutation_write(n, zeros, n, next, rows, rows_len, outputs, outputs_len) ||
         mkd_permutation_program(n, rising, n, program, program_len))
         return fails("the stated lengths of P");
@@ -97,7 +101,11 @@ static int selection_fails(uint32_t m, uint32_t n)
     const size_t outputs_len = MKD_OUTPUTS_LEN(n);
     const size_t program_len = MKD_PROGRAM_LEN(MKD_SELECTION_BITS(m, n));
     const uint32_t next = MKD_LAST_WIRE + 1 - MKD_SELECTION_WIRES(m, n);
+    const struct mkd_counts counts = mkd_selection_count(m, n);
 
+    if (counts.number || counts.rows != MKD_SELECTION_ROWS(m, n) ||
+        counts.wires != MKD_SELECTION_WIRES(m, n) || counts.bits != MKD_SELECTION_BITS(m, n))
+        return fails("the counts of S");
     if (mkd_selection_write(m, n, zeros, m, next, rows, rows_len, outputs, outputs_len) ||
         mkd_selection_program(m, n, ones, n, program, program_len))
         return fails("the stated lengths of S");

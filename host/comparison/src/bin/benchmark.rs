@@ -91,19 +91,19 @@ enum Call {
 type Arrays = (usize, &'static str);
 
 /// A bit for each wire.
-const EVALUATION: Arrays = (320, "crates/evaluation/src/evaluation.rt");
+const EVALUATION: Arrays = (320, "crates/plan_evaluation/src/evaluation.rt");
 /// Wires: the inputs, the pins, the gates.
 const FABRIC: Arrays = (1_664, "crates/fabric_rows/src/writing.rt");
 /// Wires: the outputs.
-const OUTPUTS: Arrays = (128, "crates/fabric_selections/src/lib.rt");
+const OUTPUTS: Arrays = (128, "crates/fabric_parts/src/selections.rt");
 /// What feeds a network of S, and what it gave.
-const SELECTION: Arrays = (2_048, "crates/selection_rows/src/writing.rt");
+const SELECTION: Arrays = (2_048, "crates/block_selection_rows/src/writing.rt");
 /// Operands and tables of the gates, and wanted inputs.
 const GATES: Arrays = (2_560, "crates/fabric_bits/src/programming.rt");
 /// S's counts, heads and wanted list.
-const POSITIONS: Arrays = (3_072, "crates/selection_bits/src/program.rt");
+const POSITIONS: Arrays = (3_072, "crates/block_selection_bits/src/program.rt");
 /// P's mapping, its inverse and the marks.
-const MAPPING: Arrays = (2_560, "crates/permutation_bits/src/programming.rt");
+const MAPPING: Arrays = (2_560, "crates/block_permutation_bits/src/programming.rt");
 
 impl Call {
     const OF_PLANS: [Call; 5] = [
