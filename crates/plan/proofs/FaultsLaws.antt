@@ -9,7 +9,7 @@ use Rattle.fault.proofs.ChecksLaws.{unless-zero, and-then-zero, first-of-zero}
 use Rattle.plan.specs.declared.record.Gate.{Gate}
 use Rattle.plan.specs.declared.record.Plan.{Plan}
 use Rattle.plan.specs.Record.{maxInputs, maxGates, maxOutputs, gateAt, outputAt, gateWire}
-use Rattle.plan.specs.Rules.{countAllowed, operandAllowed, tableAllowed, sourceAllowed}
+use Rattle.plan.specs.Rules.{countAllowed, operandAllowed, maxTable, tableAllowed, sourceAllowed}
 use Rattle.plan.proofs.RulesLaws.{count-bounds, operand-bounds, table-bound, source-bounds}
 use Rattle.plan.specs.Faults.{countsFault, gateFault, outputFault, planFault, Accepted, CountsWithin}
 
@@ -48,7 +48,7 @@ pub record GateWithin (own : ℕ) (g : Gate) : Type 0 where
   pub first : g .first .0 < own
   pub someSecond : 1 ≤ g .second .0
   pub second : g .second .0 < own
-  pub table : g .table ≤ 15
+  pub table : g .table ≤ maxTable
 
 pub record OutputWithin (u k w : ℕ) : Type 0 where
   pub above : u < w

@@ -6,6 +6,10 @@ use Rattle.plan.specs.declared.record.PlanWire.{PlanWire}
 use Rattle.plan.specs.declared.record.Gate.{Gate}
 use Rattle.plan.specs.declared.record.Plan.{Plan}
 
+-- how many numbers two bytes hold: a wire of a plan is one of them
+abbrev pub wordNumbers : ℕ
+wordNumbers = 65536
+
 -- the limits, which belong to the record's type
 abbrev pub maxInputs : ℕ
 maxInputs = 64

@@ -1,7 +1,11 @@
 // What a count, a map byte, an operand, a table and an output may be: one definition each, for reading and for a plan in memory.
 ghost use mathlib.Core.Path.{_≡_};
 ghost use Rattle.plan.specs.Rules.{countAllowed, mapAllowed, operandAllowed, tableAllowed, sourceAllowed};
+use crate::record::Gate;
 use crate::record::PlanWire;
+
+// The map byte in which all three map bits stand.
+const MAX_MAP: u8 = 7;
 
 // Whether there is at least one, and no more than the limit.
 pub fn count_allowed(count: u32, limit: usize) -> bool
@@ -17,7 +21,7 @@ pub fn count_allowed(count: u32, limit: usize) -> bool
 pub fn map_allowed(map: u8) -> bool
     ensures { λ r. ⌜ r ≡ mapAllowed map ⌝ }
 {
-    map <= 7
+    map <= MAX_MAP
 }
 
 // Whether the wire may be an operand of the gate whose own wire is own.
@@ -34,7 +38,7 @@ pub fn operand_allowed(own: PlanWire, wire: PlanWire) -> bool
 pub fn table_allowed(table: u16) -> bool
     ensures { λ r. ⌜ r ≡ tableAllowed table ⌝ }
 {
-    table <= 15
+    table <= Gate::MAX_TABLE
 }
 
 // Whether the wire is a gate's, in a plan with so many inputs and gates.

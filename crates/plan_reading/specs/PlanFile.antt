@@ -23,9 +23,13 @@ outputStep u k = outputField u k >>= λ w. pure (wire w)
 abbrev pub outputSteps : ℕ → ℕ → ℕ → Step (List PlanWire)
 outputSteps u k v = inOrder (λ _. outputStep u k) v
 
+-- the bytes of u, k and v
+abbrev pub headerBytes : ℕ
+headerBytes = 6
+
 -- 1: a file below 6 bytes, at offset 0
 unfoldable pub notStub : Step Unit
-notStub s at = cond (ltb (length s) 6) (refuse Fault.Stub 0) (got tt at)
+notStub s at = cond (ltb (length s) headerBytes) (refuse Fault.Stub 0) (got tt at)
 
 -- 10: bytes after the last output, at the first of them
 unfoldable pub atEnd : Step Unit

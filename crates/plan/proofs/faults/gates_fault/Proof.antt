@@ -8,7 +8,7 @@ use borrow.Author.Needs.{needs}
 use Rattle.fault.specs.Number.{answerNumber}
 use Rattle.fault.specs.Checks.{firstOf}
 use Rattle.fault.proofs.ChecksLaws.{next-passes, first-fails, number-positive}
-use Rattle.plan.specs.Record.{gateAt, gateWire}
+use Rattle.plan.specs.Record.{wordNumbers, gateAt, gateWire}
 use Rattle.plan.proofs.RecordLaws.{wire-fits}
 use Rattle.plan.specs.Faults.{gateFault, gatesFault, CountsWithin}
 use Rattle.plan.proofs.faults.gates_fault.Statement.{statement}
@@ -21,7 +21,7 @@ abbrev μ-loop : tie.MeasureT-loop
 μ-loop plan inputs count i₀ i = count - i
 
 -- gate i's own wire, where the plan has more gates
-own : {u k v i : ℕ} → CountsWithin u k v → i < k → gateWire u i % 65536 ≡ gateWire u i
+own : {u k v i : ℕ} → CountsWithin u k v → i < k → gateWire u i % wordNumbers ≡ gateWire u i
 own W l = wire-fits (W .inputs) (lt-of-lt-of-le l (W .gates))
 
 holds : tie.Need-loop-holds Inv-loop μ-loop
