@@ -5,9 +5,8 @@ use Prim.Native.Nat.{ℕ, _%_, _≤_, _<_, _-_}
 use native.Mathlib.Nat.{lt-of-lt-of-le}
 use native.Mathlib.Numerals.{add-one}
 use borrow.Author.Needs.{needs}
-use Rattle.fault.specs.Number.{answerNumber}
 use Rattle.fault.specs.Checks.{firstOf}
-use Rattle.fault.proofs.ChecksLaws.{next-passes, first-fails, number-positive}
+use Rattle.fault.proofs.ChecksLaws.{next-passes, first-fails, number-positive, answer-passes, answer-refuses}
 use Rattle.plan.specs.Record.{wordNumbers, gateAt, gateWire}
 use Rattle.plan.proofs.RecordLaws.{wire-fits}
 use Rattle.plan.specs.Faults.{gateFault, gatesFault, CountsWithin}
@@ -34,7 +33,7 @@ found c =
     let loop = met .before .before .before .before .loop in
     let s = met .before .before .before .before .before in
     let e =
-    ap answerNumber (sym (c .before .f .given .1)) ∙ met .gate-fault .ensures
+    answer-refuses (met .gate-fault .ensures) (c .before .f .given .1)
     ∙ ap (λ w. gateFault w (gateAt (s .args .t1) (loop .i))) (met .before .gate-wire .ensures ∙ own (s .pre) (met .before .before .before .loop-test .taken)) in
     first-fails _ _ (loop .i) _ (omega arith) (loop .inv .1) e (number-positive (c .before .f .given .0 .0))
 
@@ -44,7 +43,7 @@ again c =
     let loop = met .before .before .before .before .loop in
     let s = met .before .before .before .before .before in
     let e =
-    ap answerNumber (sym (c .enum-told .given .1)) ∙ met .gate-fault .ensures
+    answer-passes (met .gate-fault .ensures) (c .enum-told .given .1)
     ∙ ap (λ w. gateFault w (gateAt (s .args .t1) (loop .i))) (met .before .gate-wire .ensures ∙ own (s .pre) (met .before .before .before .loop-test .taken)) in
     (omega arith, rw (add-one (loop .i)) (next-passes _ (loop .i) (loop .inv .1) (sym e)))
 
