@@ -115,6 +115,7 @@ pub second-answers : (m a b : ℕ) → 0 ≡ a → m ≡ b → m ≡ andThen a b
 second-answers m a b z e = z then e
 
 module _ (check : ℕ → ℕ) where
+  -- the first n + 1 checks pass where the first n do and the next one does
   pub next-passes : (n : ℕ) → firstOf check n ≡ 0 → check n ≡ 0 → firstOf check (suc n) ≡ 0
   unfolding firstOf
   next-passes n h e = rw h e
@@ -137,6 +138,7 @@ module _ (check : ℕ → ℕ) where
       let one : firstOf check (suc n) ≡ check n = rw z in
       e ∙ sym one ∙ sym (still-first k (suc n) h (rw one (rw e at p)))
 
+-- a list passes exactly if it has the length m
 pub list-faultless : (m : ℕ) (list : List ℕ) → (listFault m list ≡ 0) ↔ (length list ≡ m)
 unfolding listFault
 list-faultless m list = (

@@ -7,7 +7,7 @@ use crate::record::PlanWire;
 // The map byte in which all three map bits stand.
 const MAX_MAP: u8 = 7;
 
-// Whether there is at least one, and no more than the limit.
+// Whether count is from 1 to limit.
 pub fn count_allowed(count: u32, limit: usize) -> bool
     ensures { λ r. ⌜ r ≡ countAllowed limit count ⌝ }
 {
@@ -41,7 +41,7 @@ pub fn table_allowed(table: u16) -> bool
     table <= Gate::MAX_TABLE
 }
 
-// Whether the wire is a gate's, in a plan with so many inputs and gates.
+// Whether the wire is a gate's, in a plan with these numbers of inputs and gates.
 pub fn source_allowed(inputs: u16, gates: u16, wire: PlanWire) -> bool
     ensures { λ r. ⌜ r ≡ sourceAllowed inputs gates (wire .0) ⌝ }
 {

@@ -13,15 +13,18 @@ use Rattle.plan_fields.specs.Parsing.{got, refused, refuse, Step, field,
 
 -- v is the field's value, and r whether it is allowed
 module _ (width : ℕ) (value : List ℕ → ℕ → ℕ) (allowed : ℕ → Bool) (f : Fault) (s : List ℕ) (at : ℕ) where
+  -- the file ends inside or before the field
   pub field-cut : length s - at < width → refuse Fault.Cut at ≡ field width value allowed f s at
   unfolding field
   field-cut h = rw (lt-ltb (length s - at) width h)
 
+  -- the value is allowed
   pub field-got : {v : ℕ} {r : Bool} → v ≡ value s at → r ≡ allowed v → width ≤ length s - at → r ≡ true
       → got v (at + width) ≡ field width value allowed f s at
   unfolding field
   field-got e a h t = rw (le-ltb (length s - at) width h, ← e, ← a, t)
 
+  -- the value is not allowed
   pub field-bad : {v : ℕ} {r : Bool} → v ≡ value s at → r ≡ allowed v → width ≤ length s - at → r ≡ false
       → refuse f at ≡ field width value allowed f s at
   unfolding field
@@ -45,6 +48,7 @@ module _ {A : Type 0} (item : ℕ → Step A) (s : List ℕ) (at : ℕ) where
   unfolding inOrder
   item-got n xs x a b h e = rw (h, e)
 
+  -- the next item is refused
   pub item-refused : (n : ℕ) (xs : List A) (a m o : ℕ)
       → inOrder item n s at ≡ got xs a → item n s a ≡ refused m o → inOrder item (suc n) s at ≡ refused m o
   unfolding inOrder

@@ -231,13 +231,15 @@ full-choice p i l = record {
   table = λ e. absurd (true≢false e);
 }
 
--- a plan with one input and as many gates and outputs as there may be: the input AND itself, 256 times, and the first gate, 64 times
+-- the input AND itself
 andGate : Gate
 andGate = record { first = wire 1; second = wire 1; table = absentTable }
 
+-- a plan with one input and as many gates and outputs as there may be: that gate 256 times, and the first of them 64 times
 pub largest : Plan
 largest = planOf 1 maxGates maxOutputs (replicate maxGates andGate) (replicate maxOutputs (wire 2))
 
+-- it is accepted
 pub largest-accepted : Accepted largest
 unfolding largest andGate countAllowed operandAllowed tableAllowed sourceAllowed
 largest-accepted = accepted-allowed largest .1 (record {

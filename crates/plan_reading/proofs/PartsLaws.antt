@@ -29,11 +29,13 @@ pub record ReadSoFar {A : Type 0} (item : ℕ → Step A) (s : List ℕ) (start 
   pub placed : held ≡ places n none items
 
 module _ {A : Type 0} {item : ℕ → Step A} {s : List ℕ} {start n : ℕ} {none : A} where
+  -- no item is read
   pub none-read : {held : List A} → held ≡ places n none [] → ReadSoFar item s start n none 0 held start
   unfolding inOrder
   none-read e = record { items = []; count = refl; parsed = refl; placed = e }
 
   module _ {i : ℕ} {held : List A} {at : ℕ} (r : ReadSoFar item s start n none i held at) where
+    -- one item more is read
     pub one-read : {next : ℕ} {x : A} → i < n → got x next ≡ item i s at → ReadSoFar item s start n none (i + 1) (set held i x) next
     one-read {next} {x} h e = record {
       items = r .items ++ (x ∷ []);
@@ -47,6 +49,7 @@ module _ {A : Type 0} {item : ℕ → Step A} {s : List ℕ} {start n : ℕ} {no
     one-refused k {m} {o} h e =
         sym (still-refused item s start k (suc i) m o h (item-refused item s start i (r .items) at m o (r .parsed) (sym e)))
 
+    -- all k items are read
     pub all-read : {k : ℕ} → i ≡ k → got (r .items) at ≡ inOrder item k s start
     all-read e = rw (← e) (sym (r .parsed))
 
@@ -82,20 +85,24 @@ at-tail s at h = rw (lt-ltb at (length s) h)
 
 -- what the body gives, by the first of its parts that is refused
 module _ (h : Header) (s : List ℕ) (at : ℕ) where
+  -- a gate is refused
   pub gates-refused : {m o : ℕ} → refused m o ≡ gateSteps (h .inputs) (h .gates) s at → refused m o ≡ bodyPart h s at
   unfolding bodyPart
   gates-refused e = ap (followed _ s) e
 
   module _ {gs : List Gate} {at₁ : ℕ} (e₁ : got gs at₁ ≡ gateSteps (h .inputs) (h .gates) s at) where
+    -- an output is refused
     pub outputs-refused : {m o : ℕ} → refused m o ≡ outputSteps (h .inputs) (h .gates) (h .outputs) s at₁ → refused m o ≡ bodyPart h s at
     unfolding bodyPart
     outputs-refused e = ap (followed _ s) e ∙ ap (followed _ s) e₁
 
     module _ {os : List PlanWire} {at₂ : ℕ} (e₂ : got os at₂ ≡ outputSteps (h .inputs) (h .gates) (h .outputs) s at₁) where
+      -- bytes follow
       pub tail-refused : at₂ < length s → refuse Fault.Tail at₂ ≡ bodyPart h s at
       unfolding bodyPart
       tail-refused l = ap (followed _ s) (at-tail s at₂ l) ∙ ap (followed _ s) e₂ ∙ ap (followed _ s) e₁
 
+      -- the plan is read
       pub body-read : length s ≤ at₂ → got (planOf (h .inputs) (h .gates) (h .outputs) gs os) at₂ ≡ bodyPart h s at
       unfolding bodyPart
       body-read l = ap (followed _ s) (at-end s at₂ l) ∙ ap (followed _ s) e₂ ∙ ap (followed _ s) e₁

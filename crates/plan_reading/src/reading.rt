@@ -37,6 +37,7 @@ pub(crate) struct Header {
     pub outputs: u16,
 }
 
+// The three counts with the next cursor, or the refusal.
 pub(crate) enum HeaderStep {
     Header(Header, Cursor),
     Refused(Refusal),
