@@ -6,10 +6,8 @@ use mathlib.Core.Bool.{Bool, true, false}
 use mathlib.Core.List.{List, [], _∷_, _++_}
 use lib.Dec.{lit≤}
 use Rattle.plan.specs.declared.record.Gate.{Gate}
-use Rattle.plan.specs.declared.record.Plan.{Plan}
 use Rattle.plan.specs.Record.{wordNumbers, maxInputs, maxGates, maxOutputs, gateAt, outputAt, gateWire}
 use Rattle.plan.specs.Rules.{operandAllowed}
-use Rattle.plan.specs.Faults.{Accepted}
 use Rattle.plan.proofs.RulesLaws.{count-bounds, map-bound, operand-bounds, table-bound, source-bounds}
 use Rattle.plan.proofs.FaultsLaws.{AllowedGate, accepted-allowed}
 use Rattle.plan_fields.specs.Fields.{firstPlace, secondPlace, tablePlace, mapBit}
