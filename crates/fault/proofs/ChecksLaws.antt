@@ -1,6 +1,6 @@
 -- Laws of checks in order: a check that failed stays the answer, and where none fails each of them passes.
-use mathlib.Core.Path.{_≡_, refl, sym, _∙_}
-use mathlib.Core.Bool.{Bool, true, false, false≢true}
+use mathlib.Core.Path.{_≡_, refl, sym, ap, _∙_}
+use mathlib.Core.Bool.{Bool, true, false, not, true≢false, false≢true}
 use mathlib.Core.Logic.{_↔_}
 use lib.Dec.{lit≤, eqb, leb}
 use Prim.Native.Nat.{ℕ, zero, suc, _<_, _≤_}
@@ -8,10 +8,11 @@ use native.Mathlib.Omega.{arith}
 use native.Mathlib.Decide.{ℕ-discrete}
 use Rattle.fault.specs.declared.Fault.{Fault}
 use Rattle.fault.specs.declared.Fault.the-variants.{Stub, Inputs, Gates, Outputs, Cut, Map, Operand, Table, Source, Tail, Short, Contact, Fabric, Program}
-use Rattle.fault.specs.Number.{faultNumber}
-use Rattle.fault.specs.Checks.{unless, andThen, firstOf, listFault}
+use Rattle.fault.specs.declared.Answer.{Answer}
+use Rattle.fault.specs.Number.{faultNumber, answerNumber}
+use Rattle.fault.specs.Checks.{unless, andThen, firstOf, roomFault, listFault}
 use mathlib.Core.List.{List}
-use borrow.Author.Tests.{eqb-true, eq-eqb, le-leb, leb-true}
+use borrow.Author.Tests.{eqb-true, eq-eqb, le-leb, lt-leb, leb-true}
 use lib.ListN.{length}
 
 -- no word has the number 0
@@ -66,14 +67,55 @@ pub fails : (a b : ℕ) → 1 ≤ a → andThen a b ≡ a
 fails zero b h = absurd (omega arith)
 fails (suc a) b h = refl
 
--- an answer of two checks in order: what the first refuses with, or else what the second answers
+-- ---- checks in order, as code asks them
+-- A check is met by its answer, `match check(..) { Refused(f) => Refused(f), Done => .. }`, or by a test, `if !test { return Refused(f); } ..`.
+-- What it gave is told by two facts, the contract of the call and the case that was met:
+--     answer-passes e d, answer-refuses e d      the answer is Done; it is a refusal
+--     test-passes f e d, test-refuses f e d      the test holds; it does not, and the fault is f
+--     room-passes e d, room-refuses e d          the buffer has the stated length; it is too short
+-- A return of the function is then what each check before it gave, `then` the check that decides, under `stop` where more would follow:
+--     third c = test-passes .. then answer-passes .. then stop f _ (answer-refuses ..)
+
+pub answer-passes : {r : Answer} {a : ℕ} → answerNumber r ≡ a → r ≡ Answer.Done → 0 ≡ a
+answer-passes e d = ap answerNumber (sym d) ∙ e
+
+pub answer-refuses : {r : Answer} {a : ℕ} {f : Fault} → answerNumber r ≡ a → r ≡ Answer.Refused f → faultNumber f ≡ a
+answer-refuses e d = ap answerNumber (sym d) ∙ e
+
+pub test-passes : {test r : Bool} (f : Fault) → r ≡ test → not r ≡ false → 0 ≡ unless test f
+test-passes {r = true} f e d = rw (← e)
+test-passes {r = false} f e d = absurd (true≢false d)
+
+pub test-refuses : {test r : Bool} (f : Fault) → r ≡ test → not r ≡ true → faultNumber f ≡ unless test f
+test-refuses {r = true} f e d = absurd (false≢true d)
+test-refuses {r = false} f e d = rw (← e)
+
+pub room-passes : {length stated room : ℕ} → length ≡ stated → length ≤ room → 0 ≡ roomFault stated room
+unfolding roomFault
+room-passes {length} {stated} {room} e d = rw (le-leb stated room (omega arith))
+
+pub room-refuses : {length stated room : ℕ} → length ≡ stated → room < length → faultNumber Fault.Short ≡ roomFault stated room
+unfolding roomFault
+room-refuses {length} {stated} {room} e d = rw (lt-leb stated room (omega arith))
+
+infixr 5 _then_
+-- the first check passes: the second answers
+pub _then_ : {m a b : ℕ} → 0 ≡ a → m ≡ b → m ≡ andThen a b
+z then e = rw (← z) e
+
+-- the first check refuses with f: it decides
+pub stop : {a : ℕ} (f : Fault) (b : ℕ) → faultNumber f ≡ a → faultNumber f ≡ andThen a b
+stop {a} f b e = e ∙ sym (fails a b (rw e at (number-positive f)))
+
+-- the two with the numbers written out
 pub first-refuses : (f : Fault) (a b : ℕ) → faultNumber f ≡ a → faultNumber f ≡ andThen a b
-first-refuses f a b e = e ∙ sym (fails a b (rw e at (number-positive f)))
+first-refuses f a b e = stop f b e
 
 pub second-answers : (m a b : ℕ) → 0 ≡ a → m ≡ b → m ≡ andThen a b
-second-answers m a b z e = rw (← z) e
+second-answers m a b z e = z then e
 
 module _ (check : ℕ → ℕ) where
+  -- the first n + 1 checks pass where the first n do and the next one does
   pub next-passes : (n : ℕ) → firstOf check n ≡ 0 → check n ≡ 0 → firstOf check (suc n) ≡ 0
   unfolding firstOf
   next-passes n h e = rw h e
@@ -96,6 +138,7 @@ module _ (check : ℕ → ℕ) where
       let one : firstOf check (suc n) ≡ check n = rw z in
       e ∙ sym one ∙ sym (still-first k (suc n) h (rw one (rw e at p)))
 
+-- a list passes exactly if it has the length m
 pub list-faultless : (m : ℕ) (list : List ℕ) → (listFault m list ≡ 0) ↔ (length list ≡ m)
 unfolding listFault
 list-faultless m list = (

@@ -25,6 +25,7 @@ module _ {A : Type 0} (a L P : List A) (n : ℕ) (front : length a ≡ n) (room 
   pub part-lent : partOf n P ≡ drop n L
   part-lent = rw rest-is (take-all (length P - n) (drop n L) all-long)
 
+  -- the whole, once the part came back with b in front
   pub over-part : (b F : List A) → n + length b ≤ length L → F ≡ over b (partOf n P) → withPart n P F ≡ over (a ++ b) L
   over-part b F h e =
       let start : take n P ≡ a = rw (before, front) (take-at a (drop n L) n front) in
@@ -45,7 +46,7 @@ module _ {A : Type 0} (a L P : List A) (n : ℕ) (front : length a ≡ n) (room 
 pub length-with : {A : Type 0} (p : ℕ) (L F : List A) → length F ≡ length (partOf p L) → length (withPart p L F) ≡ length L
 length-with p L F e = same-len-mid p (length L - p) L F e
 
--- what is written over so many entries leaves nothing of them
+-- what is written over a list of its own length leaves nothing of that list
 pub over-again : {A : Type 0} (a b L : List A) → length a ≡ length b → over a (over b L) ≡ over a L
 over-again a b L e = rw (e, drop-at b (drop (length b) L) (length b) refl)
 

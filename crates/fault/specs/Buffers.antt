@@ -13,9 +13,10 @@ abbrev pub filled : {A : Type 0} → ℕ → List A → List A → List A
 filled zero new old = over new old
 filled (suc n) new old = old
 
--- what a part of a buffer from p on holds, and the buffer once that part came back
+-- what the part of a buffer from p on holds
 abbrev pub partOf : {A : Type 0} → ℕ → List A → List A
 partOf p L = midOf p (length L - p) L
 
+-- the buffer once the part F from p on came back
 abbrev pub withPart : {A : Type 0} → ℕ → List A → List A → List A
 withPart p L F = putMid p (length L - p) L F

@@ -4,6 +4,7 @@ use Rattle.fault.specs.declared.Fault.{Fault}
 use Rattle.fault.specs.declared.Fault.the-variants.{Stub, Inputs, Gates, Outputs, Cut, Map, Operand, Table, Source, Tail, Short, Contact, Fabric, Program}
 use Rattle.fault.specs.declared.Answer.{Answer}
 
+-- the number of a word
 abbrev pub faultNumber : Fault → ℕ
 faultNumber Stub = 1
 faultNumber Inputs = 2

@@ -4,23 +4,18 @@ use Prim.Native.Nat.{ℕ, zero, suc, _<_}
 use native.Mathlib.Omega.{arith}
 use Rattle.fault.specs.Checks.{andThen, firstOf}
 use Rattle.plan.specs.declared.record.Plan.{Plan}
-use Rattle.plan.specs.Record.{gateAt, outputAt, gateWire}
+pub use Rattle.plan.specs.Record.{Agree}
+use Rattle.plan.specs.Record.{gateWire}
 use Rattle.plan.specs.Faults.{gateFault, gatesFault, outputsFault, planFault}
 
--- the same counts, and the same in every used place
-pub record Agree (p q : Plan) : Type 0 where
-  pub inputs : p .inputs ≡ q .inputs
-  pub gates : p .«gate_count» ≡ q .«gate_count»
-  pub outputs : p .«output_count» ≡ q .«output_count»
-  pub gate : (i : ℕ) → i < p .«gate_count» → gateAt p i ≡ gateAt q i
-  pub output : (j : ℕ) → j < p .«output_count» → outputAt p j ≡ outputAt q j
-
+-- equal checks have an equal first failing one
 firstOf-same : (f g : ℕ → ℕ) (n : ℕ) → ((i : ℕ) → i < n → f i ≡ g i) → firstOf f n ≡ firstOf g n
 unfolding firstOf
 firstOf-same f g zero h = refl
 firstOf-same f g (suc n) h = ap₂ andThen (firstOf-same f g n (λ i l. h i (omega arith))) (h n (omega arith))
 
 module _ (p q : Plan) (same : Agree p q) where
+  -- the first plan fault
   pub same-fault : planFault p ≡ planFault q
   unfolding planFault
   same-fault =

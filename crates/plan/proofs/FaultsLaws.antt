@@ -1,5 +1,5 @@
 -- A plan is accepted exactly if its counts, each of its gates and each of its outputs are allowed: each check of the plan's faults is
--- replaced by what it tests. Then the same as bounds, for the code that uses an accepted plan.
+-- replaced by what it tests. Then that as bounds, for the code that uses an accepted plan.
 use mathlib.Core.Path.{_≡_}
 use mathlib.Core.Logic.{_↔_}
 use mathlib.Core.Bool.{true}
@@ -9,7 +9,7 @@ use Rattle.fault.proofs.ChecksLaws.{unless-zero, and-then-zero, first-of-zero}
 use Rattle.plan.specs.declared.record.Gate.{Gate}
 use Rattle.plan.specs.declared.record.Plan.{Plan}
 use Rattle.plan.specs.Record.{maxInputs, maxGates, maxOutputs, gateAt, outputAt, gateWire}
-use Rattle.plan.specs.Rules.{countAllowed, operandAllowed, tableAllowed, sourceAllowed}
+use Rattle.plan.specs.Rules.{countAllowed, operandAllowed, maxTable, tableAllowed, sourceAllowed}
 use Rattle.plan.proofs.RulesLaws.{count-bounds, operand-bounds, table-bound, source-bounds}
 use Rattle.plan.specs.Faults.{countsFault, gateFault, outputFault, planFault, Accepted, CountsWithin}
 
@@ -43,13 +43,15 @@ accepted-allowed p =
       λ a. ((a .inputs, (a .gates, a .outputs)), (a .gate, a .output)),
     )
 
+-- the bounds of a gate whose own wire is `own`
 pub record GateWithin (own : ℕ) (g : Gate) : Type 0 where
   pub someFirst : 1 ≤ g .first .0
   pub first : g .first .0 < own
   pub someSecond : 1 ≤ g .second .0
   pub second : g .second .0 < own
-  pub table : g .table ≤ 15
+  pub table : g .table ≤ maxTable
 
+-- the bounds of an output wire w, in a plan with u inputs and k gates
 pub record OutputWithin (u k w : ℕ) : Type 0 where
   pub above : u < w
   pub upTo : w ≤ u + k
@@ -62,6 +64,7 @@ counts-in u k v a b c =
     let (v₁, v₂) = count-bounds maxOutputs v c in
     record { someInputs = u₁; inputs = u₂; someGates = k₁; gates = k₂; someOutputs = v₁; outputs = v₂ }
 
+-- counts without a fault are within their limits
 pub counts-within : (u k v : ℕ) → countsFault u k v ≡ 0 → CountsWithin u k v
 unfolding countsFault
 counts-within u k v e = let h = simp (and-then-zero, unless-zero) at e in counts-in u k v (h .0) (h .1 .0) (h .1 .1)
@@ -70,9 +73,11 @@ module _ (p : Plan) (accepted : Accepted p) where
   allowed : AllowedPlan p
   allowed = accepted-allowed p .0 accepted
 
+  -- the counts of an accepted plan
   pub accepted-counts : CountsWithin (p .inputs) (p .«gate_count») (p .«output_count»)
   accepted-counts = counts-in _ _ _ (allowed .inputs) (allowed .gates) (allowed .outputs)
 
+  -- its gates
   pub accepted-gate : (i : ℕ) → i < p .«gate_count» → GateWithin (gateWire (p .inputs) i) (gateAt p i)
   accepted-gate i h =
       let a = allowed .gate i h in
@@ -80,6 +85,7 @@ module _ (p : Plan) (accepted : Accepted p) where
       let (s₁, s₂) = operand-bounds _ _ (a .second) in
       record { someFirst = f₁; first = f₂; someSecond = s₁; second = s₂; table = table-bound _ (a .table) }
 
+  -- its outputs
   pub accepted-output : (j : ℕ) → j < p .«output_count» → OutputWithin (p .inputs) (p .«gate_count») (outputAt p j .0)
   accepted-output j h =
       let (low, high) = source-bounds _ _ _ (allowed .output j h) in

@@ -6,7 +6,7 @@ use native.Mathlib.Nat.{mod-eq-of-lt}
 use native.Mathlib.Omega.{arith}
 use lib.ListN.{length, getD, set, replicate, length-append}
 use lib.Seq.{set-at}
-use Rattle.plan.specs.Record.{maxInputs, maxGates, places, gateWire}
+use Rattle.plan.specs.Record.{wordNumbers, maxInputs, maxGates, places, gateWire}
 
 -- one place more is filled
 pub places-more : {A : Type 0} (n : ℕ) (none : A) (xs : List A) (x : A) (i : ℕ) → length xs ≡ i → i < n
@@ -30,5 +30,5 @@ unfolding places
 getD-places n none xs i = padded none xs (n - length xs) i
 
 -- within the limits a gate's own wire has 16 bits
-pub wire-fits : {u i : ℕ} → u ≤ maxInputs → i < maxGates → gateWire u i % 65536 ≡ gateWire u i
+pub wire-fits : {u i : ℕ} → u ≤ maxInputs → i < maxGates → gateWire u i % wordNumbers ≡ gateWire u i
 wire-fits hu hi = mod-eq-of-lt (omega arith)

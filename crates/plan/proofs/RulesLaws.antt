@@ -6,24 +6,24 @@ use native.Mathlib.Omega.{arith}
 use native.Mathlib.Decide.{decLe}
 use borrow.Author.Tests.{le-leb, lt-leb, lt-ltb, leb-true, ltb-true}
 use lib.Dec.{leb, ltb}
-use Rattle.plan.specs.Rules.{countAllowed, mapAllowed, operandAllowed, tableAllowed, sourceAllowed}
+use Rattle.plan.specs.Rules.{countAllowed, maxMap, mapAllowed, operandAllowed, maxTable, tableAllowed, sourceAllowed}
 
 -- what the rules allow, as bounds
 pub count-bounds : (limit n : ℕ) → countAllowed limit n ≡ true → (1 ≤ n) × (n ≤ limit)
 unfolding countAllowed
 count-bounds limit n h = let (low, high) = and-eq-true-iff (leb 1 n) (leb n limit) .0 h in (leb-true 1 n low, leb-true n limit high)
 
-pub map-bound : (m : ℕ) → mapAllowed m ≡ true → m ≤ 7
+pub map-bound : (m : ℕ) → mapAllowed m ≡ true → m ≤ maxMap
 unfolding mapAllowed
-map-bound m h = leb-true m 7 h
+map-bound m h = leb-true m maxMap h
 
 pub operand-bounds : (own w : ℕ) → operandAllowed own w ≡ true → (1 ≤ w) × (w < own)
 unfolding operandAllowed
 operand-bounds own w h = let (low, high) = and-eq-true-iff (leb 1 w) (ltb w own) .0 h in (leb-true 1 w low, ltb-true w own high)
 
-pub table-bound : (t : ℕ) → tableAllowed t ≡ true → t ≤ 15
+pub table-bound : (t : ℕ) → tableAllowed t ≡ true → t ≤ maxTable
 unfolding tableAllowed
-table-bound t h = leb-true t 15 h
+table-bound t h = leb-true t maxTable h
 
 pub source-bounds : (u k w : ℕ) → sourceAllowed u k w ≡ true → (u + 1 ≤ w) × (w ≤ u + k)
 unfolding sourceAllowed

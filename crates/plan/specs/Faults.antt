@@ -25,12 +25,15 @@ gateFault own g =
 unfoldable pub outputFault : ℕ → ℕ → ℕ → ℕ
 outputFault u k w = unless (sourceAllowed u k w) Fault.Source
 
+-- the first fault of the first n gates
 abbrev pub gatesFault : Plan → ℕ → ℕ
 gatesFault p n = firstOf (λ i. gateFault (gateWire (p .inputs) i) (gateAt p i)) n
 
+-- the first fault of the first n outputs
 abbrev pub outputsFault : Plan → ℕ → ℕ
 outputsFault p n = firstOf (λ j. outputFault (p .inputs) (p .«gate_count») (outputAt p j .0)) n
 
+-- the first plan fault
 unfoldable pub planFault : Plan → ℕ
 planFault p =
     andThen (countsFault (p .inputs) (p .«gate_count») (p .«output_count»))
@@ -40,7 +43,7 @@ planFault p =
 abbrev pub Accepted : Plan → Type 0
 Accepted p = planFault p ≡ 0
 
--- the same as bounds
+-- counts within their limits
 pub record CountsWithin (u k v : ℕ) : Type 0 where
   pub someInputs : 1 ≤ u
   pub inputs : u ≤ maxInputs

@@ -7,17 +7,25 @@ use lib.Dec.{leb, ltb}
 unfoldable pub countAllowed : ℕ → ℕ → Bool
 countAllowed limit n = leb 1 n && leb n limit
 
+-- the map byte in which all three map bits stand
+abbrev pub maxMap : ℕ
+maxMap = 7
+
 -- a map byte: not above 7
 unfoldable pub mapAllowed : ℕ → Bool
-mapAllowed b = leb b 7
+mapAllowed b = leb b maxMap
 
 -- an operand: not wire 0, and below the gate's own wire
 unfoldable pub operandAllowed : ℕ → ℕ → Bool
 operandAllowed own w = leb 1 w && ltb w own
 
+-- the table in which all four bits stand
+abbrev pub maxTable : ℕ
+maxTable = 15
+
 -- a table: not above 15
 unfoldable pub tableAllowed : ℕ → Bool
-tableAllowed t = leb t 15
+tableAllowed t = leb t maxTable
 
 -- an output: in u + 1 to u + k
 unfoldable pub sourceAllowed : ℕ → ℕ → ℕ → Bool

@@ -90,7 +90,8 @@ fn gate_fault(own: PlanWire, gate: Gate) -> Answer
     Answer::Done
 }
 
-// The first fault of so many outputs of a plan with so many inputs and gates. It takes the outputs alone: they are a small part of the record.
+// The first fault of the first count outputs of a plan with these numbers of inputs and gates. It takes the outputs alone: they are a small
+// part of the record.
 fn outputs_fault(
     inputs: u16,
     gates: u16,

@@ -1,7 +1,10 @@
 // The plan record in memory, with its limits.
 ghost use mathlib.Core.Path.{_≡_};
 ghost use Prim.Native.Nat.{_%_};
-ghost use Rattle.plan.specs.Record.{zeroPlan, gateWire};
+ghost use Rattle.plan.specs.Record.{wordNumbers, zeroPlan, gateWire};
+
+// How many numbers two bytes hold: a wire of a plan is one of them.
+const WORD_NUMBERS: usize = 65_536;
 
 // A wire of a plan: 1 to u are inputs, u + g is gate g.
 #[repr(C)]
@@ -26,11 +29,19 @@ pub struct Plan {
     pub outputs: [PlanWire; Plan::MAX_OUTPUTS],
 }
 
+impl Gate {
+    // The table in which all four bits stand.
+    pub const MAX_TABLE: u16 = 15;
+}
+
 impl Plan {
+    // The most inputs that a plan may have.
     pub const MAX_INPUTS: usize = 64;
 
+    // The most gates that a plan may have: its record has a place for each.
     pub const MAX_GATES: usize = 256;
 
+    // The most outputs that a plan may have: its record has a place for each.
     pub const MAX_OUTPUTS: usize = 64;
 
     // The record with every count and every place zero.
@@ -53,9 +64,9 @@ impl Plan {
     }
 }
 
-// The own wire of gate i, counted from 0, in a plan with so many inputs, modulo 2 to the power 16.
+// The own wire of gate i, counted from 0, in a plan with this number of inputs, modulo WORD_NUMBERS.
 pub fn gate_wire(inputs: u16, i: usize) -> PlanWire
-    ensures { λ r. ⌜ r .0 ≡ gateWire inputs i % 65536 ⌝ }
+    ensures { λ r. ⌜ r .0 ≡ gateWire inputs i % wordNumbers ⌝ }
 {
-    PlanWire(((inputs as usize + i % 65_536 + 1) % 65_536) as u16)
+    PlanWire(((inputs as usize + i % WORD_NUMBERS + 1) % WORD_NUMBERS) as u16)
 }

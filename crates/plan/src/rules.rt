@@ -1,9 +1,13 @@
 // What a count, a map byte, an operand, a table and an output may be: one definition each, for reading and for a plan in memory.
 ghost use mathlib.Core.Path.{_≡_};
 ghost use Rattle.plan.specs.Rules.{countAllowed, mapAllowed, operandAllowed, tableAllowed, sourceAllowed};
+use crate::record::Gate;
 use crate::record::PlanWire;
 
-// Whether there is at least one, and no more than the limit.
+// The map byte in which all three map bits stand.
+const MAX_MAP: u8 = 7;
+
+// Whether count is from 1 to limit.
 pub fn count_allowed(count: u32, limit: usize) -> bool
     ensures { λ r. ⌜ r ≡ countAllowed limit count ⌝ }
 {
@@ -17,7 +21,7 @@ pub fn count_allowed(count: u32, limit: usize) -> bool
 pub fn map_allowed(map: u8) -> bool
     ensures { λ r. ⌜ r ≡ mapAllowed map ⌝ }
 {
-    map <= 7
+    map <= MAX_MAP
 }
 
 // Whether the wire may be an operand of the gate whose own wire is own.
@@ -34,10 +38,10 @@ pub fn operand_allowed(own: PlanWire, wire: PlanWire) -> bool
 pub fn table_allowed(table: u16) -> bool
     ensures { λ r. ⌜ r ≡ tableAllowed table ⌝ }
 {
-    table <= 15
+    table <= Gate::MAX_TABLE
 }
 
-// Whether the wire is a gate's, in a plan with so many inputs and gates.
+// Whether the wire is a gate's, in a plan with these numbers of inputs and gates.
 pub fn source_allowed(inputs: u16, gates: u16, wire: PlanWire) -> bool
     ensures { λ r. ⌜ r ≡ sourceAllowed inputs gates (wire .0) ⌝ }
 {

@@ -19,6 +19,7 @@ module _ (p q : Plan) (same : Agree p q) where
   same-wires none act row zero h = refl
   same-wires none act row (suc n) h = cc (same-wires none act row n (omega arith), same .gate n h)
 
+  -- the outputs
   pub same-outputs : {A : Type 0} (none : A) (act : ℕ → ℕ → A → A → A) (row : List A) → planOutputs none act p row ≡ planOutputs none act q row
   same-outputs none act row =
       let wires = same-wires none act row (p .«gate_count») (omega arith) in
@@ -27,6 +28,7 @@ module _ (p q : Plan) (same : Agree p q) where
       (λ j l. cc (same .output j l)) in
       named ∙ ap₂ (λ k v. namedBy none q (planWires none act q row k) v) (same .gates) (same .outputs)
 
+  -- the call: its answer and its result
   pub same-evaluation : (row result : List ℕ)
       → (evaluateFault p row (length result) ≡ evaluateFault q row (length result)) × (evaluateResult p row result ≡ evaluateResult q row result)
   same-evaluation row result =

@@ -16,11 +16,13 @@ use Rattle.plan_evaluation_checks.proofs.EvaluationChecksLaws.{row-length, row-
 use Rattle.plan_evaluation.specs.Evaluation.{valueOn, planWires, namedBy, tableBit, gateBit, NamedWires, maxPlanWires}
 
 module _ {A : Type 0} (none : A) (act : ℕ → ℕ → A → A → A) (p : Plan) (row : List A) where
+  -- a wire for each input and for each of n gates
   pub length-planWires : (n : ℕ) → length (planWires none act p row n) ≡ length row + n
   unfolding planWires
   length-planWires zero = omega arith
   length-planWires (suc n) = length-append (planWires none act p row n) _ ∙ omega (arith, length-planWires n)
 
+-- a table gives 0 or 1
 pub table-bit : (t a b : ℕ) → tableBit t a b ≤ 1
 unfolding tableBit
 table-bit t a b = omega arith
@@ -32,6 +34,7 @@ more-bits [] x hs hx (suc i) = omega arith
 more-bits (y ∷ ys) x hs hx zero = hs 0
 more-bits (y ∷ ys) x hs hx (suc i) = more-bits ys x (λ j. hs (suc j)) hx i
 
+-- on a row of bits every wire has 0 or 1
 pub wire-bit : (p : Plan) (row : List ℕ) → ((i : ℕ) → getD row i 0 ≤ 1) → (n i : ℕ) → getD (planWires 0 gateBit p row n) i 0 ≤ 1
 unfolding planWires
 wire-bit p row h zero i = h i
@@ -44,6 +47,7 @@ pub record GateRoom (p : Plan) (i : ℕ) : Type 0 where
   pub own : p .inputs + i < maxPlanWires
   pub upTo : gateWire (p .inputs) i ≤ maxPlanWires
 
+-- the outputs of an accepted plan name wires of the array
 pub named-wires : (p : Plan) → Accepted p → NamedWires (p .«output_count») (p .outputs)
 named-wires p accepted j h =
     let c = accepted-counts p accepted in
@@ -51,17 +55,20 @@ named-wires p accepted j h =
     record { place = omega arith; someWire = omega arith; upTo = omega arith }
 
 module _ (p : Plan) (row : List ℕ) (e : Evaluable p row) where
+  -- the array has room for the row
   pub row-room : length row ≤ maxPlanWires
   row-room =
       let c = accepted-counts p (e .accepted) in
       let l = row-length (p .inputs) row (e .contacts) in
       omega arith
 
+  -- and for each gate
   pub gate-room : (i : ℕ) → i < p .«gate_count» → GateRoom p i
   gate-room i h =
       let c = accepted-counts p (e .accepted) in
       record { place = omega arith; within = accepted-gate p (e .accepted) i h; own = omega arith; upTo = omega arith }
 
+  -- what the array holds are bits
   pub held-bit : (wires : List ℕ) (i n : ℕ) → wires ≡ places maxPlanWires 0 (planWires 0 gateBit p row i) → getD wires n 0 ≤ 1
   held-bit wires i n h =
       rw (h, getD-places maxPlanWires 0 (planWires 0 gateBit p row i) n)

@@ -28,6 +28,7 @@ planWires none act p row (suc n) = withGate none act p n (planWires none act p r
 abbrev pub namedBy : {A : Type 0} → A → Plan → List A → ℕ → List A
 namedBy none p ws n = listOf n (λ j. valueOn none ws (outputAt p j))
 
+-- the plan's outputs on a row
 abbrev pub planOutputs : {A : Type 0} → A → (ℕ → ℕ → A → A → A) → Plan → List A → List A
 planOutputs none act p row = namedBy none p (planWires none act p row (p .«gate_count»)) (p .«output_count»)
 
@@ -53,5 +54,6 @@ pub record NamedWire (outputs : List PlanWire) (j : ℕ) : Type 0 where
   pub someWire : 1 ≤ getD outputs j (wire 0) .0
   pub upTo : getD outputs j (wire 0) .0 ≤ maxPlanWires
 
+-- where the first `count` outputs and their wires stand
 abbrev pub NamedWires : ℕ → List PlanWire → Type 0
 NamedWires count outputs = (j : ℕ) → j < count → NamedWire outputs j

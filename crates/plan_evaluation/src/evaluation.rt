@@ -80,7 +80,7 @@ fn gate_wires(plan: Plan, row: &[u8]) -> [u8; MAX_PLAN_WIRES]
     wires
 }
 
-// The bits on the wires that so many outputs name, into the first entries of the result.
+// The bits on the wires that the first count outputs name, into the first entries of the result.
 fn write_result(
     count: u16,
     outputs: [PlanWire; Plan::MAX_OUTPUTS],

@@ -19,20 +19,23 @@ module _ (u : ℕ) (row : List ℕ) (contacts : contactFault u row ≡ 0) where
   unfolding contactFault
   passed = simp (and-then-zero, first-of-zero, unless-zero) at contacts
 
+  -- its length
   pub row-length : length row ≡ u
   row-length = eqb-true (length row) u (passed .0)
 
+  -- its entries, 0 past the end
   pub row-bit : (i : ℕ) → getD row i 0 ≤ 1
   row-bit i = elim (decLt i (length row)) [
     | yes y ↦ leb-true _ 1 (passed .1 i y)
     | no n ↦ rw (List·getD-eq-default row 0 {n = i} (omega arith)) (omega arith)
   ]
 
--- what the checks of evaluation give where none fails
+-- what holds where the checks of evaluation pass, with a result buffer of n entries
 pub record EvaluationPasses (p : Plan) (row : List ℕ) (n : ℕ) : Type 0 where
   pub evaluable : Evaluable p row
   pub room : p .«output_count» ≤ n
 
+-- where no check of evaluation fails
 pub evaluation-passes : (p : Plan) (row : List ℕ) (n : ℕ) → evaluateFault p row n ≡ 0 → EvaluationPasses p row n
 unfolding roomFault
 evaluation-passes p row n e =

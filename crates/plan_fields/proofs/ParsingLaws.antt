@@ -11,26 +11,29 @@ use lib.ListN.{length}
 use Rattle.fault.specs.declared.Fault.{Fault}
 use Rattle.plan_fields.specs.Parsing.{got, refused, refuse, Step, field, inOrder}
 
--- v is the field's value, and r says whether it is allowed
+-- v is the field's value, and r whether it is allowed
 module _ (width : ℕ) (value : List ℕ → ℕ → ℕ) (allowed : ℕ → Bool) (f : Fault) (s : List ℕ) (at : ℕ) where
+  -- the file ends inside or before the field
   pub field-cut : length s - at < width → refuse Fault.Cut at ≡ field width value allowed f s at
   unfolding field
   field-cut h = rw (lt-ltb (length s - at) width h)
 
-  pub field-got : (v : ℕ) (r : Bool) → v ≡ value s at → r ≡ allowed v → width ≤ length s - at → r ≡ true
+  -- the value is allowed
+  pub field-got : {v : ℕ} {r : Bool} → v ≡ value s at → r ≡ allowed v → width ≤ length s - at → r ≡ true
       → got v (at + width) ≡ field width value allowed f s at
   unfolding field
-  field-got v r e a h t = rw (le-ltb (length s - at) width h, ← e, ← a, t)
+  field-got e a h t = rw (le-ltb (length s - at) width h, ← e, ← a, t)
 
-  pub field-bad : (v : ℕ) (r : Bool) → v ≡ value s at → r ≡ allowed v → width ≤ length s - at → r ≡ false
+  -- the value is not allowed
+  pub field-bad : {v : ℕ} {r : Bool} → v ≡ value s at → r ≡ allowed v → width ≤ length s - at → r ≡ false
       → refuse f at ≡ field width value allowed f s at
   unfolding field
-  field-bad v r e a h t = rw (le-ltb (length s - at) width h, ← e, ← a, t)
+  field-bad e a h t = rw (le-ltb (length s - at) width h, ← e, ← a, t)
 
   -- a value that was read is allowed
-  pub field-allowed : (v next : ℕ) → got v next ≡ field width value allowed f s at → allowed v ≡ true
+  pub field-allowed : {v next : ℕ} → got v next ≡ field width value allowed f s at → allowed v ≡ true
   unfolding field
-  field-allowed v next = go (ltb (length s - at) width) (allowed (value s at)) refl
+  field-allowed {v} {next} = go (ltb (length s - at) width) (allowed (value s at)) refl
     where
       go : (short fine : Bool) → allowed (value s at) ≡ fine
           → got v next ≡ cond short (refuse Fault.Cut at) (cond fine (got (value s at) (at + width)) (refuse f at)) → allowed v ≡ true
@@ -45,6 +48,7 @@ module _ {A : Type 0} (item : ℕ → Step A) (s : List ℕ) (at : ℕ) where
   unfolding inOrder
   item-got n xs x a b h e = rw (h, e)
 
+  -- the next item is refused
   pub item-refused : (n : ℕ) (xs : List A) (a m o : ℕ)
       → inOrder item n s at ≡ got xs a → item n s a ≡ refused m o → inOrder item (suc n) s at ≡ refused m o
   unfolding inOrder

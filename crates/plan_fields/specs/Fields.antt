@@ -28,6 +28,20 @@ tableField = field 1 byteAt tableAllowed Fault.Table
 abbrev pub outputField : ℕ → ℕ → Step ℕ
 outputField u k = field 2 wordAt (sourceAllowed u k) Fault.Source
 
+-- the places of a map byte's bits, lowest first: first operand, second operand, table
+abbrev pub firstPlace : ℕ
+firstPlace = 0
+
+abbrev pub secondPlace : ℕ
+secondPlace = 1
+
+abbrev pub tablePlace : ℕ
+tablePlace = 2
+
+-- a table that is absent: AND
+abbrev pub absentTable : ℕ
+absentTable = 8
+
 -- whether bit i of a map byte stands
 abbrev pub mapBit : ℕ → ℕ → Bool
 mapBit map i = eqb (map / 2 ^ i % 2) 1
@@ -36,9 +50,9 @@ mapBit map i = eqb (map / 2 ^ i % 2) 1
 -- absent second operand is the same wire as the first, an absent table is 8
 abbrev pub gateFields : ℕ → ℕ → Step Gate
 gateFields own map =
-    standing (mapBit map 0) (operandField own) (own - 1) >>= λ first.
-    standing (mapBit map 1) (operandField own) first >>= λ second.
-    standing (mapBit map 2) tableField 8 >>= λ table.
+    standing (mapBit map firstPlace) (operandField own) (own - 1) >>= λ first.
+    standing (mapBit map secondPlace) (operandField own) first >>= λ second.
+    standing (mapBit map tablePlace) tableField absentTable >>= λ table.
     pure (record { first = wire first; second = wire second; table = table })
 
 -- a gate: one map byte, then its fields

@@ -17,6 +17,7 @@ pub data Parsed (A : Type 0) : Type 0 where
 abbrev pub Step : Type 0 → Type 0
 Step A = List ℕ → ℕ → Parsed A
 
+-- a refusal with the fault's number
 abbrev pub refuse : {A : Type 0} → Fault → ℕ → Parsed A
 refuse f at = refused (faultNumber f) at
 
@@ -38,6 +39,7 @@ pure a s at = got a at
 abbrev pub wordAt : List ℕ → ℕ → ℕ
 wordAt s at = getD s at 0 + 256 * getD s (at + 1) 0
 
+-- a one-byte number
 abbrev pub byteAt : List ℕ → ℕ → ℕ
 byteAt s at = getD s at 0
 

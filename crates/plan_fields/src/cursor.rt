@@ -19,26 +19,31 @@ pub struct Cursor {
     pub at: usize,
 }
 
+// A count with the next cursor, or its refusal.
 pub enum CountStep {
     Count(u16, Cursor),
     Refused(Refusal),
 }
 
+// A map byte with the next cursor, or its refusal.
 pub enum MapStep {
     Map(u8, Cursor),
     Refused(Refusal),
 }
 
+// An operand with the next cursor, or its refusal.
 pub enum OperandStep {
     Operand(PlanWire, Cursor),
     Refused(Refusal),
 }
 
+// A table with the next cursor, or its refusal.
 pub enum TableStep {
     Table(u16, Cursor),
     Refused(Refusal),
 }
 
+// An output with the next cursor, or its refusal.
 pub enum OutputStep {
     Output(PlanWire, Cursor),
     Refused(Refusal),
@@ -161,7 +166,7 @@ impl Cursor {
         })
     }
 
-    // An output of a plan with so many inputs and gates.
+    // An output of a plan with these numbers of inputs and gates.
     pub fn output(self, file: &[u8], inputs: u16, gates: u16) -> OutputStep
         ensures { λ r. ⌜ outputAnswer r ≡ outputField inputs gates (now (file .entry)) (self .at) ⌝ }
     {

@@ -2,7 +2,7 @@
 ghost use mathlib.Core.Path.{_≡_};
 ghost use Prim.Native.Nat.{_-_, _<_};
 ghost use Rattle.plan_fields.specs.Parsing.{standing};
-ghost use Rattle.plan_fields.specs.Fields.{mapBit, operandField, tableField, gateFields, gateStep};
+ghost use Rattle.plan_fields.specs.Fields.{absentTable, mapBit, operandField, tableField, gateFields, gateStep};
 ghost use Rattle.plan_fields.specs.Answers.{operandAnswer, tableAnswer, gateAnswer};
 use crate::cursor::Cursor;
 use crate::cursor::MapStep;
@@ -11,6 +11,16 @@ use crate::cursor::TableStep;
 use fault::Refusal;
 use plan::Gate;
 use plan::PlanWire;
+
+// The places of a map byte's bits, lowest first.
+const FIRST_PLACE: u8 = 0;
+
+const SECOND_PLACE: u8 = 1;
+
+const TABLE_PLACE: u8 = 2;
+
+// A table that is absent: AND.
+const ABSENT_TABLE: u16 = 8;
 
 // A gate with the next cursor, or its refusal.
 pub enum GateStep {
@@ -42,11 +52,18 @@ fn wire_before(own: PlanWire) -> PlanWire
 fn read_fields(file: &[u8], c: Cursor, own: PlanWire, map: u8) -> GateStep
     ensures { λ r. ⌜ gateAnswer r ≡ gateFields (own .0) map (now (file .entry)) (c .at) ⌝ }
 {
-    match standing_operand(file, c, map, 0, own, wire_before(own)) {
+    match standing_operand(file, c, map, FIRST_PLACE, own, wire_before(own)) {
         OperandStep::Refused(x) => GateStep::Refused(x),
-        OperandStep::Operand(first, c1) => match standing_operand(file, c1, map, 1, own, first) {
+        OperandStep::Operand(first, c1) => match standing_operand(
+            file,
+            c1,
+            map,
+            SECOND_PLACE,
+            own,
+            first,
+        ) {
             OperandStep::Refused(x) => GateStep::Refused(x),
-            OperandStep::Operand(second, c2) => match standing_table(file, c2, map, 2) {
+            OperandStep::Operand(second, c2) => match standing_table(file, c2, map, TABLE_PLACE) {
                 TableStep::Refused(x) => GateStep::Refused(x),
                 TableStep::Table(table, c3) => GateStep::Gate(
                     Gate {
@@ -90,10 +107,10 @@ fn standing_operand(
 // A table if its map bit stands, AND if not.
 fn standing_table(file: &[u8], c: Cursor, map: u8, place: u8) -> TableStep
     requires { ⌜ place < 8 ⌝ }
-    ensures { λ r. ⌜ tableAnswer r ≡ standing (mapBit map place) tableField 8 (now (file .entry)) (c .at) ⌝ }
+    ensures { λ r. ⌜ tableAnswer r ≡ standing (mapBit map place) tableField absentTable (now (file .entry)) (c .at) ⌝ }
 {
     if map_bit(map, place) {
         return c.table(file);
     }
-    TableStep::Table(8, c)
+    TableStep::Table(ABSENT_TABLE, c)
 }

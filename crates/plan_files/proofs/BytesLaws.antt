@@ -1,4 +1,4 @@
--- A file of an accepted plan is of bytes: its counts and wires are below 65536, its map bytes and tables below 256.
+-- A file of an accepted plan is of bytes: its counts and wires are two-byte numbers, its map bytes and tables below 256.
 use Prim.Native.Nat.{ℕ, zero, suc, _<_}
 use native.Mathlib.Omega.{arith}
 use mathlib.Core.Path.{_≡_}
@@ -6,21 +6,19 @@ use mathlib.Core.Bool.{Bool, true, false}
 use mathlib.Core.List.{List, [], _∷_, _++_}
 use lib.Dec.{lit≤}
 use Rattle.plan.specs.declared.record.Gate.{Gate}
-use Rattle.plan.specs.declared.record.Plan.{Plan}
-use Rattle.plan.specs.Record.{maxInputs, maxGates, maxOutputs, gateAt, outputAt, gateWire}
+use Rattle.plan.specs.Record.{wordNumbers, maxInputs, maxGates, maxOutputs, gateAt, outputAt, gateWire}
 use Rattle.plan.specs.Rules.{operandAllowed}
-use Rattle.plan.specs.Faults.{Accepted}
 use Rattle.plan.proofs.RulesLaws.{count-bounds, map-bound, operand-bounds, table-bound, source-bounds}
 use Rattle.plan.proofs.FaultsLaws.{AllowedGate, accepted-allowed}
-use Rattle.plan_fields.specs.Fields.{mapBit}
-use Rattle.plan_files.specs.Encoding.{byte, word, whereStanding, encodeGate, joinedBytes, encode, LeavesOutDefaults, Choice, OfBytes}
+use Rattle.plan_fields.specs.Fields.{firstPlace, secondPlace, tablePlace, mapBit}
+use Rattle.plan_files.specs.Encoding.{byte, word, whereStanding, encodeGate, joinedBytes, encode, LeavesOutDefaults, OfBytes, FilesOfBytes}
 
 -- numbers written in one and two bytes
 byte-bytes : (n : ℕ) → n < 256 → OfBytes (byte n)
 byte-bytes n h zero = h
 byte-bytes n h (suc i) = lit≤ tt
 
-word-bytes : (n : ℕ) → n < 65536 → OfBytes (word n)
+word-bytes : (n : ℕ) → n < wordNumbers → OfBytes (word n)
 word-bytes n h zero = omega arith
 word-bytes n h (suc zero) = omega arith
 word-bytes n h (suc (suc i)) = lit≤ tt
@@ -41,22 +39,22 @@ joined-bytes f zero h = λ i. lit≤ tt
 joined-bytes f (suc n) h = append-bytes (joinedBytes n f) (f n) (joined-bytes f n (λ i l. h i (omega arith))) (h n (omega arith))
 
 -- an operand of the gate whose own wire is `own`
-operand-bytes : (stands : Bool) (own w : ℕ) → own < 65536 → operandAllowed own w ≡ true → OfBytes (whereStanding stands (word w))
+operand-bytes : (stands : Bool) (own w : ℕ) → own < wordNumbers → operandAllowed own w ≡ true → OfBytes (whereStanding stands (word w))
 operand-bytes stands own w h allowed = standing-bytes stands (word w) (word-bytes w (omega (arith, operand-bounds own w allowed .1)))
 
 -- a gate
-gate-bytes : (own m : ℕ) (g : Gate) → own < 65536 → AllowedGate own g → LeavesOutDefaults own m g → OfBytes (encodeGate m g)
+gate-bytes : (own m : ℕ) (g : Gate) → own < wordNumbers → AllowedGate own g → LeavesOutDefaults own m g → OfBytes (encodeGate m g)
 gate-bytes own m g h ok left =
-    let first = whereStanding (mapBit m 0) (word (g .first .0)) in
-    let second = whereStanding (mapBit m 1) (word (g .second .0)) in
-    let table = whereStanding (mapBit m 2) (byte (g .table)) in
+    let first = whereStanding (mapBit m firstPlace) (word (g .first .0)) in
+    let second = whereStanding (mapBit m secondPlace) (word (g .second .0)) in
+    let table = whereStanding (mapBit m tablePlace) (byte (g .table)) in
     append-bytes (byte m) (first ++ (second ++ table)) (byte-bytes m (omega (arith, map-bound m (left .isMap))))
-    (append-bytes first (second ++ table) (operand-bytes (mapBit m 0) own (g .first .0) h (ok .first))
-    (append-bytes second table (operand-bytes (mapBit m 1) own (g .second .0) h (ok .second))
-    (standing-bytes (mapBit m 2) (byte (g .table)) (byte-bytes (g .table) (omega (arith, table-bound (g .table) (ok .table)))))))
+    (append-bytes first (second ++ table) (operand-bytes (mapBit m firstPlace) own (g .first .0) h (ok .first))
+    (append-bytes second table (operand-bytes (mapBit m secondPlace) own (g .second .0) h (ok .second))
+    (standing-bytes (mapBit m tablePlace) (byte (g .table)) (byte-bytes (g .table) (omega (arith, table-bound (g .table) (ok .table)))))))
 
 -- the whole file
-pub encode-bytes : (maps : ℕ → ℕ) (p : Plan) → Accepted p → Choice maps p → OfBytes (encode maps p)
+pub encode-bytes : FilesOfBytes
 unfolding encode
 encode-bytes maps p ok choice =
     let allowed = accepted-allowed p .0 ok in

@@ -1,9 +1,8 @@
 -- Forward: where a plan's file stands, each field is read as it was written. Backward: each field that is read stands in the file, so the
--- file is one of the plan's. The file in which every field stands is a plan's longest.
+-- file is one of the plan's: `reads-exactly`. The file in which every field stands is a plan's longest: `longest-plan`.
 use Prim.Native.Nat.{ℕ, _+_, _-_, _*_, _≤_}
 use native.Mathlib.Omega.{arith}
 use mathlib.Core.Path.{_≡_, refl, ap, ap₂}
-use mathlib.Core.Logic.{_↔_}
 use mathlib.Core.Bool.{Bool, true, false, true≢false}
 use mathlib.Core.List.{List, []}
 use lib.Dec.{ltb, lit≤}
@@ -15,14 +14,16 @@ use Rattle.plan.specs.declared.record.Plan.{Plan}
 use Rattle.plan.specs.declared.record.PlanWire.{PlanWire}
 use Rattle.plan.specs.Record.{maxInputs, maxGates, maxOutputs, wire, zeroGate, planOf, gateAt, outputAt, gateWire}
 use Rattle.plan.proofs.RecordLaws.{getD-places}
-use Rattle.plan.specs.Rules.{countAllowed, mapAllowed, operandAllowed, tableAllowed, sourceAllowed}
+use Rattle.plan.specs.Rules.{countAllowed, maxMap, mapAllowed, operandAllowed, tableAllowed, sourceAllowed}
 use Rattle.plan.specs.Faults.{Accepted}
 use Rattle.plan.proofs.RulesLaws.{count-bounds, default-allowed}
 use Rattle.plan.proofs.FaultsLaws.{AllowedGate, AllowedPlan, accepted-allowed}
 use Rattle.plan_fields.specs.Parsing.{Parsed, got}
-use Rattle.plan_fields.specs.Fields.{mapBit, gateStep}
-use Rattle.plan_reading.specs.PlanFile.{outputStep, notStub, atEnd, planFile, parsedOutcome, planRead}
+use Rattle.plan_fields.specs.Fields.{firstPlace, secondPlace, tablePlace, absentTable, mapBit, gateStep}
+use Rattle.plan_reading.specs.PlanFile.{outputStep, headerBytes, notStub, atEnd, planFile, parsedOutcome, planRead}
 use Rattle.plan_files.specs.Encoding.{byte, word, whereStanding, encodeGate, joinedBytes, encode, LeavesOutDefaults, Choice, used, OfBytes, Encoded}
+use Rattle.plan_files.specs.Encoding.{ReadsExactly, gateBytes, outputBytes, longestFile, LongestPlan}
+use Rattle.plan_files.proofs.BytesLaws.{encode-bytes}
 use Rattle.plan_files.proofs.ListLaws.{joined-length, joined-shorter, used-places}
 use Rattle.plan_files.proofs.ReadingLaws.{BytesStand, stands-append, stands-split, nothing-stands, whole-stands, stands-to-end, stands-length}
 use Rattle.plan_files.proofs.ReadingLaws.{byte-coded, word-coded, field-reads, standing-reads, in-order-reads}
@@ -34,14 +35,14 @@ gate-reads : (s : List ℕ) (own m : ℕ) (g : Gate) (at next : ℕ) → Allowed
 unfolding gateStep
 gate-reads s own m g at next ok left x =
     let (a, map, rest) = stands-split (byte m) _ x in
-    let (b, first, rest) = stands-split (whereStanding (mapBit m 0) (word (g .first .0))) _ rest in
-    let (c, second, table) = stands-split (whereStanding (mapBit m 1) (word (g .second .0))) _ rest in
+    let (b, first, rest) = stands-split (whereStanding (mapBit m firstPlace) (word (g .first .0))) _ rest in
+    let (c, second, table) = stands-split (whereStanding (mapBit m secondPlace) (word (g .second .0))) _ rest in
     let operand = standing-reads word-coded s (operandAllowed own) Fault.Operand in
     rw (
       field-reads byte-coded s mapAllowed Fault.Map at a m map (left .isMap),
-      operand (mapBit m 0) (own - 1) a b (g .first .0) first (ok .first) (left .first),
-      operand (mapBit m 1) (g .first .0) b c (g .second .0) second (ok .second) (left .second),
-      standing-reads byte-coded s tableAllowed Fault.Table (mapBit m 2) 8 c next (g .table) table (ok .table) (left .table),
+      operand (mapBit m firstPlace) (own - 1) a b (g .first .0) first (ok .first) (left .first),
+      operand (mapBit m secondPlace) (g .first .0) b c (g .second .0) second (ok .second) (left .second),
+      standing-reads byte-coded s tableAllowed Fault.Table (mapBit m tablePlace) absentTable c next (g .table) table (ok .table) (left .table),
     )
 
 -- a plan is read where its file stands, from 0 to the end
@@ -57,7 +58,7 @@ file-reads s maps p ok choice x =
     let (c, outputs, rest) = stands-split (word v) _ rest in
     let (d, each-gate, each-output) = stands-split (joinedBytes k (λ i. encodeGate (maps i) (gateAt p i))) _ rest in
     rw (
-      le-ltb (length s) 6 (omega (arith, stands-length x)),
+      le-ltb (length s) headerBytes (omega (arith, stands-length x)),
       field-reads word-coded s (countAllowed maxInputs) Fault.Inputs 0 a u inputs (ok .inputs),
       field-reads word-coded s (countAllowed maxGates) Fault.Gates a b k gates (ok .gates),
       field-reads word-coded s (countAllowed maxOutputs) Fault.Outputs b c v outputs (ok .outputs),
@@ -114,9 +115,9 @@ unfolding gateStep tableAllowed
 gate-gives s own at small h =
     let operand = standing-gives word-coded s (operandAllowed own) Fault.Operand in
     gives-then _ s (field-gives byte-coded s mapAllowed Fault.Map at small) λ m a map.
-    gives-then _ s (operand (mapBit m 0) (own - 1) a small (default-allowed own h)) λ x b first.
-    gives-then _ s (operand (mapBit m 1) x b small (first .1)) λ y c second.
-    gives-then _ s (standing-gives byte-coded s tableAllowed Fault.Table (mapBit m 2) 8 c small refl) λ t next table.
+    gives-then _ s (operand (mapBit m firstPlace) (own - 1) a small (default-allowed own h)) λ x b first.
+    gives-then _ s (operand (mapBit m secondPlace) x b small (first .1)) λ y c second.
+    gives-then _ s (standing-gives byte-coded s tableAllowed Fault.Table (mapBit m tablePlace) absentTable c small refl) λ t next table.
     gives (
       m,
       (
@@ -136,7 +137,7 @@ output-gives s u k j at small =
 -- the start of a file that is no stub, before any byte
 start-gives : (s : List ℕ) → Gives (λ _ next. BytesStand s 0 [] next) (notStub s 0)
 unfolding notStub
-start-gives s = by-test (ltb (length s) 6) (λ stub. rw stub (refuses (lit≤ tt))) (λ long. rw long (gives nothing-stands))
+start-gives s = by-test (ltb (length s) headerBytes) (λ stub. rw stub (refuses (lit≤ tt))) (λ long. rw long (gives nothing-stands))
 
 -- the end
 end-gives : (s : List ℕ) (at : ℕ) → Gives (λ _ _. length s ≤ at) (atEnd s at)
@@ -170,7 +171,7 @@ read-is-encoded s small = done (file-gives s small)
     done (refuses l) h = absurd (omega arith)
 
 -- both: p is read from its files and from no others
-pub reads-exactly : (s : List ℕ) (p : Plan) → OfBytes s → (planRead s ≡ record { number = 0; at = 0; plan = p }) ↔ Encoded s p
+pub reads-exactly : ReadsExactly
 reads-exactly s p small = (
   λ h. rw h at (read-is-encoded s small (ap (λ r. r .number) h)),
   λ x. rw (x .file, read-encoded (x .maps) p (x .accepted) (x .choice), x .zeroed),
@@ -182,31 +183,31 @@ standing-length true e = omega arith
 standing-length false e = omega arith
 
 -- a gate is longest where every field stands
-gate-length : (m : ℕ) (g : Gate) → length (encodeGate m g) ≤ length (encodeGate 7 g)
+gate-length : (m : ℕ) (g : Gate) → length (encodeGate m g) ≤ length (encodeGate maxMap g)
 gate-length m g =
-    let first = standing-length (mapBit m 0) (word (g .first .0)) in
-    let second = standing-length (mapBit m 1) (word (g .second .0)) in
-    let table = standing-length (mapBit m 2) (byte (g .table)) in
+    let first = standing-length (mapBit m firstPlace) (word (g .first .0)) in
+    let second = standing-length (mapBit m secondPlace) (word (g .second .0)) in
+    let table = standing-length (mapBit m tablePlace) (byte (g .table)) in
     simp length-append (omega arith)
 
 -- the length of the file in which every field stands
-pub full-length : (p : Plan) → length (encode (λ _. 7) p) ≡ 6 + p .«gate_count» * 6 + p .«output_count» * 2
+pub full-length : (p : Plan) → length (encode (λ _. maxMap) p) ≡ headerBytes + p .«gate_count» * gateBytes + p .«output_count» * outputBytes
 unfolding encode
 full-length p =
-    let gates = joined-length (λ i. encodeGate 7 (gateAt p i)) 6 (p .«gate_count») (λ i. refl) in
-    let outputs = joined-length (λ j. word (outputAt p j .0)) 2 (p .«output_count») (λ j. refl) in
+    let gates = joined-length (λ i. encodeGate maxMap (gateAt p i)) gateBytes (p .«gate_count») (λ i. refl) in
+    let outputs = joined-length (λ j. word (outputAt p j .0)) outputBytes (p .«output_count») (λ j. refl) in
     simp length-append (omega arith)
 
 -- no file of the plan is longer
-pub full-longest : (maps : ℕ → ℕ) (p : Plan) → length (encode maps p) ≤ length (encode (λ _. 7) p)
+pub full-longest : (maps : ℕ → ℕ) (p : Plan) → length (encode maps p) ≤ length (encode (λ _. maxMap) p)
 unfolding encode
 full-longest maps p =
     let g = gateAt p in
-    let gates = joined-shorter (λ i. encodeGate (maps i) (g i)) (λ i. encodeGate 7 (g i)) (p .«gate_count») (λ i. gate-length (maps i) (g i)) in
+    let gates = joined-shorter (λ i. encodeGate (maps i) (g i)) (λ i. encodeGate maxMap (g i)) (p .«gate_count») (λ i. gate-length (maps i) (g i)) in
     simp length-append (omega arith)
 
--- "Longest plan: 1,670 bytes"
-pub longest : (maps : ℕ → ℕ) (p : Plan) → Accepted p → length (encode maps p) ≤ 1670
+-- an accepted plan has no longer file
+pub longest : (maps : ℕ → ℕ) (p : Plan) → Accepted p → length (encode maps p) ≤ longestFile
 longest maps p ok =
     let allowed = accepted-allowed p .0 ok in
     let gates = count-bounds maxGates (p .«gate_count») (allowed .gates) in
@@ -214,13 +215,13 @@ longest maps p ok =
     omega (arith, full-longest maps p, full-length p)
 
 -- no longer file is read
-pub longest-read : (s : List ℕ) → OfBytes s → planRead s .number ≡ 0 → length s ≤ 1670
+pub longest-read : (s : List ℕ) → OfBytes s → planRead s .number ≡ 0 → length s ≤ longestFile
 longest-read s small h =
     let x = read-is-encoded s small h in
     omega (arith, ap length (x .file), longest (x .maps) (planRead s .plan) (x .accepted))
 
 -- every field may stand
-pub full-choice : (p : Plan) → Choice (λ _. 7) p
+pub full-choice : (p : Plan) → Choice (λ _. maxMap) p
 unfolding mapAllowed
 full-choice p i l = record {
   isMap = refl;
@@ -229,13 +230,15 @@ full-choice p i l = record {
   table = λ e. absurd (true≢false e);
 }
 
--- a plan with one input and as many gates and outputs as there may be: the input AND itself, 256 times, and the first gate, 64 times
+-- the input AND itself
 andGate : Gate
-andGate = record { first = wire 1; second = wire 1; table = 8 }
+andGate = record { first = wire 1; second = wire 1; table = absentTable }
 
+-- a plan with one input and as many gates and outputs as there may be: that gate 256 times, and the first of them 64 times
 pub largest : Plan
 largest = planOf 1 maxGates maxOutputs (replicate maxGates andGate) (replicate maxOutputs (wire 2))
 
+-- it is accepted
 pub largest-accepted : Accepted largest
 unfolding largest andGate countAllowed operandAllowed tableAllowed sourceAllowed
 largest-accepted = accepted-allowed largest .1 (record {
@@ -248,7 +251,13 @@ largest-accepted = accepted-allowed largest .1 (record {
   output = λ j l. rw (getD-places, getD-replicate);
 })
 
--- the bound is met: with every field standing, that plan's file has 1670 bytes
-pub longest-met : (p : Plan) × Accepted p × Choice (λ _. 7) p × (length (encode (λ _. 7) p) ≡ 1670)
+-- "Longest plan: 1,670 bytes": the bound is met by that plan's file in which every field stands
+pub longest-plan : LongestPlan
 unfolding largest
-longest-met = (largest, largest-accepted, full-choice largest, full-length largest)
+longest-plan = record {
+  none-longer = longest-read;
+  file = encode (λ _. maxMap) largest;
+  bytes = encode-bytes (λ _. maxMap) largest largest-accepted (full-choice largest);
+  read = ap (λ r. r .number) (read-encoded (λ _. maxMap) largest largest-accepted (full-choice largest));
+  long = full-length largest;
+}

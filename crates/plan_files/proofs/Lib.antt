@@ -3,7 +3,7 @@
 pub mod ListLaws
 -- what reading steps read, and what they give
 pub mod ReadingLaws
--- reading a plan's file gives the plan, what is read is such a file, and how long a file can be
-pub mod EncodingLaws
 -- a plan's files are of bytes
 pub mod BytesLaws
+-- reading a plan's file gives the plan, what is read is such a file, and how long a file can be
+pub mod EncodingLaws

@@ -23,7 +23,8 @@ joined-length f c zero h = omega arith
 joined-length f c (suc n) h = simp length-append (omega (arith, joined-length f c n h, h n))
 
 -- no more bytes for each item
-pub joined-shorter : (f g : ℕ → List ℕ) (n : ℕ) → ((i : ℕ) → length (f i) ≤ length (g i)) → length (joinedBytes n f) ≤ length (joinedBytes n g)
+pub joined-shorter : (f g : ℕ → List ℕ) (n : ℕ) → ((i : ℕ) → length (f i) ≤ length (g i))
+    → length (joinedBytes n f) ≤ length (joinedBytes n g)
 unfolding joinedBytes
 joined-shorter f g zero h = omega arith
 joined-shorter f g (suc n) h = simp length-append (omega (arith, joined-shorter f g n h, h n))

@@ -86,6 +86,7 @@ pub record Coded (width : ℕ) (value : List ℕ → ℕ → ℕ) (bytes : ℕ �
   pub reads : (s : List ℕ) (at next w : ℕ) → BytesStand s at (bytes w) next → value s at ≡ w
   pub writes : (s : List ℕ) (at : ℕ) → OfBytes s → width ≤ length s - at → BytesStand s at (bytes (value s at)) (at + width)
 
+-- one-byte numbers
 pub byte-coded : Coded 1 byteAt byte
 byte-coded = record {
   long = λ w. refl;
@@ -93,6 +94,7 @@ byte-coded = record {
   writes = λ s at small h. record { ends = refl; bytes = rw (add-one at) (drop-cons s at 0 (omega arith)) };
 }
 
+-- two-byte numbers
 pub word-coded : Coded 2 wordAt word
 word-coded = record {
   long = λ w. refl;

@@ -1,16 +1,18 @@
--- Document 01, "The plan": the files of a plan. A choice of standing fields gives one file.
-use Prim.Native.Nat.{ℕ, zero, suc, _<_, _-_, _/_, _%_}
+-- Document 01, "The plan": the files of a plan, and what the theorems about them say. A choice of standing fields gives one file.
+use Prim.Native.Nat.{ℕ, zero, suc, _<_, _≤_, _-_, _/_, _%_}
 use mathlib.Core.Path.{_≡_}
+use mathlib.Core.Logic.{_↔_}
 use mathlib.Core.Bool.{Bool, true, false, cond}
 use mathlib.Core.List.{List, [], _∷_, _++_}
-use lib.ListN.{getD}
+use lib.ListN.{length, getD}
 use Rattle.lists.specs.Lists.{listOf}
 use Rattle.plan.specs.declared.record.Gate.{Gate}
 use Rattle.plan.specs.declared.record.Plan.{Plan}
 use Rattle.plan.specs.Record.{gateAt, outputAt, gateWire, planOf}
 use Rattle.plan.specs.Rules.{mapAllowed}
 use Rattle.plan.specs.Faults.{Accepted}
-use Rattle.plan_fields.specs.Fields.{mapBit}
+use Rattle.plan_fields.specs.Fields.{firstPlace, secondPlace, tablePlace, absentTable, mapBit}
+use Rattle.plan_reading.specs.PlanFile.{planRead}
 
 -- a one-byte number
 abbrev pub byte : ℕ → List ℕ
@@ -28,8 +30,8 @@ whereStanding stands bytes = cond stands bytes []
 abbrev pub encodeGate : ℕ → Gate → List ℕ
 encodeGate m g =
     byte m
-    ++ (whereStanding (mapBit m 0) (word (g .first .0))
-    ++ (whereStanding (mapBit m 1) (word (g .second .0)) ++ whereStanding (mapBit m 2) (byte (g .table))))
+    ++ (whereStanding (mapBit m firstPlace) (word (g .first .0))
+    ++ (whereStanding (mapBit m secondPlace) (word (g .second .0)) ++ whereStanding (mapBit m tablePlace) (byte (g .table))))
 
 -- the bytes of items 0 to n - 1, one after another
 unfoldable pub joinedBytes : ℕ → (ℕ → List ℕ) → List ℕ
@@ -45,9 +47,9 @@ encode maps p =
 -- a map byte for the gate whose own wire is `own` that leaves out only fields that equal their defaults
 pub record LeavesOutDefaults (own m : ℕ) (g : Gate) : Type 0 where
   pub isMap : mapAllowed m ≡ true
-  pub first : mapBit m 0 ≡ false → g .first .0 ≡ own - 1
-  pub second : mapBit m 1 ≡ false → g .second .0 ≡ g .first .0
-  pub table : mapBit m 2 ≡ false → g .table ≡ 8
+  pub first : mapBit m firstPlace ≡ false → g .first .0 ≡ own - 1
+  pub second : mapBit m secondPlace ≡ false → g .second .0 ≡ g .first .0
+  pub table : mapBit m tablePlace ≡ false → g .table ≡ absentTable
 
 -- a choice of standing fields for a plan, one map byte a gate
 abbrev pub Choice : (ℕ → ℕ) → Plan → Type 0
@@ -70,3 +72,30 @@ pub record Encoded (s : List ℕ) (p : Plan) : Type 0 where
   pub maps : ℕ → ℕ
   pub choice : Choice maps p
   pub file : s ≡ encode maps p
+
+-- a plan is read from its files and from no others
+abbrev pub ReadsExactly : Type 0
+ReadsExactly = (s : List ℕ) (p : Plan) → OfBytes s → (planRead s ≡ record { number = 0; at = 0; plan = p }) ↔ Encoded s p
+
+-- every file of an accepted plan is of bytes
+abbrev pub FilesOfBytes : Type 0
+FilesOfBytes = (maps : ℕ → ℕ) (p : Plan) → Accepted p → Choice maps p → OfBytes (encode maps p)
+
+-- the bytes of a gate in which every field stands, and of an output
+abbrev pub gateBytes : ℕ
+gateBytes = 6
+
+abbrev pub outputBytes : ℕ
+outputBytes = 2
+
+-- "Longest plan: 1,670 bytes"
+abbrev pub longestFile : ℕ
+longestFile = 1670
+
+-- no longer file is read, and one of that length is
+pub record LongestPlan : Type 0 where
+  pub none-longer : (s : List ℕ) → OfBytes s → planRead s .number ≡ 0 → length s ≤ longestFile
+  pub file : List ℕ
+  pub bytes : OfBytes file
+  pub read : planRead file .number ≡ 0
+  pub long : length file ≡ longestFile

@@ -1,3 +1,3 @@
--- The files of a plan, and the theorem that reading reads exactly these.
--- a plan's files, one for each choice of standing fields
+-- Document 01, "The plan": the files of a plan.
+-- a plan's files, one for each choice of standing fields, that reading reads exactly these, and the longest
 pub mod Encoding

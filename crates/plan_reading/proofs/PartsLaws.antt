@@ -28,28 +28,30 @@ pub record ReadSoFar {A : Type 0} (item : ℕ → Step A) (s : List ℕ) (start 
   pub parsed : inOrder item i s start ≡ got items at
   pub placed : held ≡ places n none items
 
-module _ {A : Type 0} (item : ℕ → Step A) (s : List ℕ) (start n : ℕ) (none : A) where
-  pub none-read : (held : List A) → held ≡ places n none [] → ReadSoFar item s start n none 0 held start
+module _ {A : Type 0} {item : ℕ → Step A} {s : List ℕ} {start n : ℕ} {none : A} where
+  -- no item is read
+  pub none-read : {held : List A} → held ≡ places n none [] → ReadSoFar item s start n none 0 held start
   unfolding inOrder
-  none-read held e = record { items = []; count = refl; parsed = refl; placed = e }
+  none-read e = record { items = []; count = refl; parsed = refl; placed = e }
 
-  pub one-read : (i : ℕ) (held : List A) (at next : ℕ) (x : A) → i < n
-      → ReadSoFar item s start n none i held at → got x next ≡ item i s at → ReadSoFar item s start n none (i + 1) (set held i x) next
-  one-read i held at next x h r e = record {
-    items = r .items ++ (x ∷ []);
-    count = length-append (r .items) (x ∷ []) ∙ ap (λ m. m + 1) (r .count);
-    parsed = rw (add-one i) (item-got item s start i (r .items) x at next (r .parsed) (sym e));
-    placed = ap (λ l. set l i x) (r .placed) ∙ places-more n none (r .items) x i (r .count) h;
-  }
+  module _ {i : ℕ} {held : List A} {at : ℕ} (r : ReadSoFar item s start n none i held at) where
+    -- one item more is read
+    pub one-read : {next : ℕ} {x : A} → i < n → got x next ≡ item i s at → ReadSoFar item s start n none (i + 1) (set held i x) next
+    one-read {next} {x} h e = record {
+      items = r .items ++ (x ∷ []);
+      count = length-append (r .items) (x ∷ []) ∙ ap (λ m. m + 1) (r .count);
+      parsed = rw (add-one i) (item-got item s start i (r .items) x at next (r .parsed) (sym e));
+      placed = ap (λ l. set l i x) (r .placed) ∙ places-more n none (r .items) x i (r .count) h;
+    }
 
-  pub one-refused : (k i : ℕ) (held : List A) (at m o : ℕ) → i < k
-      → ReadSoFar item s start n none i held at → refused m o ≡ item i s at → refused m o ≡ inOrder item k s start
-  one-refused k i held at m o h r e =
-      sym (still-refused item s start k (suc i) m o h (item-refused item s start i (r .items) at m o (r .parsed) (sym e)))
+    -- of k items, one is refused
+    pub one-refused : (k : ℕ) {m o : ℕ} → i < k → refused m o ≡ item i s at → refused m o ≡ inOrder item k s start
+    one-refused k {m} {o} h e =
+        sym (still-refused item s start k (suc i) m o h (item-refused item s start i (r .items) at m o (r .parsed) (sym e)))
 
-  pub all-read : (k i : ℕ) (held : List A) (at : ℕ) → i ≡ k → (r : ReadSoFar item s start n none i held at)
-      → got (r .items) at ≡ inOrder item k s start
-  all-read k i held at e r = rw (← e) (sym (r .parsed))
+    -- all k items are read
+    pub all-read : {k : ℕ} → i ≡ k → got (r .items) at ≡ inOrder item k s start
+    all-read e = rw (← e) (sym (r .parsed))
 
 -- the counts of a record
 pub record HasCounts (u k v : ℕ) (p : Plan) : Type 0 where
@@ -58,9 +60,9 @@ pub record HasCounts (u k v : ℕ) (p : Plan) : Type 0 where
   pub outputs : p .«output_count» ≡ v
 
 -- a record is made of its counts, gates and outputs
-pub plan-held : (u k v : ℕ) (gs : List Gate) (os : List PlanWire) (p : Plan) → HasCounts u k v p → p .gates ≡ places maxGates zeroGate gs
+pub plan-held : {u k v : ℕ} (gs : List Gate) (os : List PlanWire) {p : Plan} → HasCounts u k v p → p .gates ≡ places maxGates zeroGate gs
     → p .outputs ≡ places maxOutputs (wire 0) os → p ≡ planOf u k v gs os
-plan-held u k v gs os p c e o = λ i. record {
+plan-held gs os c e o = λ i. record {
   inputs = c .inputs i;
   «gate_count» = c .gates i;
   «output_count» = c .outputs i;
@@ -69,8 +71,8 @@ plan-held u k v gs os p c e o = λ i. record {
 }
 
 -- a count that was read is within its limit
-pub count-within : (limit : ℕ) (f : Fault) (s : List ℕ) (at n next : ℕ) → got n next ≡ countField limit f s at → n ≤ limit
-count-within limit f s at n next e = count-bounds limit n (field-allowed 2 wordAt (countAllowed limit) f s at n next e) .1
+pub count-within : (limit : ℕ) (f : Fault) (s : List ℕ) (at : ℕ) {n next : ℕ} → got n next ≡ countField limit f s at → n ≤ limit
+count-within limit f s at {n} e = count-bounds limit n (field-allowed 2 wordAt (countAllowed limit) f s at e) .1
 
 -- the end of a file, and a tail
 at-end : (s : List ℕ) (at : ℕ) → length s ≤ at → got tt at ≡ atEnd s at
@@ -83,20 +85,24 @@ at-tail s at h = rw (lt-ltb at (length s) h)
 
 -- what the body gives, by the first of its parts that is refused
 module _ (h : Header) (s : List ℕ) (at : ℕ) where
-  pub gates-refused : (m o : ℕ) → refused m o ≡ gateSteps (h .inputs) (h .gates) s at → refused m o ≡ bodyPart h s at
+  -- a gate is refused
+  pub gates-refused : {m o : ℕ} → refused m o ≡ gateSteps (h .inputs) (h .gates) s at → refused m o ≡ bodyPart h s at
   unfolding bodyPart
-  gates-refused m o e = ap (followed _ s) e
+  gates-refused e = ap (followed _ s) e
 
-  module _ (gs : List Gate) (at₁ : ℕ) (e₁ : got gs at₁ ≡ gateSteps (h .inputs) (h .gates) s at) where
-    pub outputs-refused : (m o : ℕ) → refused m o ≡ outputSteps (h .inputs) (h .gates) (h .outputs) s at₁ → refused m o ≡ bodyPart h s at
+  module _ {gs : List Gate} {at₁ : ℕ} (e₁ : got gs at₁ ≡ gateSteps (h .inputs) (h .gates) s at) where
+    -- an output is refused
+    pub outputs-refused : {m o : ℕ} → refused m o ≡ outputSteps (h .inputs) (h .gates) (h .outputs) s at₁ → refused m o ≡ bodyPart h s at
     unfolding bodyPart
-    outputs-refused m o e = ap (followed _ s) e ∙ ap (followed _ s) e₁
+    outputs-refused e = ap (followed _ s) e ∙ ap (followed _ s) e₁
 
-    module _ (os : List PlanWire) (at₂ : ℕ) (e₂ : got os at₂ ≡ outputSteps (h .inputs) (h .gates) (h .outputs) s at₁) where
+    module _ {os : List PlanWire} {at₂ : ℕ} (e₂ : got os at₂ ≡ outputSteps (h .inputs) (h .gates) (h .outputs) s at₁) where
+      -- bytes follow
       pub tail-refused : at₂ < length s → refuse Fault.Tail at₂ ≡ bodyPart h s at
       unfolding bodyPart
       tail-refused l = ap (followed _ s) (at-tail s at₂ l) ∙ ap (followed _ s) e₂ ∙ ap (followed _ s) e₁
 
+      -- the plan is read
       pub body-read : length s ≤ at₂ → got (planOf (h .inputs) (h .gates) (h .outputs) gs os) at₂ ≡ bodyPart h s at
       unfolding bodyPart
       body-read l = ap (followed _ s) (at-end s at₂ l) ∙ ap (followed _ s) e₂ ∙ ap (followed _ s) e₁

@@ -20,6 +20,7 @@ countsPart =
     countField maxOutputs Fault.Outputs >>= λ v.
     pure (record { inputs = u; gates = k; outputs = v })
 
+-- the three counts of a file that is long enough for them
 unfoldable pub headerPart : Step Header
 headerPart = notStub >>= λ _. countsPart
 

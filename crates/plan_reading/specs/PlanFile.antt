@@ -16,6 +16,7 @@ use Rattle.plan_fields.specs.Fields.{countField, outputField, gateStep}
 abbrev pub gateSteps : ℕ → ℕ → Step (List Gate)
 gateSteps u k = inOrder (λ i. gateStep (gateWire u i)) k
 
+-- an output of a plan with u inputs and k gates
 abbrev pub outputStep : ℕ → ℕ → Step PlanWire
 outputStep u k = outputField u k >>= λ w. pure (wire w)
 
@@ -23,9 +24,13 @@ outputStep u k = outputField u k >>= λ w. pure (wire w)
 abbrev pub outputSteps : ℕ → ℕ → ℕ → Step (List PlanWire)
 outputSteps u k v = inOrder (λ _. outputStep u k) v
 
+-- the bytes of u, k and v
+abbrev pub headerBytes : ℕ
+headerBytes = 6
+
 -- 1: a file below 6 bytes, at offset 0
 unfoldable pub notStub : Step Unit
-notStub s at = cond (ltb (length s) 6) (refuse Fault.Stub 0) (got tt at)
+notStub s at = cond (ltb (length s) headerBytes) (refuse Fault.Stub 0) (got tt at)
 
 -- 10: bytes after the last output, at the first of them
 unfoldable pub atEnd : Step Unit
@@ -49,9 +54,11 @@ pub record ReadOutcome : Type 0 where
   pub at : ℕ
   pub plan : Plan
 
+-- what reading says of what was parsed
 abbrev pub parsedOutcome : Parsed Plan → ReadOutcome
 parsedOutcome (got p next) = record { number = 0; at = 0; plan = p }
 parsedOutcome (refused n at) = record { number = n; at = at; plan = zeroPlan }
 
+-- reading a file
 unfoldable pub planRead : List ℕ → ReadOutcome
 planRead s = parsedOutcome (planFile s 0)

@@ -15,6 +15,10 @@ use plan_fields::GateStep;
 use plan_fields::OutputStep;
 use plan_fields::read_gate;
 
+// The bytes of the three counts.
+const HEADER_BYTES: usize = 6;
+
+// Whether a file holds a plan.
 pub enum ReadAnswer {
     Accepted,
     Refused(Refusal),
@@ -33,6 +37,7 @@ pub(crate) struct Header {
     pub outputs: u16,
 }
 
+// The three counts with the next cursor, or the refusal.
 pub(crate) enum HeaderStep {
     Header(Header, Cursor),
     Refused(Refusal),
@@ -62,7 +67,7 @@ fn refused_read(x: Refusal) -> PlanRead
 fn read_header(file: &[u8]) -> HeaderStep
     ensures { λ r. ⌜ HeaderRead headerPart (now (file .entry)) 0 r ⌝ }
 {
-    if file.len() < 6 {
+    if file.len() < HEADER_BYTES {
         return HeaderStep::Refused(Refusal {
             fault: Fault::Stub,
             at: 0,

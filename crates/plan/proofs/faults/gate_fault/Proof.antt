@@ -1,38 +1,41 @@
--- `plan::faults::gate_fault` meets its contract: each test in its turn. Assumes nothing.
+-- `plan::faults::gate_fault` meets its contract: each field in its turn. Assumes nothing.
+use mathlib.Core.Path.{_≡_}
 use borrow.Author.Needs.{needs}
-use borrow.Author.Tests.{not-true, not-false}
+use Rattle.fault.specs.declared.Fault.{Fault}
+use Rattle.fault.specs.Checks.{unless}
+use Rattle.fault.proofs.ChecksLaws.{test-passes, test-refuses, _then_, stop}
+use Rattle.plan.specs.Rules.{operandAllowed}
 use Rattle.plan.specs.Faults.{gateFault}
 use Rattle.plan.proofs.faults.gate_fault.Statement.{statement}
 use Rattle.plan.proofs.faults.gate_fault.Tie as tie
 
+first-passes : (c : tie.Else1) → let a = c .before .before .args in 0 ≡ unless (operandAllowed (a .own .0) (a .gate .first .0)) Fault.Operand
+first-passes c = test-passes Fault.Operand (c .before .operand-allowed .ensures) (c .if1 .left)
+
+second-passes : (c : tie.Else2)
+    → let a = c .before .before .before .before .args in 0 ≡ unless (operandAllowed (a .own .0) (a .gate .second .0)) Fault.Operand
+second-passes c = test-passes Fault.Operand (c .before .operand-allowed2 .ensures) (c .if2 .left)
+
 first : tie.Need-returns
 unfolding gateFault
-first c = rw (← c .before .operand-allowed .ensures, not-true (c .before .operand-allowed .result) (c .if1 .taken))
+first c = stop Fault.Operand _ (test-refuses Fault.Operand (c .before .operand-allowed .ensures) (c .if1 .taken))
 
 second : tie.Need-returns-2
 unfolding gateFault
 second c =
-    let past = c .before .before in
-    rw (← past .before .operand-allowed .ensures, not-false (past .before .operand-allowed .result) (past .if1 .left))
-    (rw (← c .before .operand-allowed2 .ensures, not-true (c .before .operand-allowed2 .result) (c .if2 .taken)))
+    first-passes (c .before .before) then stop Fault.Operand _ (test-refuses Fault.Operand (c .before .operand-allowed2 .ensures) (c .if2 .taken))
 
 table : tie.Need-returns-3
 unfolding gateFault
 table c =
-    let past₂ = c .before .before in
-    let past₁ = past₂ .before .before in
-    rw (← past₁ .before .operand-allowed .ensures, not-false (past₁ .before .operand-allowed .result) (past₁ .if1 .left))
-    (rw (← past₂ .before .operand-allowed2 .ensures, not-false (past₂ .before .operand-allowed2 .result) (past₂ .if2 .left))
-    (rw (← c .before .table-allowed .ensures, not-true (c .before .table-allowed .result) (c .if3 .taken))))
+    let past = c .before .before in
+    first-passes (past .before .before) then second-passes past then test-refuses Fault.Table (c .before .table-allowed .ensures) (c .if3 .taken)
 
 within : tie.Need-returns-4
 unfolding gateFault
 within c =
-    let past₂ = c .before .before in
-    let past₁ = past₂ .before .before in
-    rw (← past₁ .before .operand-allowed .ensures, not-false (past₁ .before .operand-allowed .result) (past₁ .if1 .left))
-    (rw (← past₂ .before .operand-allowed2 .ensures, not-false (past₂ .before .operand-allowed2 .result) (past₂ .if2 .left))
-    (rw (← c .before .table-allowed .ensures, not-false (c .before .table-allowed .result) (c .if3 .left))))
+    let past = c .before .before in
+    first-passes (past .before .before) then second-passes past then test-passes Fault.Table (c .before .table-allowed .ensures) (c .if3 .left)
 
 pub gate-fault-spec : {M : Type 1} → statement M
 gate-fault-spec =

@@ -1,16 +1,16 @@
 -- `plan::faults::gates_fault` meets its contract. The loop's invariant: the first i gates have no fault. Assumes nothing.
 use native.Mathlib.Omega.{arith}
 use mathlib.Core.Path.{_≡_, refl, sym, ap, _∙_}
-use Prim.Native.Nat.{ℕ, _%_, _≤_, _<_, _-_}
+use Prim.Native.Nat.{_≤_, _-_}
 use native.Mathlib.Nat.{lt-of-lt-of-le}
 use native.Mathlib.Numerals.{add-one}
 use borrow.Author.Needs.{needs}
 use Rattle.fault.specs.Number.{answerNumber}
 use Rattle.fault.specs.Checks.{firstOf}
-use Rattle.fault.proofs.ChecksLaws.{next-passes, first-fails, number-positive}
+use Rattle.fault.proofs.ChecksLaws.{next-passes, first-fails, number-positive, answer-passes, answer-refuses}
 use Rattle.plan.specs.Record.{gateAt, gateWire}
 use Rattle.plan.proofs.RecordLaws.{wire-fits}
-use Rattle.plan.specs.Faults.{gateFault, gatesFault, CountsWithin}
+use Rattle.plan.specs.Faults.{gateFault, gatesFault}
 use Rattle.plan.proofs.faults.gates_fault.Statement.{statement}
 use Rattle.plan.proofs.faults.gates_fault.Tie as tie
 
@@ -20,33 +20,35 @@ Inv-loop plan inputs count i₀ i = (i ≤ count) × (gatesFault plan i ≡ 0)
 abbrev μ-loop : tie.MeasureT-loop
 μ-loop plan inputs count i₀ i = count - i
 
--- gate i's own wire, where the plan has more gates
-own : {u k v i : ℕ} → CountsWithin u k v → i < k → gateWire u i % 65536 ≡ gateWire u i
-own W l = wire-fits (W .inputs) (lt-of-lt-of-le l (W .gates))
-
 holds : tie.Need-loop-holds Inv-loop μ-loop
 unfolding firstOf
 holds c = (omega arith, refl)
+
+-- what a turn asks is the fault of gate i, whose own wire has 16 bits
+gate-i : (c : tie.After-gate-fault Inv-loop μ-loop)
+    → let turn = c .before .before .before .before in
+    let plan = turn .before .args .t1 in
+    let i = turn .loop .i in
+    answerNumber (c .gate-fault .result) ≡ gateFault (gateWire (plan .inputs) i) (gateAt plan i)
+gate-i c =
+    let turn = c .before .before .before .before in
+    let within = turn .before .pre in
+    c .gate-fault .ensures
+    ∙ ap (λ w. gateFault w (gateAt (turn .before .args .t1) (turn .loop .i)))
+    (c .before .gate-wire .ensures ∙ wire-fits (within .inputs) (lt-of-lt-of-le (c .before .before .before .loop-test .taken) (within .gates)))
 
 found : tie.Need-returns Inv-loop μ-loop
 found c =
     let met = c .before .before .before in
     let loop = met .before .before .before .before .loop in
-    let s = met .before .before .before .before .before in
-    let e =
-    ap answerNumber (sym (c .before .f .given .1)) ∙ met .gate-fault .ensures
-    ∙ ap (λ w. gateFault w (gateAt (s .args .t1) (loop .i))) (met .before .gate-wire .ensures ∙ own (s .pre) (met .before .before .before .loop-test .taken)) in
-    first-fails _ _ (loop .i) _ (omega arith) (loop .inv .1) e (number-positive (c .before .f .given .0 .0))
+    first-fails _ _ (loop .i) _ (omega arith) (loop .inv .1) (answer-refuses (gate-i met) (c .before .f .given .1))
+    (number-positive (c .before .f .given .0 .0))
 
 again : tie.Need-loop-again Inv-loop μ-loop
 again c =
     let met = c .before .before in
     let loop = met .before .before .before .before .loop in
-    let s = met .before .before .before .before .before in
-    let e =
-    ap answerNumber (sym (c .enum-told .given .1)) ∙ met .gate-fault .ensures
-    ∙ ap (λ w. gateFault w (gateAt (s .args .t1) (loop .i))) (met .before .gate-wire .ensures ∙ own (s .pre) (met .before .before .before .loop-test .taken)) in
-    (omega arith, rw (add-one (loop .i)) (next-passes _ (loop .i) (loop .inv .1) (sym e)))
+    (omega arith, rw (add-one (loop .i)) (next-passes _ (loop .i) (loop .inv .1) (sym (answer-passes (gate-i met) (c .enum-told .given .1)))))
 
 none : tie.Need-returns-2 Inv-loop μ-loop
 none c =

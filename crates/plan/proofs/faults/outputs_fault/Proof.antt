@@ -1,14 +1,13 @@
 -- `plan::faults::outputs_fault` meets its contract. The loop's invariant: the first i outputs have no fault. Assumes nothing.
 use native.Mathlib.Omega.{arith}
-use mathlib.Core.Path.{_≡_, refl, sym, ap, _∙_}
+use mathlib.Core.Path.{_≡_, refl, sym}
 use Prim.Native.Nat.{_≤_, _-_}
 use native.Mathlib.Numerals.{add-one}
 use borrow.Author.Needs.{needs}
-use borrow.Author.Tests.{not-true, not-false}
 use lib.ListN.{getD}
 use Rattle.fault.specs.declared.Fault.{Fault}
-use Rattle.fault.specs.Checks.{unless, firstOf}
-use Rattle.fault.proofs.ChecksLaws.{next-passes, first-fails}
+use Rattle.fault.specs.Checks.{firstOf}
+use Rattle.fault.proofs.ChecksLaws.{next-passes, first-fails, test-passes, test-refuses}
 use Rattle.plan.specs.Record.{wire}
 use Rattle.plan.specs.Faults.{outputFault}
 use Rattle.plan.proofs.faults.outputs_fault.Statement.{statement}
@@ -29,7 +28,7 @@ unfolding outputFault
 found c =
     let test = c .before .source-allowed in
     let loop = c .before .before .before .before .loop in
-    let e = ap (λ t. unless t Fault.Source) (sym (not-true (test .result) (c .if1 .taken)) ∙ test .ensures) in
+    let e = test-refuses Fault.Source (test .ensures) (c .if1 .taken) in
     first-fails _ _ (loop .i) _ (omega arith) (loop .inv .1) e (omega arith)
 
 again : tie.Need-loop-again Inv-loop μ-loop
@@ -37,7 +36,7 @@ unfolding outputFault
 again c =
     let test = c .before .source-allowed in
     let loop = c .before .before .before .before .loop in
-    let e = ap (λ t. unless t Fault.Source) (sym (not-false (test .result) (c .if1 .left)) ∙ test .ensures) in
+    let e = test-passes Fault.Source (test .ensures) (c .if1 .left) in
     (omega arith, rw (add-one (loop .i)) (next-passes _ (loop .i) (loop .inv .1) (sym e)))
 
 none : tie.Need-returns-2 Inv-loop μ-loop

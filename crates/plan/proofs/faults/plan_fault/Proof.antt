@@ -1,48 +1,48 @@
 -- `plan::faults::plan_fault` meets its contract: the counts, the gates, the outputs, each asked where those before it pass. Assumes nothing.
-use mathlib.Core.Path.{sym, ap, _∙_}
+use mathlib.Core.Path.{_≡_, sym}
 use borrow.Author.Needs.{needs}
-use Rattle.fault.specs.Number.{answerNumber}
-use Rattle.fault.proofs.ChecksLaws.{first-refuses, second-answers}
-use Rattle.plan.specs.Faults.{planFault}
+use Rattle.fault.proofs.ChecksLaws.{answer-passes, answer-refuses, _then_, stop}
+use Rattle.plan.specs.declared.record.Plan.{Plan}
+use Rattle.plan.specs.Faults.{countsFault, gatesFault, planFault, CountsWithin}
 use Rattle.plan.proofs.FaultsLaws.{counts-within}
 use Rattle.plan.proofs.faults.plan_fault.Statement.{statement}
 use Rattle.plan.proofs.faults.plan_fault.Tie as tie
 
-for-gates : tie.Need-gates-fault-requires
-for-gates c κs =
-    counts-within _ _ _ (sym (ap answerNumber (sym (c .enum-told .given .1)) ∙ c .before .before .counts-fault .ensures))
+-- the plan, at the place where its counts passed
+abbrev the-plan : tie.After-enum-told → Plan
+the-plan c = c .before .before .before .before .before .before .args .plan
+
+-- where the counts pass
+module _ (c : tie.After-enum-told) where
+  counts-pass : let p = the-plan c in 0 ≡ countsFault (p .inputs) (p .«gate_count») (p .«output_count»)
+  counts-pass = answer-passes (c .before .before .counts-fault .ensures) (c .enum-told .given .1)
+
+  within : let p = the-plan c in CountsWithin (p .inputs) (p .«gate_count») (p .«output_count»)
+  within = counts-within _ _ _ (sym counts-pass)
+
+gates-pass : (c : tie.After-enum-told2) → let p = the-plan (c .before .before .before) in 0 ≡ gatesFault p (p .«gate_count»)
+gates-pass c = answer-passes (c .before .before .gates-fault .ensures) (c .enum-told2 .given .1)
 
 for-outputs : tie.Need-outputs-fault-requires
-for-outputs c κs =
-    let met = c .before .before .before .before in
-    counts-within _ _ _ (sym (ap answerNumber (sym (met .enum-told .given .1)) ∙ met .before .before .counts-fault .ensures)) .outputs
+for-outputs c κs = within (c .before .before .before .before) .outputs
 
 counts : tie.Need-returns
 unfolding planFault
-counts c =
-    first-refuses (c .before .f .given .0 .0) _ _
-    (ap answerNumber (sym (c .before .f .given .1)) ∙ c .before .before .before .counts-fault .ensures)
+counts c = stop (c .before .f .given .0 .0) _ (answer-refuses (c .before .before .before .counts-fault .ensures) (c .before .f .given .1))
 
 gates : tie.Need-returns-2
 unfolding planFault
 gates c =
-    let met = c .before .before .before .before in
-    second-answers _ _ _ (ap answerNumber (sym (met .enum-told .given .1)) ∙ met .before .before .counts-fault .ensures)
-    (first-refuses (c .before .f2 .given .0 .0) _ _
-    (ap answerNumber (sym (c .before .f2 .given .1)) ∙ c .before .before .before .gates-fault .ensures))
+    counts-pass (c .before .before .before .before)
+    then stop (c .before .f2 .given .0 .0) _ (answer-refuses (c .before .before .before .gates-fault .ensures) (c .before .f2 .given .1))
 
 outputs : tie.Need-returns-3
 unfolding planFault
-outputs c =
-    let met₂ = c .before .before in
-    let met₁ = met₂ .before .before .before in
-    second-answers _ _ _ (ap answerNumber (sym (met₁ .enum-told .given .1)) ∙ met₁ .before .before .counts-fault .ensures)
-    (second-answers _ _ _ (ap answerNumber (sym (met₂ .enum-told2 .given .1)) ∙ met₂ .before .before .gates-fault .ensures)
-    (c .outputs-fault .ensures))
+outputs c = let past = c .before .before in counts-pass (past .before .before .before) then gates-pass past then c .outputs-fault .ensures
 
 pub plan-fault-spec : {M : Type 1} → statement M
 plan-fault-spec =
     tie.close
     (tie.spec
     (λ c. search needs) (λ c. search needs) (λ c. search needs) (λ c κs. search needs) (λ c. search needs) (λ c. search needs)
-    for-gates (λ c. search needs) (λ c. search needs) for-outputs counts gates outputs)
+    (λ c κs. within c) (λ c. search needs) (λ c. search needs) for-outputs counts gates outputs)

@@ -2,7 +2,7 @@
 use mathlib.Core.Path.{_≡_, sym, ap, _∙_}
 use borrow.Author.Needs.{needs}
 use lib.ListN.{length}
-use Rattle.fault.specs.Number.{answerNumber}
+use Rattle.fault.proofs.ChecksLaws.{answer-passes, answer-refuses}
 use Rattle.fault.specs.Buffers.{over}
 use Rattle.fault.proofs.BuffersLaws.{filled-refused, filled-done}
 use Rattle.plan_evaluation_checks.specs.EvaluationChecks.{evaluateFault}
@@ -13,8 +13,9 @@ use Rattle.plan_evaluation.proofs.evaluation.evaluate.Statement.{statem
 use Rattle.plan_evaluation.proofs.evaluation.evaluate.Tie as tie
 
 -- where the checks are done, none fails
-none : (c : tie.After-enum-told) → let a = c .before .before .before .before .before .args in 0 ≡ evaluateFault (a .plan) (a .row .now) (length (a .result .now))
-none c = ap answerNumber (sym (c .enum-told .given .1)) ∙ c .before .before .check-evaluate .ensures
+none : (c : tie.After-enum-told)
+    → let a = c .before .before .before .before .before .args in 0 ≡ evaluateFault (a .plan) (a .row .now) (length (a .result .now))
+none c = answer-passes (c .before .before .check-evaluate .ensures) (c .enum-told .given .1)
 
 for-wires : tie.Need-gate-wires-requires
 for-wires c κs = evaluation-passes _ _ _ (sym (none (c .before))) .evaluable
@@ -26,7 +27,7 @@ for-outputs c κs =
 
 refused : tie.Need-returns
 refused c =
-    let e = ap answerNumber (sym (c .before .f .given .1)) ∙ c .before .before .before .check-evaluate .ensures in
+    let e = answer-refuses (c .before .before .before .check-evaluate .ensures) (c .before .f .given .1) in
     (e, filled-refused (c .before .f .given .0 .0) _ _ _ e)
 
 done : tie.Need-returns-2

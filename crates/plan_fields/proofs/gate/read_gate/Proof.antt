@@ -13,7 +13,9 @@ refused c = ap (followed _ _) (ap mapAnswer (sym (c .before .x .given .1)) ∙ c
 
 fields : tie.Need-returns-2
 unfolding gateStep
-fields c = c .read-fields .ensures ∙ ap (followed _ _) (ap mapAnswer (sym (c .before .before .map .given .1)) ∙ c .before .before .before .before .map-byte .ensures)
+fields c =
+    let met = c .before .before in
+    c .read-fields .ensures ∙ ap (followed _ _) (ap mapAnswer (sym (met .map .given .1)) ∙ met .before .before .map-byte .ensures)
 
 pub read-gate-spec : {M : Type 1} → statement M
 read-gate-spec = tie.close (tie.spec (λ c κs. search needs) (λ c. search needs) (λ c. search needs) (λ c κs. search needs) refused fields)

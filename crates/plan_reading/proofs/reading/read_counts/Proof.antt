@@ -48,9 +48,9 @@ counts c =
     record {
       parsed = ap (followed _ _) e₃ ∙ ap (followed _ _) e₂ ∙ ap (followed _ _) e₁;
       limited = record {
-        inputs = count-within _ _ _ _ _ _ e₁;
-        gates = count-within _ _ _ _ _ _ e₂;
-        outputs = count-within _ _ _ _ _ _ e₃;
+        inputs = count-within _ _ _ _ e₁;
+        gates = count-within _ _ _ _ e₂;
+        outputs = count-within _ _ _ _ e₃;
       };
     }
 

@@ -10,11 +10,11 @@ cut c = field-cut _ _ _ _ _ _ (omega arith)
 
 value : tie.Need-returns-2
 value c =
-    field-got _ _ _ _ _ _ _ _ (c .before .before .word-at .ensures) (c .before .count-allowed .ensures) (omega arith) (c .if2 .taken)
+    field-got _ _ _ _ _ _ (c .before .before .word-at .ensures) (c .before .count-allowed .ensures) (omega arith) (c .if2 .taken)
 
 bad : tie.Need-returns-3
 bad c =
-    field-bad _ _ _ _ _ _ _ _ (c .before .before .word-at .ensures) (c .before .count-allowed .ensures) (omega arith) (c .if2 .left)
+    field-bad _ _ _ _ _ _ (c .before .before .word-at .ensures) (c .before .count-allowed .ensures) (omega arith) (c .if2 .left)
 
 pub count-spec : {M : Type 1} → statement M
 count-spec =

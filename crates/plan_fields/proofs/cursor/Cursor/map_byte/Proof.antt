@@ -10,10 +10,10 @@ cut : tie.Need-returns
 cut c = field-cut _ _ _ _ _ _ (omega arith)
 
 value : tie.Need-returns-2
-value c = field-got _ _ _ _ _ _ _ _ refl (c .before .map-allowed .ensures) (omega arith) (c .if2 .taken)
+value c = field-got _ _ _ _ _ _ refl (c .before .map-allowed .ensures) (omega arith) (c .if2 .taken)
 
 bad : tie.Need-returns-3
-bad c = field-bad _ _ _ _ _ _ _ _ refl (c .before .map-allowed .ensures) (omega arith) (c .if2 .left)
+bad c = field-bad _ _ _ _ _ _ refl (c .before .map-allowed .ensures) (omega arith) (c .if2 .left)
 
 pub map-byte-spec : {M : Type 1} → statement M
 map-byte-spec =
