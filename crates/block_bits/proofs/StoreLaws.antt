@@ -2,7 +2,7 @@
 use mathlib.Core.Path.{_≡_, refl, sym, ap, _∙_}
 use mathlib.Core.Logic.{_≢_}
 use mathlib.Core.List.{List, [], _∷_, _++_, append-nil}
-use Prim.Native.Nat.{ℕ, suc, _+_, _-_, _*_, _/_, _%_, _≤_, _<_, min}
+use Prim.Native.Nat.{ℕ, suc, _+_, _-_, _*_, _%_, _≤_, _<_, min}
 use native.Mathlib.Nat.{add-zero, zero-add, add-suc, suc-add, mod-eq-of-lt, min-eq-left}
 use native.Mathlib.Numerals.{add-one}
 use native.Mathlib.Decide.{ℕ-discrete}
@@ -13,7 +13,7 @@ use lib.Seq.{sets, sets-eq, set-append-left, getD-append-add, take-all, length-t
 use Rattle.lists.specs.Lists.{listOf}
 use Rattle.lists.proofs.ListsLaws.{length-listOf}
 use Rattle.fault.specs.Buffers.{over}
-use Rattle.block_elements.specs.Bits.{bytesFor, bitAt, setBit, storeBits, zeroBytes, pack, AreBits, AreBytes}
+use Rattle.block_elements.specs.Bits.{bitByte, bitPlace, bytesFor, bitAt, setBit, storeBits, zeroBytes, pack, AreBits, AreBytes, bitsHeld}
 use Rattle.block_elements.proofs.BitsLaws.{length-setBit, setBit-same, setBit-other, setBit-bytes, ext-bits, length-storeBits, storeBits-append, storeBits-bytes}
 
 -- ---- one more
@@ -70,7 +70,7 @@ setBit-comm {s} hs p q b c hb hc n =
     lqp : length (setBit (setBit s q c) p b) ≡ length s
     lqp = length-setBit (setBit s q c) p b ∙ length-setBit s q c
 
-    go : (x : ℕ) → x < 8 * length s → Dec (x ≡ p) → Dec (x ≡ q) → bitAt (setBit (setBit s p b) q c) x ≡ bitAt (setBit (setBit s q c) p b) x
+    go : (x : ℕ) → x < bitsHeld (length s) → Dec (x ≡ p) → Dec (x ≡ q) → bitAt (setBit (setBit s p b) q c) x ≡ bitAt (setBit (setBit s q c) p b) x
     go x l (yes e) (yes f) = absurd (n (sym e ∙ f))
     go x l (yes e) (no f) =
         rw e (setBit-other (setBit s p b) q p c hc n ∙ setBit-same s p b hb (rw e at l)
@@ -124,28 +124,28 @@ set-behind : (a t : List ℕ) (i v : ℕ) → set (a ++ t) (length a + i) v ≡ 
 set-behind [] t i v = rw zero-add
 set-behind (x ∷ a) t i v = rw suc-add (ap (λ l. x ∷ l) (set-behind a t i v))
 
-setBit-behind : (a t : List ℕ) (p b : ℕ) → setBit (a ++ t) (8 * length a + p) b ≡ a ++ setBit t p b
+setBit-behind : (a t : List ℕ) (p b : ℕ) → setBit (a ++ t) (bitsHeld (length a) + p) b ≡ a ++ setBit t p b
 unfolding setBit
 setBit-behind a t p b =
-    let byte : (8 * length a + p) / 8 ≡ length a + p / 8 = omega arith in
-    let place : (8 * length a + p) % 8 ≡ p % 8 = omega arith in
-    rw (byte, place, getD-append-add a t (p / 8) 0) (set-behind a t (p / 8) _)
+    let byte : bitByte (bitsHeld (length a) + p) ≡ length a + bitByte p = omega arith in
+    let place : bitPlace (bitsHeld (length a) + p) ≡ bitPlace p = omega arith in
+    rw (byte, place, getD-append-add a t (bitByte p) 0) (set-behind a t (bitByte p) _)
 
 -- bits stored behind a
-pub storeBits-behind : (bs a t : List ℕ) (p : ℕ) → storeBits (a ++ t) (8 * length a + p) bs ≡ a ++ storeBits t p bs
+pub storeBits-behind : (bs a t : List ℕ) (p : ℕ) → storeBits (a ++ t) (bitsHeld (length a) + p) bs ≡ a ++ storeBits t p bs
 unfolding storeBits
 storeBits-behind [] a t p = refl
 storeBits-behind (b ∷ bs) a t p =
-    rw (setBit-behind a t p b, ← add-suc (8 * length a) p) (storeBits-behind bs a (setBit t p b) (suc p))
+    rw (setBit-behind a t p b, ← add-suc (bitsHeld (length a)) p) (storeBits-behind bs a (setBit t p b) (suc p))
 
-setBit-front : (a t : List ℕ) (p b : ℕ) → p < 8 * length a → setBit (a ++ t) p b ≡ setBit a p b ++ t
+setBit-front : (a t : List ℕ) (p b : ℕ) → p < bitsHeld (length a) → setBit (a ++ t) p b ≡ setBit a p b ++ t
 unfolding setBit
 setBit-front a t p b l =
-    let i : p / 8 < length a = omega arith in
-    rw (List·getD-append a t 0 (p / 8) i) (set-append-left a t (p / 8) _ i)
+    let i : bitByte p < length a = omega arith in
+    rw (List·getD-append a t 0 (bitByte p) i) (set-append-left a t (bitByte p) _ i)
 
 -- bits stored before t
-pub storeBits-front : (bs a t : List ℕ) (p : ℕ) → p + length bs ≤ 8 * length a → storeBits (a ++ t) p bs ≡ storeBits a p bs ++ t
+pub storeBits-front : (bs a t : List ℕ) (p : ℕ) → p + length bs ≤ bitsHeld (length a) → storeBits (a ++ t) p bs ≡ storeBits a p bs ++ t
 unfolding storeBits
 storeBits-front [] a t p l = refl
 storeBits-front (b ∷ bs) a t p l =
@@ -153,15 +153,22 @@ storeBits-front (b ∷ bs) a t p l =
 
 -- the part of the bytes from byte k on, with bits stored in it, put back
 pub store-part : (s : List ℕ) (k p : ℕ) (bs : List ℕ) → k ≤ length s
-    → putMid k (length s - k) s (storeBits (midOf k (length s - k) s) p bs) ≡ storeBits s (8 * k + p) bs
+    → putMid k (length s - k) s (storeBits (midOf k (length s - k) s) p bs) ≡ storeBits s (bitsHeld k + p) bs
 store-part s k p bs l =
     let rest : midOf k (length s - k) s ≡ drop k s = take-all (length s - k) (drop k s) (omega (arith, length-drop k s)) in
     let none : postOf k (length s - k) s ≡ [] = drop-of-length-le (drop k s) {i = length s - k} (omega (arith, length-drop k s)) in
     let front : length (take k s) ≡ k = length-take-le k s l in
     rw (rest, none, append-nil (storeBits (drop k s) p bs))
     (sym (storeBits-behind bs (take k s) (drop k s) p)
-    ∙ ap (λ n. storeBits (take k s ++ drop k s) (8 * n + p) bs) front
-    ∙ ap (λ t. storeBits t (8 * k + p) bs) (take-append-drop k s))
+    ∙ ap (λ n. storeBits (take k s ++ drop k s) (bitsHeld n + p) bs) front
+    ∙ ap (λ t. storeBits t (bitsHeld k + p) bs) (take-append-drop k s))
+
+-- the part that begins with the byte of bit p, as it comes back with bits stored from that bit on
+pub store-from-byte : (s : List ℕ) (p : ℕ) (bs : List ℕ) {byte place : ℕ} {part : List ℕ} → byte ≡ bitByte p → place ≡ bitPlace p → bitByte p ≤ length s
+    → part ≡ storeBits (midOf byte (length s - byte) s) place bs → putMid byte (length s - byte) s part ≡ storeBits s p bs
+store-from-byte s p bs eb ep l e =
+    let split : bitsHeld (bitByte p) + bitPlace p ≡ p = omega arith in
+    rw (e, eb, ep) (store-part s (bitByte p) (bitPlace p) bs l ∙ ap (λ k. storeBits s k bs) split)
 
 -- bits stored from bit 0 on in zeroed bytes are the packed bits, followed by what stood past them
 pub store-zeroed : (bs old : List ℕ) (n : ℕ) → bytesFor (length bs) ≡ n → storeBits (replicate n 0 ++ drop n old) 0 bs ≡ over (pack bs) old
@@ -176,3 +183,9 @@ store-zeroed bs old n e =
 pub bytes-filled : (n b : ℕ) (old : List ℕ) → n ≤ length old → over (replicate (min n (length old)) b) old ≡ replicate n b ++ drop n old
 bytes-filled n b old h =
     ap (λ k. over (replicate k b) old) (min-eq-left h) ∙ ap (λ k. replicate n b ++ drop k old) (length-replicate n b)
+
+-- bits stored from bit 0 on, once the bytes that they take are cleared
+pub store-cleared : (bs old : List ℕ) {bytes : ℕ} {cleared last : List ℕ} → bytes ≡ bytesFor (length bs) → bytes ≤ length old
+    → cleared ≡ over (replicate (min bytes (length old)) 0) old → last ≡ storeBits cleared 0 bs → last ≡ over (pack bs) old
+store-cleared bs old {bytes} size room clear stored =
+    stored ∙ ap (λ s. storeBits s 0 bs) (clear ∙ bytes-filled bytes 0 old room) ∙ store-zeroed bs old bytes (sym size)

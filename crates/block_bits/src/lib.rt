@@ -4,14 +4,38 @@ ghost use mathlib.Core.Path.{_≡_};
 ghost use Prim.Native.Nat.{_%_, _<_, min};
 ghost use lib.ListN.{length, replicate};
 ghost use Rattle.fault.specs.Buffers.{over};
-ghost use Rattle.block_elements.specs.Bits.{withBit, bitAt, setBit};
+ghost use Rattle.block_elements.specs.Bits.{bitByte, bitPlace, bytesFor, bitsHeld, withBit, bitAt, setBit};
+
+// The bits of a byte.
+const BYTE_BITS: usize = 8;
+
+// The byte in which bit p lies.
+pub fn bit_byte(p: usize) -> usize
+    ensures { λ r. ⌜ r ≡ bitByte p ⌝ }
+{
+    p / BYTE_BITS
+}
+
+// The place of bit p in its byte, place 0 lowest.
+pub fn bit_place(p: usize) -> usize
+    ensures { λ r. ⌜ r ≡ bitPlace p ⌝ }
+{
+    p % BYTE_BITS
+}
+
+// The bytes that hold `bits` bits.
+pub fn bytes_for(bits: usize) -> usize
+    ensures { λ r. ⌜ r ≡ bytesFor bits ⌝ }
+{
+    bits / BYTE_BITS + (bits % BYTE_BITS + BYTE_BITS - 1) / BYTE_BITS
+}
 
 // Bit p of the program, 0 past its end.
 pub fn read_bit(program: &[u8], p: usize) -> u8
     ensures { λ r. ⌜ r ≡ bitAt (now (program .entry)) p ⌝ }
 {
-    let byte = p / 8;
-    let place = (p % 8) as u32;
+    let byte = bit_byte(p);
+    let place = bit_place(p) as u32;
     if program.len() <= byte {
         return 0;
     }
@@ -22,15 +46,15 @@ pub fn read_bit(program: &[u8], p: usize) -> u8
 pub fn store_bit(program: &mut [u8], p: usize, b: u8)
     ensures { λ _. ⌜ now (program .exit) ≡ setBit (now (program .entry)) p (b % 2) ⌝ }
 {
-    let byte = p / 8;
+    let byte = bit_byte(p);
     if byte < program.len() {
-        program[byte] = with_bit(program[byte], (p % 8) as u32, b % 2);
+        program[byte] = with_bit(program[byte], bit_place(p) as u32, b % 2);
     }
 }
 
 // The byte x with the bit b at a place.
 fn with_bit(x: u8, place: u32, b: u8) -> u8
-    requires { ⌜ (place < 8) × (b < 2) ⌝ }
+    requires { ⌜ (place < bitsHeld 1) × (b < 2) ⌝ }
     ensures { λ r. ⌜ r ≡ withBit place b x ⌝ }
 {
     (x & !(1u8 << place)) | (b << place)

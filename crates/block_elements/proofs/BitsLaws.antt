@@ -16,7 +16,8 @@ use lib.Arith.{digits-lt}
 use lib.Bits.{bitAnd, bitOr, and-mask, and-high, and-block, or-block, or-shifted, or-zero-r}
 use Rattle.lists.specs.Lists.{listOf}
 use Rattle.lists.proofs.ListsLaws.{length-listOf, getD-listOf}
-use Rattle.block_elements.specs.Bits.{byteOf, placeOf, bytesFor, bitOf, withBit, bitAt, setBit, storeBits, zeroBytes, pack, unpack, AreBits, AreBytes}
+use Rattle.block_elements.specs.Bits.{bitByte, bitPlace, bytesFor, bitOf, withBit, bitAt, setBit, storeBits, zeroBytes, pack, unpack, AreBits, AreBytes}
+use Rattle.block_elements.specs.Bits.{bitsHeld}
 
 -- ---- one number
 
@@ -118,63 +119,63 @@ pub bitAt-lt : (s : List ℕ) (p : ℕ) → bitAt s p < 2
 unfolding bitAt
 bitAt-lt s p = omega arith
 
-pub bitAt-past : (s : List ℕ) (p : ℕ) → 8 * length s ≤ p → bitAt s p ≡ 0
+pub bitAt-past : (s : List ℕ) (p : ℕ) → bitsHeld (length s) ≤ p → bitAt s p ≡ 0
 unfolding bitAt
-bitAt-past s p h = rw (List·getD-eq-default s 0 {n = p / 8} (omega arith)) (ap (λ x. x % 2) (zero-div (2 ^ (p % 8))))
+bitAt-past s p h = rw (List·getD-eq-default s 0 {n = bitByte p} (omega arith)) (ap (λ x. x % 2) (zero-div (2 ^ bitPlace p)))
 
 pub length-setBit : (s : List ℕ) (p b : ℕ) → length (setBit s p b) ≡ length s
 unfolding setBit
 length-setBit s p b = length-set s _ _
 
-pub setBit-same : (s : List ℕ) (p b : ℕ) → b < 2 → p < 8 * length s → bitAt (setBit s p b) p ≡ b
+pub setBit-same : (s : List ℕ) (p b : ℕ) → b < 2 → p < bitsHeld (length s) → bitAt (setBit s p b) p ≡ b
 unfolding bitAt setBit
 setBit-same s p b hb h =
-    rw (getD-set-same s (byteOf p) (withBit (placeOf p) b (getD s (byteOf p) 0)) 0 (omega arith)) (bit-same (placeOf p) b _ hb)
+    rw (getD-set-same s (bitByte p) (withBit (bitPlace p) b (getD s (bitByte p) 0)) 0 (omega arith)) (bit-same (bitPlace p) b _ hb)
 
 pub setBit-other : (s : List ℕ) (p q b : ℕ) → b < 2 → q ≢ p → bitAt (setBit s p b) q ≡ bitAt s q
 unfolding bitAt setBit
-setBit-other s p q b hb n = go (ℕ-discrete (byteOf q) (byteOf p)) (decLt (byteOf p) (length s))
+setBit-other s p q b hb n = go (ℕ-discrete (bitByte q) (bitByte p)) (decLt (bitByte p) (length s))
   where
     x : ℕ
-    x = getD s (byteOf p) 0
+    x = getD s (bitByte p) 0
 
     new : ℕ
-    new = withBit (placeOf p) b x
+    new = withBit (bitPlace p) b x
 
-    go : Dec (byteOf q ≡ byteOf p) → Dec (byteOf p < length s)
-        → bitOf (placeOf q) (getD (set s (byteOf p) new) (byteOf q) 0) ≡ bitOf (placeOf q) (getD s (byteOf q) 0)
-    go (no d) l = rw (getD-set-other s (byteOf p) (byteOf q) new 0 d)
-    go (yes e) (no l) = rw (set-out s (byteOf p) new (omega arith))
-    go (yes e) (yes l) = rw (e, getD-set-same s (byteOf p) new 0 l) (bit-other (placeOf q) (placeOf p) b x hb (λ z. n (omega arith)))
+    go : Dec (bitByte q ≡ bitByte p) → Dec (bitByte p < length s)
+        → bitOf (bitPlace q) (getD (set s (bitByte p) new) (bitByte q) 0) ≡ bitOf (bitPlace q) (getD s (bitByte q) 0)
+    go (no d) l = rw (getD-set-other s (bitByte p) (bitByte q) new 0 d)
+    go (yes e) (no l) = rw (set-out s (bitByte p) new (omega arith))
+    go (yes e) (yes l) = rw (e, getD-set-same s (bitByte p) new 0 l) (bit-other (bitPlace q) (bitPlace p) b x hb (λ z. n (omega arith)))
 
-pub setBit-past : (s : List ℕ) (p b : ℕ) → 8 * length s ≤ p → setBit s p b ≡ s
+pub setBit-past : (s : List ℕ) (p b : ℕ) → bitsHeld (length s) ≤ p → setBit s p b ≡ s
 unfolding setBit
-setBit-past s p b h = set-out s (byteOf p) _ (omega arith)
+setBit-past s p b h = set-out s (bitByte p) _ (omega arith)
 
 pub setBit-bytes : (s : List ℕ) (p b : ℕ) → b < 2 → AreBytes s → AreBytes (setBit s p b)
 unfolding setBit
-setBit-bytes s p b hb h = record { each = λ i. go i (ℕ-discrete i (byteOf p)) (decLt (byteOf p) (length s)) }
+setBit-bytes s p b hb h = record { each = λ i. go i (ℕ-discrete i (bitByte p)) (decLt (bitByte p) (length s)) }
   where
     k : ℕ
-    k = placeOf p
+    k = bitPlace p
 
     new : ℕ
-    new = withBit k b (getD s (byteOf p) 0)
+    new = withBit k b (getD s (bitByte p) 0)
 
-    go : (i : ℕ) → Dec (i ≡ byteOf p) → Dec (byteOf p < length s) → getD (set s (byteOf p) new) i 0 < 256
-    go i (no d) l = rw (getD-set-other s (byteOf p) i new 0 d) (h .each i)
-    go i (yes e) (no l) = rw (set-out s (byteOf p) new (omega arith)) (h .each i)
+    go : (i : ℕ) → Dec (i ≡ bitByte p) → Dec (bitByte p < length s) → getD (set s (bitByte p) new) i 0 < 256
+    go i (no d) l = rw (getD-set-other s (bitByte p) i new 0 d) (h .each i)
+    go i (yes e) (no l) = rw (set-out s (bitByte p) new (omega arith)) (h .each i)
     go i (yes e) (yes l) =
         let w : suc (7 - k) + k ≡ 8 = omega arith in
-        rw (e, getD-set-same s (byteOf p) new 0 l) (rw w at (withBit-lt (7 - k) k b (getD s (byteOf p) 0) hb (rw w (h .each (byteOf p)))))
+        rw (e, getD-set-same s (bitByte p) new 0 l) (rw w at (withBit-lt (7 - k) k b (getD s (bitByte p) 0) hb (rw w (h .each (bitByte p)))))
 
 -- two byte lists of one length with the same bits are equal
-pub ext-bits : (s t : List ℕ) → length s ≡ length t → AreBytes s → AreBytes t → ((p : ℕ) → p < 8 * length s → bitAt s p ≡ bitAt t p) → s ≡ t
+pub ext-bits : (s t : List ℕ) → length s ≡ length t → AreBytes s → AreBytes t → ((p : ℕ) → p < bitsHeld (length s) → bitAt s p ≡ bitAt t p) → s ≡ t
 unfolding bitAt
 ext-bits s t l hs ht e = ext-getD 0 s t l (λ i h. same-bits 8 (getD s i 0) (getD t i 0) (hs .each i) (ht .each i) (λ q hq.
-    let d : (8 * i + q) / 8 ≡ i = omega arith in
-    let m : (8 * i + q) % 8 ≡ q = omega arith in
-    rw (d, m) at (e (8 * i + q) (omega arith))))
+    let d : bitByte (bitsHeld i + q) ≡ i = omega arith in
+    let m : bitPlace (bitsHeld i + q) ≡ q = omega arith in
+    rw (d, m) at (e (bitsHeld i + q) (omega arith))))
 
 -- ---- bits stored one after another
 
@@ -222,7 +223,7 @@ storeBits-other s p (b ∷ bs) q hb n =
     ∙ setBit-other s p q b (hb .each 0) (λ e. n 0 (suc-le-suc zero-le) (omega arith))
 
 -- they read back
-pub storeBits-at : (s : List ℕ) (p : ℕ) (bs : List ℕ) (i : ℕ) → AreBits bs → p + length bs ≤ 8 * length s → i < length bs
+pub storeBits-at : (s : List ℕ) (p : ℕ) (bs : List ℕ) (i : ℕ) → AreBits bs → p + length bs ≤ bitsHeld (length s) → i < length bs
     → bitAt (storeBits s p bs) (p + i) ≡ getD bs i 0
 unfolding storeBits
 storeBits-at s p [] i hb room h = absurd (not-suc-le-zero h)
@@ -258,11 +259,11 @@ bitAt-pack bs h p = go (decLt p (length bs))
     n : ℕ
     n = bytesFor (length bs)
 
-    room : 0 + length bs ≤ 8 * length (zeroBytes n)
+    room : 0 + length bs ≤ bitsHeld (length (zeroBytes n))
     room = rw (length-replicate {A = ℕ} n 0) (omega arith)
 
     clear : bitAt (zeroBytes n) p ≡ 0
-    clear = unfold bitAt in rw (zeros n (byteOf p)) (ap (λ x. x % 2) (zero-div (2 ^ placeOf p)))
+    clear = unfold bitAt in rw (zeros n (bitByte p)) (ap (λ x. x % 2) (zero-div (2 ^ bitPlace p)))
 
     go : Dec (p < length bs) → bitAt (storeBits (zeroBytes n) 0 bs) p ≡ getD bs p 0
     go (yes l) = rw zero-add at (storeBits-at (zeroBytes n) 0 bs p h room l)

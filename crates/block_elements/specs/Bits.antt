@@ -6,16 +6,20 @@ use lib.ListN.{length, getD, set, replicate}
 use Rattle.lists.specs.Lists.{listOf}
 
 -- the byte in which bit p lies
-abbrev pub byteOf : ℕ → ℕ
-byteOf p = p / 8
+abbrev pub bitByte : ℕ → ℕ
+bitByte p = p / 8
 
 -- its place there
-abbrev pub placeOf : ℕ → ℕ
-placeOf p = p % 8
+abbrev pub bitPlace : ℕ → ℕ
+bitPlace p = p % 8
 
 -- the bytes that hold n bits
 abbrev pub bytesFor : ℕ → ℕ
 bytesFor n = (n + 7) / 8
+
+-- the bits that n bytes hold
+abbrev pub bitsHeld : ℕ → ℕ
+bitsHeld n = 8 * n
 
 -- the bit of x at a place
 abbrev pub bitOf : ℕ → ℕ → ℕ
@@ -27,11 +31,11 @@ withBit place b x = (x / 2 ^ place / 2 * 2 + b) * 2 ^ place + x % 2 ^ place
 
 -- program bit p; past the end it is 0
 unfoldable pub bitAt : List ℕ → ℕ → ℕ
-bitAt bytes p = bitOf (placeOf p) (getD bytes (byteOf p) 0)
+bitAt bytes p = bitOf (bitPlace p) (getD bytes (bitByte p) 0)
 
 -- the bytes with program bit p made b, which is 0 or 1; past the end nothing changes
 unfoldable pub setBit : List ℕ → ℕ → ℕ → List ℕ
-setBit bytes p b = set bytes (byteOf p) (withBit (placeOf p) b (getD bytes (byteOf p) 0))
+setBit bytes p b = set bytes (bitByte p) (withBit (bitPlace p) b (getD bytes (bitByte p) 0))
 
 -- the bytes with these bits stored from bit p on
 unfoldable pub storeBits : List ℕ → ℕ → List ℕ → List ℕ

@@ -2,10 +2,10 @@
 use mathlib.Core.Path.{_≡_, refl, sym, ap, _∙_}
 use mathlib.Core.List.{List, [], _∷_, _++_}
 use Prim.Native.Nat.{ℕ, zero, suc, _+_, _-_, _*_, _/_, _%_, _^_, _≤_, _<_}
-use native.Mathlib.Nat.{not-suc-le-zero, le-of-suc-le-suc, pow-succ'}
+use native.Mathlib.Nat.{not-suc-le-zero, pow-succ'}
 use native.Mathlib.Omega.{arith}
 use lib.ListN.{length, getD, take, drop}
-use lib.Pow.{pow-mono, pow-pos}
+use lib.Pow.{pow-pos}
 use lib.Seq.{take-at, drop-at, take-all}
 use borrow.Rule.Slice.PartMut.{midOf, mid-len}
 use Rattle.lists.proofs.ListsLaws.{length-listOf}
@@ -15,6 +15,8 @@ use Rattle.block_networks.specs.Permutation.{permutationCount, partner, iterate
 use Rattle.block_networks.specs.Wanted.{takerOf}
 use Rattle.block_networks.proofs.Loops.{perm-inj, perm-lt}
 use Rattle.lists.specs.Lists.{listOf}
+use Rattle.block_sizes.specs.Sizes.{maxSize, maxLevel}
+use Rattle.block_sizes.proofs.SizesLaws.{power-small}
 use Rattle.block_loops.specs.Mappings.{mapOf, IsPerm, inverseOf, listBits, inputSides, outputSides, halfList, inverseList, sidesOf, Levelled}
 use Rattle.block_loops.proofs.MappingsLaws.{half-size, half-listed, level-bits, length-listBits, listBits-bits, sides-bits}
 use Rattle.block_loops.specs.Levels.{LevelBuffers, BlockBuffers, HalfBuffers}
@@ -25,8 +27,8 @@ pub record Halving (level N : ℕ) : Type 0 where
   pub half : N / 2 ≡ 2 ^ (level - 1)
   pub even : 2 * (N / 2) ≡ N
   pub some : 2 ≤ N
-  pub small : N ≤ 512
-  pub few : level - 1 ≤ 8
+  pub small : N ≤ maxSize
+  pub few : level - 1 < maxLevel
   pub count : permutationCount level ≡ N / 2 + permutationCount (level - 1) + permutationCount (level - 1) + (N / 2 - 1)
 
 pub halving : (level : ℕ) {N a b : ℕ} → BlockBuffers level N a b → 0 < level → Halving level N
@@ -36,9 +38,15 @@ halving (suc n) {N} room l =
     let m : suc n - 1 ≡ n = omega arith in
     let d : N ≡ 2 * 2 ^ n = room .size ∙ pow-succ' 2 n in
     let one = pow-pos n in
-    let top : 2 ^ n ≤ 2 ^ 8 = pow-mono (le-of-suc-le-suc (room .few)) in
     let h : N / 2 ≡ 2 ^ n = omega arith in
-    record { half = rw m h; even = omega arith; some = omega arith; small = omega arith; few = rw m (le-of-suc-le-suc (room .few)); count = rw (m, h) (omega arith) }
+    record {
+      half = rw m h;
+      even = omega arith;
+      some = omega arith;
+      small = rw (room .size) (power-small (suc n) (room .few));
+      few = rw m (room .few);
+      count = rw (m, h) (omega arith);
+    }
 
 pub level-buffers : (level : ℕ) {N a b : ℕ} → BlockBuffers level N a b → 0 < level → LevelBuffers N a b
 level-buffers level room l =

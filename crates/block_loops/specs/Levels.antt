@@ -4,7 +4,7 @@ use mathlib.Core.Path.{_≡_}
 use mathlib.Core.List.{List}
 use lib.ListN.{length, getD}
 use Rattle.block_elements.specs.Bits.{AreBits}
-use Rattle.block_sizes.specs.Sizes.{maxSize}
+use Rattle.block_sizes.specs.Sizes.{maxSize, maxLevel}
 
 -- a level of N places, with scratch of as many entries and as many marks
 pub record LevelBuffers (N scratch marks : ℕ) : Type 0 where
@@ -24,14 +24,14 @@ pub record SidesKnown (q m : List ℕ) : Type 0 where
 -- a block of 2 ^ level places, with scratch of as many entries and as many marks
 pub record BlockBuffers (level N scratch marks : ℕ) : Type 0 where
   pub size : N ≡ 2 ^ level
-  pub few : level ≤ 9
+  pub few : level ≤ maxLevel
   pub scratchSize : scratch ≡ N
   pub marksSize : marks ≡ N
 
 -- a half of 2 ^ level places from place `at` on
 pub record HalfBuffers (level at N scratch marks : ℕ) : Type 0 where
   pub size : N ≡ 2 * 2 ^ level
-  pub few : level ≤ 8
+  pub few : level < maxLevel
   pub within : at + N / 2 ≤ N
   pub scratchSize : scratch ≡ N
   pub marksSize : marks ≡ N

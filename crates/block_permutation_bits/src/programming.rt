@@ -1,19 +1,22 @@
 // Programming P: the bits that bring each output the input it wants, packed from the front of a lent program, or stored from a given bit on.
 // After the checks the call holds three arrays, 2,560 bytes, and lends them to all that works under it.
 ghost use mathlib.Core.Path.{_≡_};
-ghost use Prim.Native.Nat.{_+_, _*_, _/_, _<_, _≤_};
+ghost use Prim.Native.Nat.{_+_, _<_, _≤_};
 ghost use lib.ListN.{length};
 ghost use Rattle.lists.specs.Lists.{listOf};
 ghost use Rattle.fault.specs.Number.{answerNumber};
 ghost use Rattle.fault.specs.Buffers.{over};
-ghost use Rattle.block_elements.specs.Bits.{storeBits};
+ghost use Rattle.block_elements.specs.Bits.{bitsHeld, storeBits};
 ghost use Rattle.block_networks.specs.Permutation.{permutationCount};
 ghost use Rattle.block_networks.specs.Wanted.{Wanted, mapping, wantedBits};
 ghost use Rattle.block_sizes.specs.Sizes.{levelOf, SizeIs};
 ghost use Rattle.block_program_checks.specs.Checks.{programFault, programAtFault};
 ghost use Rattle.block_permutation_bits.specs.ProgramCalls.{programResult, programAtResult};
 use crate::block::program_block;
+use block_bits::bit_byte;
+use block_bits::bytes_for;
 use block_bits::fill_bytes;
+use block_bits::bit_place;
 use block_program_checks::check_permutation;
 use block_sizes::MAX_PLACES;
 use block_sizes::permutation_count;
@@ -27,7 +30,7 @@ pub fn program_permutation(n: u32, wanted: &[u16], program: &mut [u8]) -> Answer
     match check_permutation(n, wanted, 0, program.len()) {
         Answer::Refused(f) => Answer::Refused(f),
         Answer::Done => {
-            fill_bytes(program, (permutation_count(n) + 7) / 8, 0);
+            fill_bytes(program, bytes_for(permutation_count(n)), 0);
             program_wanted(n, wanted, program, 0);
             Answer::Done
         }
@@ -59,7 +62,7 @@ fn level_of(n: u32) -> usize
 // bit positions stay small.
 fn program_wanted(n: u32, wanted: &[u16], program: &mut [u8], start: usize)
     requires { ⌜ SizeIs n × Wanted n (now wanted) ⌝ }
-    requires { ⌜ start + permutationCount (levelOf n) ≤ 8 * length (now program) ⌝ }
+    requires { ⌜ start + permutationCount (levelOf n) ≤ bitsHeld (length (now program)) ⌝ }
     ensures { λ _. ⌜ now (program .exit) ≡ storeBits (now (program .entry)) start (wantedBits (levelOf n) (now (wanted .entry))) ⌝ }
 {
     let mut perm = [0u16; MAX_PLACES];
@@ -67,13 +70,13 @@ fn program_wanted(n: u32, wanted: &[u16], program: &mut [u8], start: usize)
     let mut mark = [0u8; MAX_PLACES];
     load_mapping(wanted, &mut perm);
     let places = n as usize;
-    let byte = start / 8;
+    let byte = bit_byte(start);
     program_block(
         &mut perm[..places],
         &mut inverse[..places],
         &mut mark[..places],
         &mut program[byte..],
-        start % 8,
+        bit_place(start),
         level_of(n),
     );
 }

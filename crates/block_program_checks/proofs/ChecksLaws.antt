@@ -16,7 +16,7 @@ use Rattle.fault.specs.declared.Fault.{Fault}
 use Rattle.fault.specs.Number.{faultNumber}
 use Rattle.fault.specs.Checks.{unless, andThen}
 use Rattle.fault.proofs.ChecksLaws.{unless-zero, and-then-zero, first-of-zero, next-passes, first-fails, number-positive, list-faultless}
-use Rattle.block_elements.specs.Bits.{bytesFor}
+use Rattle.block_elements.specs.Bits.{bytesFor, bitsHeld}
 use Rattle.block_networks.specs.Wanted.{Wanted}
 use Rattle.block_networks.specs.Selection.{selectionLevel, wholeCount, selectionCount, Selected}
 use Rattle.block_sizes.specs.Sizes.{maxSize, maxLevel, sizeAllowed, levelOf, SizeIs, SelectionSizes}
@@ -167,7 +167,7 @@ fault-at N wanted room = ap (andThen (wantedFault N wanted)) (sym (bits-at-front
 pub record ProgramPasses (N : ℕ) (wanted : List ℕ) (start room : ℕ) : Type 0 where
   pub size : SizeIs N
   pub wantedOnce : Wanted N wanted
-  pub fits : start + permutationCount (levelOf N) ≤ 8 * room
+  pub fits : start + permutationCount (levelOf N) ≤ bitsHeld room
 
 pub program-passes : {N : ℕ} {wanted : List ℕ} {start room : ℕ} → programAtFault N wanted start room ≡ 0 → ProgramPasses N wanted start room
 program-passes {N} {wanted} {start} {room} e =
@@ -176,7 +176,7 @@ program-passes {N} {wanted} {start} {room} e =
     record { size = size-is N (w .0); wantedOnce = w .1; fits = bits-faultless (permutationCount (levelOf N)) start room .0 (h .1) }
 
 -- success from plain bounds
-pub program-at-succeeds : (n : ℕ) {wanted : List ℕ} (start room : ℕ) → n ≤ maxLevel → Wanted (2 ^ n) wanted → start + permutationCount (levelOf (2 ^ n)) ≤ 8 * room
+pub program-at-succeeds : (n : ℕ) {wanted : List ℕ} (start room : ℕ) → n ≤ maxLevel → Wanted (2 ^ n) wanted → start + permutationCount (levelOf (2 ^ n)) ≤ bitsHeld room
     → programAtFault (2 ^ n) wanted start room ≡ 0
 program-at-succeeds n {wanted} start room l W fits =
     and-then-zero _ _ .1 (wanted-faultless (2 ^ n) wanted .1 (power-allowed n l, W), bits-faultless (permutationCount (levelOf (2 ^ n))) start room .1 fits)
@@ -215,7 +215,7 @@ selection-program-passes {m} {n} {wanted} {start} {room} e =
 
 -- success from plain bounds
 pub selection-program-at-succeeds : (m n : ℕ) {wanted : List ℕ} (start room : ℕ) → 1 ≤ m → m ≤ maxSize → 1 ≤ n → n ≤ maxSize
-    → Selected m n wanted → start + selectionCount m n ≤ 8 * room → selectionProgramAtFault m n wanted start room ≡ 0
+    → Selected m n wanted → start + selectionCount m n ≤ bitsHeld room → selectionProgramAtFault m n wanted start room ≡ 0
 selection-program-at-succeeds m n {wanted} start room m1 mm n1 nm W fits =
     let s : SelectionSizes m n = record { someInputs = m1; inputs = mm; someOutputs = n1; outputs = nm } in
     and-then-zero _ _ .1 (selection-wanted-faultless m n wanted .1 (s, W), bits-faultless (selectionCount m n) start room .1 fits)

@@ -1,6 +1,6 @@
 -- Document 01, block library, programming: "Checks: 2 if P's N is not a power of two from 1 to 512, or S's m not 1 to 512; 4 if n is not 1 to
 -- 512; 12 if the list has another length; 9 if a wanted input is not in 1 to m (or N) or, in P, comes twice; 11."
-use Prim.Native.Nat.{ℕ, zero, suc, _+_, _*_, _≤_}
+use Prim.Native.Nat.{ℕ, zero, suc, _+_, _≤_}
 use mathlib.Core.Bool.{Bool, true, _&&_, not}
 use mathlib.Core.List.{List}
 use lib.Dec.{leb, eqb}
@@ -11,6 +11,7 @@ use Rattle.block_networks.specs.Permutation.{permutationCount}
 use Rattle.block_networks.specs.Selection.{selectionCount, Selected}
 use Rattle.block_sizes.specs.Sizes.{sizeAllowed, levelOf, selectionSizesFault, SelectionSizes}
 use Rattle.block_program_checks.specs.Bits.{bitsFault, bitsAtFault}
+use Rattle.block_elements.specs.Bits.{bitsHeld}
 
 -- ---- check 9
 
@@ -75,4 +76,4 @@ selectionProgramAtFault m n wanted start room = andThen (selectionWantedFault m 
 pub record SelectionPasses (m n : ℕ) (wanted : List ℕ) (start room : ℕ) : Type 0 where
   pub sides : SelectionSizes m n
   pub selected : Selected m n wanted
-  pub fits : start + selectionCount m n ≤ 8 * room
+  pub fits : start + selectionCount m n ≤ bitsHeld room

@@ -2,6 +2,10 @@
 mod rows;
 mod wires;
 
+pub use rows::KIND_PLACE;
+pub use rows::LEFT_PLACE;
+pub use rows::RIGHT_PLACE;
+pub use rows::STRIDE;
 pub use rows::put_pairs;
 pub use rows::put_row;
 pub use rows::row_place;

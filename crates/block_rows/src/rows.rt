@@ -9,9 +9,19 @@ ghost use Rattle.block_rows.specs.Rows.{rowPut, rowsPut, pairRows};
 use crate::wires::wire_at;
 use elements::FabricWire;
 use elements::Kind;
+use elements::MAX_WIRES;
 
 // The entries of a row: its kind, its left wire, its right wire.
-const STRIDE: usize = 3;
+pub const STRIDE: usize = 3;
+
+// The place of a row's kind among its entries.
+pub const KIND_PLACE: usize = 0;
+
+// The place of its left wire.
+pub const LEFT_PLACE: usize = 1;
+
+// The place of its right wire.
+pub const RIGHT_PLACE: usize = 2;
 
 // The entries that so many rows take, which is the place of the row behind them.
 pub fn row_place(rows: u32) -> usize
@@ -25,9 +35,9 @@ pub fn put_row(rows: &mut [u16], kind: Kind, left: FabricWire, right: FabricWire
     ensures { λ _. ⌜ now (rows .exit) ≡ rowPut (kindNumber kind) (left .0) (right .0) (now (rows .entry)) ⌝ }
 {
     if STRIDE <= rows.len() {
-        rows[0] = kind.number();
-        rows[1] = (left.0 % 65_536) as u16;
-        rows[2] = (right.0 % 65_536) as u16;
+        rows[KIND_PLACE] = kind.number();
+        rows[LEFT_PLACE] = (left.0 as usize % MAX_WIRES) as u16;
+        rows[RIGHT_PLACE] = (right.0 as usize % MAX_WIRES) as u16;
     }
 }
 

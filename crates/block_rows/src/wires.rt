@@ -7,6 +7,7 @@ ghost use Rattle.elements.specs.Elements.{maxWires};
 ghost use Rattle.block_rows.specs.Wires.{wiresPut};
 use block_bits::smaller;
 use elements::FabricWire;
+use elements::MAX_WIRES;
 
 // The wire that stands at a place of a list, wire 0 past its end.
 pub fn wire_at(wires: &[u16], at: usize) -> FabricWire
@@ -23,12 +24,12 @@ pub fn put_wires(wires: &mut [u16], count: usize, first: FabricWire, step: u16)
     ensures { λ _. ⌜ now (wires .exit) ≡ wiresPut count (first .0) step (now (wires .entry)) ⌝ }
 {
     let end = smaller(count, wires.len());
-    let step = step as u32;
-    let mut wire = first.0 % 65_536;
+    let step = step as usize;
+    let mut wire = first.0 as usize % MAX_WIRES;
     let mut i: usize = 0;
     while i < end {
         wires[i] = wire as u16;
-        wire = (wire + step) % 65_536;
+        wire = (wire + step) % MAX_WIRES;
         i += 1;
     }
 }

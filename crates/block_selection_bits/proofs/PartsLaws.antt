@@ -4,7 +4,7 @@ use mathlib.Core.Path.{_≡_, refl, sym, ap, ap₂, _∙_, fun-ext}
 use mathlib.Core.Logic.{_⊎_, inl, inr}
 use mathlib.Core.Bool.{Bool, true, false}
 use mathlib.Core.List.{List, _++_, append-assoc}
-use Prim.Native.Nat.{ℕ, zero, suc, _+_, _-_, _*_, _^_, _≤_, _<_}
+use Prim.Native.Nat.{ℕ, zero, suc, _+_, _-_, _^_, _≤_, _<_}
 use native.Mathlib.Nat.{add-assoc}
 use native.Mathlib.Numerals.{add-one}
 use native.Mathlib.Omega.{arith}
@@ -15,7 +15,7 @@ use Rattle.lists.proofs.ListsLaws.{length-listOf, getD-listOf, listOf-ext}
 use Rattle.fault.specs.Buffers.{over}
 use Rattle.powers.specs.Powers.{ceilLog}
 use Rattle.powers.proofs.PowersLaws.{ceilLog-power}
-use Rattle.block_elements.specs.Bits.{storeBits}
+use Rattle.block_elements.specs.Bits.{storeBits, bitsHeld}
 use Rattle.block_elements.proofs.BitsLaws.{storeBits-append}
 use Rattle.block_networks.specs.Permutation.{permutationCount, Perm}
 use Rattle.block_networks.specs.Wanted.{mapping, takerOf, wantedBits, wantedOf}
@@ -139,7 +139,7 @@ network-stored {list} {start} program R =
 
 -- the list of a one-to-one mapping
 module _ {N : ℕ} {π ρ : ℕ → ℕ} (P : Perm N π ρ) {list : List ℕ} (e : list ≡ wantedOf N π) where
-  pub network-room : SizeIs N → (start room : ℕ) → start + permutationCount (levelOf N) ≤ 8 * room → NetworkRoom list start room
+  pub network-room : SizeIs N → (start room : ℕ) → start + permutationCount (levelOf N) ≤ bitsHeld room → NetworkRoom list start room
   network-room S start room fits =
       let l : length list ≡ N = ap length e ∙ length-listOf N _ in
       record { size = rw l S; names = rw (l, e) (wantedOf-names P); fits = rw l fits }
@@ -216,9 +216,9 @@ module _ {m n : ℕ} {wanted : List ℕ} {start room : ℕ} (P : SelectionPasses
   unfolding selectionCount wholeCount
   count-by-parts = rw (e, ceilLog-power (selectionLevel m n)) (add-assoc (permutationCount (selectionLevel m n)) _ _)
 
-  pub first-room : start + permutationCount (levelOf N) ≤ 8 * room
+  pub first-room : start + permutationCount (levelOf N) ≤ bitsHeld room
   first-room = omega (arith, count-by-parts, P .fits)
 
   -- behind the first network's bits and the chain's
-  pub second-room : {k second : ℕ} → k ≡ N → second ≡ start + firstCount k → second + permutationCount (levelOf N) ≤ 8 * room
+  pub second-room : {k second : ℕ} → k ≡ N → second ≡ start + firstCount k → second + permutationCount (levelOf N) ≤ bitsHeld room
   second-room l s = rw (s, l) (omega (arith, count-by-parts, P .fits))

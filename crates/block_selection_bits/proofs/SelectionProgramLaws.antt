@@ -1,14 +1,14 @@
 -- What the checks say of the whole program holds in the part from the first bit's byte on. After success the program holds the defined bits.
 use mathlib.Core.Path.{_≡_, ap, _∙_}
 use mathlib.Core.List.{List}
-use Prim.Native.Nat.{ℕ, _+_, _-_, _/_, _%_}
+use Prim.Native.Nat.{ℕ, _+_, _-_}
 use native.Mathlib.Omega.{arith}
 use borrow.Rule.Slice.PartMut.{midOf}
 use lib.ListN.{length, getD, take, drop, length-drop}
 use lib.Seq.{take-at, length-take-le}
 use Rattle.lists.specs.Lists.{listOf}
 use Rattle.lists.proofs.ListsLaws.{listOf-ext, listOf-getD}
-use Rattle.block_elements.specs.Bits.{bytesFor, bitAt, pack}
+use Rattle.block_elements.specs.Bits.{bytesFor, bitAt, pack, bitByte, bitPlace}
 use Rattle.block_elements.proofs.BitsLaws.{length-pack, storeBits-at}
 use Rattle.block_networks.specs.Selection.{selectionCount, selectionBits}
 use Rattle.block_networks.proofs.SelectionRouting.{length-selectionBits, selectionBits-bits}
@@ -20,9 +20,9 @@ use Rattle.block_selection_bits.specs.ProgramCalls.{selectionProgramResu
 
 -- in the part of the program that begins with the first bit's byte
 pub passes-in-part : {m n : ℕ} {wanted : List ℕ} {start : ℕ} (program : List ℕ) → SelectionPasses m n wanted start (length program)
-    → SelectionPasses m n wanted (start % 8) (length (midOf (start / 8) (length program - start / 8) program))
+    → SelectionPasses m n wanted (bitPlace start) (length (midOf (bitByte start) (length program - bitByte start) program))
 passes-in-part {start} program P =
-    let byte = start / 8 in
+    let byte = bitByte start in
     let size : length (midOf byte (length program - byte) program) ≡ length program - byte =
     length-take-le (length program - byte) (drop byte program) (omega (arith, length-drop byte program)) in
     record { sides = P .sides; selected = P .selected; fits = rw size (omega (arith, P .fits)) }

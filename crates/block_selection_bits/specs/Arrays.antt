@@ -1,6 +1,6 @@
 -- What the programming's inner calls find and leave in their arrays. Inputs, outputs and positions count from 0; the wanted inputs of a list
 -- count from 1, so that 0 marks a place where none stands yet.
-use Prim.Native.Nat.{ℕ, zero, suc, _+_, _-_, _*_, _≤_, _<_}
+use Prim.Native.Nat.{ℕ, zero, suc, _+_, _-_, _≤_, _<_}
 use mathlib.Core.Path.{_≡_}
 use mathlib.Core.Logic.{_≢_}
 use mathlib.Core.Bool.{Bool, cond, _&&_}
@@ -14,6 +14,7 @@ use Rattle.lists.specs.Counting.{oneIf}
 use Rattle.block_networks.specs.Completion.{completed, RisingCompletion}
 use Rattle.block_networks.specs.Selection.{Selected, wanting, copies, headOf, positionOf, copyOf}
 use Rattle.block_sizes.specs.Sizes.{maxSize, levelOf, SizeIs}
+use Rattle.block_elements.specs.Bits.{bitsHeld}
 
 -- the wanted inputs of a block of N positions
 pub record Demand (N : ℕ) (wanted : List ℕ) : Type 0 where
@@ -85,7 +86,7 @@ pub record PlacedNext (counts : List ℕ) (p from : ℕ) (old new : List ℕ) (n
 pub record NetworkRoom (list : List ℕ) (start room : ℕ) : Type 0 where
   pub size : SizeIs (length list)
   pub names : Wanted (length list) list
-  pub fits : start + permutationCount (levelOf (length list)) ≤ 8 * room
+  pub fits : start + permutationCount (levelOf (length list)) ≤ bitsHeld room
 
 -- the bits of P for the list
 abbrev pub networkBits : List ℕ → List ℕ

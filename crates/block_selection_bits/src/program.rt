@@ -1,9 +1,9 @@
 // The program of S by its parts: the first network, which takes each wanted input to its head, the chain, and the second network, which
 // takes a copy to each output. The call holds three arrays, 3,072 bytes, and lends them to all that works under it.
 ghost use mathlib.Core.Path.{_≡_};
-ghost use Prim.Native.Nat.{_+_, _-_, _*_, _<_, _≤_};
+ghost use Prim.Native.Nat.{_+_, _-_, _<_, _≤_};
 ghost use lib.ListN.{length};
-ghost use Rattle.block_elements.specs.Bits.{storeBits};
+ghost use Rattle.block_elements.specs.Bits.{bitsHeld, storeBits};
 ghost use Rattle.block_networks.specs.Permutation.{permutationCount};
 ghost use Rattle.block_networks.specs.Wanted.{Wanted};
 ghost use Rattle.lists.specs.Counting.{oneIf};
@@ -25,7 +25,7 @@ use block_sizes::selection_positions;
 
 // The bits of S(m, n) for the wanted inputs, stored from bit `start` on, which lies in the program's first byte.
 pub(crate) fn store_program(m: u32, n: u32, wanted: &[u16], program: &mut [u8], start: usize)
-    requires { ⌜ SelectionPasses m n (now wanted) start (length (now program)) × (start < 8) ⌝ }
+    requires { ⌜ SelectionPasses m n (now wanted) start (length (now program)) × (start < bitsHeld 1) ⌝ }
     ensures { λ _. ⌜ now (program .exit) ≡ storeBits (now (program .entry)) start (selectionBits m n (now (wanted .entry))) ⌝ }
 {
     let mut counts = [0u16; MAX_PLACES];
@@ -57,7 +57,7 @@ fn find_positions(
 // The first network's bits for the inputs of its positions, from bit `start` on, and behind them the chain's. Gives the bit behind those.
 fn store_first(counts: &[u16], list: &[u16], program: &mut [u8], start: usize) -> usize
     requires { ⌜ NetworkRoom (now list) start (length (now program)) ⌝ }
-    requires { ⌜ (length (now counts) ≡ maxSize) × (start < 8) ⌝ }
+    requires { ⌜ (length (now counts) ≡ maxSize) × (start < bitsHeld 1) ⌝ }
     ensures behind { λ r. ⌜ r ≡ start + firstCount (length (now (list .entry))) ⌝ }
     ensures stored { λ _. ⌜ now (program .exit) ≡ storeBits (now (program .entry)) start (firstBits (now (counts .entry)) (now (list .entry))) ⌝ }
 {
@@ -102,7 +102,7 @@ fn store_second(
 )
     requires { ⌜ SizeIs size × Demand size (now wanted) ⌝ }
     requires { ⌜ NextCopies (now wanted) 0 (now heads) × (length (now list) ≡ maxSize) ⌝ }
-    requires { ⌜ start + permutationCount (levelOf size) ≤ 8 * length (now program) ⌝ }
+    requires { ⌜ start + permutationCount (levelOf size) ≤ bitsHeld (length (now program)) ⌝ }
     ensures { λ _. ⌜ now (program .exit) ≡ storeBits (now (program .entry)) start (secondNetworkBits size (now (wanted .entry))) ⌝ }
 {
     list_copies(size, wanted, heads, list);

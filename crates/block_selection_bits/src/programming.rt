@@ -5,7 +5,10 @@ ghost use Rattle.fault.specs.Number.{answerNumber};
 ghost use Rattle.block_program_checks.specs.Checks.{selectionProgramFault, selectionProgramAtFault};
 ghost use Rattle.block_selection_bits.specs.ProgramCalls.{selectionProgramResult, selectionProgramAtResult};
 use crate::program::store_program;
+use block_bits::bit_byte;
+use block_bits::bytes_for;
 use block_bits::fill_bytes;
+use block_bits::bit_place;
 use block_program_checks::check_selection;
 use block_sizes::selection_count;
 use fault::Answer;
@@ -18,7 +21,7 @@ pub fn program_selection(m: u32, n: u32, wanted: &[u16], program: &mut [u8]) -> 
     match check_selection(m, n, wanted, 0, program.len()) {
         Answer::Refused(f) => Answer::Refused(f),
         Answer::Done => {
-            fill_bytes(program, (selection_count(m, n) + 7) / 8, 0);
+            fill_bytes(program, bytes_for(selection_count(m, n)), 0);
             store_program(m, n, wanted, program, 0);
             Answer::Done
         }
@@ -40,8 +43,8 @@ pub fn program_selection_at(
     match check_selection(m, n, wanted, start, program.len()) {
         Answer::Refused(f) => Answer::Refused(f),
         Answer::Done => {
-            let byte = start / 8;
-            store_program(m, n, wanted, &mut program[byte..], start % 8);
+            let byte = bit_byte(start);
+            store_program(m, n, wanted, &mut program[byte..], bit_place(start));
             Answer::Done
         }
     }

@@ -15,7 +15,7 @@ use Rattle.block_networks.specs.Permutation.{permutationCount}
 use Rattle.block_networks.proofs.PermutationLaws.{permutation-count}
 use Rattle.block_networks.specs.Selection.{selectionLevel, wholeCount, wholeWires, selectionCount, selectionWires}
 use Rattle.block_networks.proofs.SelectionLaws.{level-least}
-use Rattle.block_sizes.specs.Sizes.{maxSize, maxLevel, sizeAllowed, levelOf, selectionSizeAllowed, selectionSizesFault, SizeIs, CountIs, SelectionSizes}
+use Rattle.block_sizes.specs.Sizes.{maxSize, maxLevel, sizeAllowed, levelOf, selectionSizeAllowed, selectionSizesFault, SizeIs, SelectionSizes}
 
 pub size-is : (N : ℕ) → sizeAllowed N ≡ true → SizeIs N
 unfolding sizeAllowed ceilPower
@@ -76,6 +76,11 @@ count-most level top h =
 
 pub few-rows : (level : ℕ) → level ≤ maxLevel → permutationCount level ≤ maxLevel * maxSize
 few-rows level h = count-most level maxLevel h
+
+-- a number of rows
+pub record CountIs (level count : ℕ) : Type 0 where
+  pub count-is : count ≡ permutationCount level
+  pub most-rows : count ≤ maxLevel * maxSize
 
 -- `permutation_count` counts the rows of P(n), n = 2 ^ level
 pub count-at : {n level count : ℕ} → n ≡ 2 ^ level → level ≤ maxLevel → count ≡ permutationCount (levelOf n) → CountIs level count

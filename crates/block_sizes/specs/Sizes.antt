@@ -1,12 +1,11 @@
 -- Document 01, block library, checks 2 and 4: "2 if P's N is not a power of two from 1 to 512, or S's m not 1 to 512; 4 if n is not 1 to 512".
-use Prim.Native.Nat.{ℕ, _*_, _^_, _≤_}
+use Prim.Native.Nat.{ℕ, _^_, _≤_}
 use mathlib.Core.Bool.{Bool, _&&_}
 use lib.Dec.{leb, eqb}
 use Rattle.fault.specs.declared.Fault.{Fault}
 use Rattle.fault.specs.Checks.{unless, andThen}
 use Rattle.powers.specs.Powers.{ceilLog, ceilPower}
 use mathlib.Core.Path.{_≡_}
-use Rattle.block_networks.specs.Permutation.{permutationCount}
 
 abbrev pub maxSize : ℕ
 maxSize = 512
@@ -41,8 +40,3 @@ pub record SelectionSizes (m n : ℕ) : Type 0 where
   pub inputs : m ≤ maxSize
   pub someOutputs : 1 ≤ n
   pub outputs : n ≤ maxSize
-
--- a number of rows
-pub record CountIs (level count : ℕ) : Type 0 where
-  pub count-is : count ≡ permutationCount level
-  pub most-rows : count ≤ maxLevel * maxSize

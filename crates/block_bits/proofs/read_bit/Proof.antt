@@ -1,22 +1,24 @@
 -- `block_bits::read_bit` meets its contract: past the end the bit is 0, elsewhere a shift and a mask give it. Assumes nothing.
 use mathlib.Core.Path.{sym}
-use Prim.Native.Nat.{_/_, _%_}
 use native.Mathlib.Omega.{arith}
 use borrow.Author.Needs.{needs}
 use lib.ListN.{getD}
-use Rattle.block_elements.specs.Bits.{bitAt}
+use Rattle.block_elements.specs.Bits.{bitByte, bitPlace, bitAt}
 use Rattle.block_elements.proofs.BitsLaws.{bitAt-past, bitOf-mask}
 use Rattle.block_bits.proofs.read_bit.Statement.{statement}
 use Rattle.block_bits.proofs.read_bit.Tie as tie
 
 past : tie.Need-returns
-past c = sym (bitAt-past _ (c .before .args .p) (omega arith))
+past c = sym (bitAt-past _ (c .before .before .before .before .args .p) (omega arith))
 
 here : tie.Need-returns-2
 unfolding bitAt
 here c =
-    let p = c .before .before .args .p in
-    bitOf-mask (p % 8) (getD (c .before .before .args .program .now) (p / 8) 0)
+    let placed = c .before .before in
+    let a = placed .before .before .before .args in
+    rw (placed .bit-place .ensures, placed .before .bit-byte .ensures) (bitOf-mask (bitPlace (a .p)) (getD (a .program .now) (bitByte (a .p)) 0))
 
 pub read-bit-spec : {M : Type 1} → statement M
-read-bit-spec = tie.close (tie.spec (λ c. search needs) past (λ c. search needs) (λ c. search needs) (λ c. search needs) here)
+read-bit-spec =
+    tie.close
+    (tie.spec (λ c κs. search needs) (λ c κs. search needs) (λ c. search needs) past (λ c. search needs) (λ c. search needs) (λ c. search needs) here)

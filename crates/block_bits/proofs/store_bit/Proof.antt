@@ -1,9 +1,7 @@
 -- `block_bits::store_bit` meets its contract: its byte gets the bit, and past the end nothing changes. Assumes nothing.
-use mathlib.Core.Path.{sym, ap}
-use Prim.Native.Nat.{_/_}
+use mathlib.Core.Path.{sym}
 use native.Mathlib.Omega.{arith}
 use borrow.Author.Needs.{needs}
-use lib.ListN.{set}
 use Rattle.block_elements.specs.Bits.{setBit}
 use Rattle.block_elements.proofs.BitsLaws.{setBit-past}
 use Rattle.block_bits.proofs.store_bit.Statement.{statement}
@@ -12,11 +10,15 @@ use Rattle.block_bits.proofs.store_bit.Tie as tie
 here : tie.Need-returns
 unfolding setBit
 here c =
-    let a = c .before .before .before .before .args in
-    ap (set (a .program .now) (a .p / 8)) (c .with-bit .ensures)
+    let byte = c .before .before .before .before in
+    rw (c .with-bit .ensures, c .before .bit-place .ensures, byte .bit-byte .ensures)
 
 past : tie.Need-returns-2
-past c = sym (setBit-past _ (c .before .before .args .p) _ (omega arith))
+past c = sym (setBit-past _ (c .before .before .before .args .p) _ (omega arith))
 
 pub store-bit-spec : {M : Type 1} → statement M
-store-bit-spec = tie.close (tie.spec (λ c. search needs) (λ c. search needs) (λ c κs. search needs) (λ c. search needs) (λ c. search needs) here past)
+store-bit-spec =
+    tie.close
+    (tie.spec
+    (λ c κs. search needs) (λ c. search needs) (λ c κs. search needs) (λ c. search needs) (λ c κs. search needs) (λ c. search needs) (λ c. search needs)
+    here past)

@@ -2,8 +2,8 @@
 -- A level stores its own rows' bits and leaves the halves' mappings in the scratch, where the upper half's work leaves the lower's alone.
 -- Assumes nothing.
 use mathlib.Core.Path.{_≡_, refl, _∙_, ap}
-use Prim.Native.Nat.{ℕ, _+_, _-_, _*_, _/_, _^_, _≤_, _<_}
-use native.Mathlib.Nat.{le-add-right}
+use Prim.Native.Nat.{ℕ, suc, _+_, _-_, _*_, _/_, _^_, _≤_, _<_}
+use native.Mathlib.Nat.{le-add-right, pow-succ'}
 use native.Mathlib.Omega.{arith}
 use mir.Syntax.{w32, w64}
 use mir.Val.{Fits}
@@ -12,11 +12,10 @@ use borrow.Fn.Kinds.{In}
 use borrow.Fn.PlainCycle.{Measures, is, falls, and}
 use borrow.Rule.Slice.PartMut.{mid-len, drop-put, same-len-mid}
 use lib.ListN.{length, take, drop}
-use lib.Pow.{pow-mono}
 use Rattle.block_elements.specs.Bits.{AreBytes, storeBits}
 use Rattle.block_networks.specs.Permutation.{permutationCount}
 use Rattle.block_sizes.specs.Sizes.{maxSize, maxLevel}
-use Rattle.block_sizes.proofs.SizesLaws.{count-at}
+use Rattle.block_sizes.proofs.SizesLaws.{power-small, count-at}
 use Rattle.block_loops.specs.Mappings.{listBits}
 use Rattle.block_loops.specs.Levels.{HalfBuffers}
 use Rattle.block_loops.proofs.LevelsLaws.{Halving, halving, level-buffers, half-buffers, part-room, upper-perm, lower-perm, block-stored}
@@ -68,14 +67,14 @@ some-below l = omega arith
 
 -- the places of a half lie in its arrays, and are small
 module _ {level at N scratch marks : ℕ} (room : HalfBuffers level at N scratch marks) where
-  few-places : N ≤ 2 * 2 ^ 8
-  few-places = let p : 2 ^ level ≤ 2 ^ 8 = pow-mono (room .few) in omega arith
+  few-places : N ≤ maxSize
+  few-places = rw (room .size, ← pow-succ' 2 level) (power-small (suc level) (room .few))
 
   end-fits : Fits w64 (at + N / 2)
-  end-fits = fits-below {n = 2 * 2 ^ 8} tt (omega (arith, few-places))
+  end-fits = fits-below {n = maxSize} tt (omega (arith, few-places))
 
   place-fits : Fits w64 (at * 2)
-  place-fits = fits-below {n = 4 * 2 ^ 8} tt (omega (arith, few-places))
+  place-fits = fits-below {n = 2 * maxSize} tt (omega (arith, few-places))
 
   in-scratch : at + N / 2 ≤ scratch
   in-scratch = omega arith

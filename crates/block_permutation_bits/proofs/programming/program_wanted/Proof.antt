@@ -10,12 +10,19 @@ use lib.Seq.{length-take-le}
 use Rattle.block_elements.specs.Bits.{storeBits}
 use Rattle.block_networks.specs.Wanted.{wantedBits}
 use Rattle.block_sizes.specs.Sizes.{maxSize, levelOf}
-use Rattle.block_bits.proofs.StoreLaws.{store-part}
+use Rattle.block_bits.proofs.StoreLaws.{store-from-byte}
 use Rattle.block_loops.specs.Mappings.{listBits}
 use Rattle.block_program_checks.proofs.ChecksLaws.{few-bits}
 use Rattle.block_permutation_bits.proofs.ProgramLaws.{front-perm, front-bits}
 use Rattle.block_permutation_bits.proofs.programming.program_wanted.Statement.{statement}
 use Rattle.block_permutation_bits.proofs.programming.program_wanted.Tie as tie
+
+-- the way back: to the loaded mapping, to the start
+abbrev loaded : tie.After-mark → tie.After-load-mapping
+loaded c = c .before .before .before .before .before
+
+abbrev start : tie.After-load-mapping → tie.Start
+start c = c .before .before .before .before
 
 for-mapping : tie.Need-load-mapping-requires
 for-mapping c κs =
@@ -27,30 +34,32 @@ for-mapping c κs =
 
 perm-part : tie.Need-slice-aggregate-program-block
 perm-part c =
-    let s = c .before .before .before .before .before .before in
+    let load = c .before .before .before in
+    let s = start load in
     let size = s .pre .0 .0 in
-    let load = c .before .before .load-mapping in
-    let kept = load .kept .1 .0 in
-    sym (length-take-le (s .args .n) (load .last .1 .0) (omega arith))
+    let kept = load .load-mapping .kept .1 .0 in
+    sym (length-take-le (s .args .n) (load .load-mapping .last .1 .0) (omega arith))
 
 inverse-part : tie.Need-slice-aggregate-program-block-2
 inverse-part c =
-    let s = c .before .before .before .before .before .before .before in
+    let s = start (c .before .before .before .before) in
     sym (length-take-le (s .args .n) (replicate maxSize 0) (s .pre .0 .0 .most))
 
 mark-part : tie.Need-slice-aggregate-program-block-3
 mark-part c =
-    let s = c .before .before .before .before .before .before .before .before in
+    let s = start (loaded c) in
     sym (length-take-le (s .args .n) (replicate maxSize 0) (s .pre .0 .0 .most))
 
 for-block : tie.Need-program-block-requires
 for-block c κs =
-    let s = c .before .before .before .before .before .before .before .before .before .before in
+    let found = loaded (c .before .before .before) in
+    let load = found .load-mapping in
+    let s = start found in
     let size = s .pre .0 .0 in
     let n = s .args .n in
-    let load = c .before .before .before .before .before .before .load-mapping in
     let kept = load .kept .1 .0 in
     let e = c .level-of .ensures in
+    let place = c .before .bit-place .ensures in
     let lp = length-take-le n (load .last .1 .0) (omega arith) in (
       front-perm (replicate maxSize 0) (s .pre .0 .1) (load .ensures),
       (
@@ -67,21 +76,19 @@ for-block c κs =
 stored : tie.Need-returns
 stored c =
     let block = c .before .before .before .before .before in
-    let s = block .before .before .before .before .before .before .before .before .before .before .before in
+    let marked = block .before .before .before .before in
+    let found = loaded marked in
+    let load = found .load-mapping in
+    let s = start found in
     let a = s .args in
-    let whole = a .program .now in
-    let byte = a .start / 8 in
-    let load = block .before .before .before .before .before .before .before .load-mapping in
     let bits = ap (λ l. listBits l (take (a .n) (load .last .1 .0))) (block .before .level-of .ensures) ∙ front-bits (replicate maxSize 0) (s .pre .0 .1) (load .ensures) _ in
-    let wanted = wantedBits (levelOf (a .n)) (a .wanted .now) in
-    let split : 8 * byte + a .start % 8 ≡ a .start = omega arith in
-    ap (putMid byte (length whole - byte) whole) (block .program-block .ensures ∙ ap (storeBits (midOf byte (length whole - byte) whole) (a .start % 8)) bits)
-    ∙ store-part whole byte (a .start % 8) wanted (omega (arith, s .pre .1))
-    ∙ ap (λ p. storeBits whole p wanted) split
+    store-from-byte (a .program .now) (a .start) (wantedBits (levelOf (a .n)) (a .wanted .now))
+    (marked .before .before .before .bit-byte .ensures) (block .before .before .bit-place .ensures) (omega (arith, s .pre .1))
+    (block .program-block .ensures ∙ ap (storeBits _ _) bits)
 
 pub program-wanted-spec : {M : Type 1} → statement M
 program-wanted-spec =
     tie.close
     (tie.spec
-    (λ c. search needs) for-mapping (λ c. search needs) perm-part (λ c. search needs) inverse-part (λ c. search needs) mark-part (λ c. search needs)
-    (λ c. search needs) (λ c. search needs) (λ c κs. search needs) for-block (λ c. search needs) stored)
+    (λ c. search needs) for-mapping (λ c κs. search needs) (λ c. search needs) perm-part (λ c. search needs) inverse-part (λ c. search needs) mark-part (λ c. search needs)
+    (λ c. search needs) (λ c. search needs) (λ c κs. search needs) (λ c κs. search needs) for-block (λ c. search needs) stored)

@@ -4,8 +4,7 @@ use Prim.Native.Nat.{_+_, _-_, _*_, _≤_}
 use lib.Pow.{pow-pos}
 use borrow.Author.Needs.{needs}
 use Rattle.elements.specs.Elements.{maxWires}
-use Rattle.block_sizes.specs.Sizes.{CountIs}
-use Rattle.block_sizes.proofs.SizesLaws.{count-at}
+use Rattle.block_sizes.proofs.SizesLaws.{CountIs, count-at}
 use Rattle.block_rows.proofs.WiresLaws.{wire-after}
 use Rattle.block_permutation_rows.proofs.HalvesLaws.{step-power, step-count}
 use Rattle.block_permutation_rows.proofs.level.level_parts.Statement.{statement}

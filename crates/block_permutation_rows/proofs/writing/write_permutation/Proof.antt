@@ -1,38 +1,25 @@
 -- `block_permutation_rows::writing::write_permutation` meets its contract: the checks decide, and where none fails P is written. Assumes nothing.
-use mathlib.Core.Path.{_≡_, sym, ap, _∙_}
-use lib.ListN.{length}
+use mathlib.Core.Path.{sym}
 use borrow.Author.Needs.{needs}
-use Rattle.fault.specs.Number.{faultNumber, answerNumber}
-use Rattle.fault.proofs.BuffersLaws.{filled-refused, is-filled}
-use Rattle.block_write_checks.specs.WriteChecks.{writeFault}
+use Rattle.fault.proofs.BuffersLaws.{none-fails, refuses-both, fills-both}
 use Rattle.block_write_checks.proofs.WriteChecksLaws.{write-passes}
 use Rattle.block_permutation_rows.proofs.writing.write_permutation.Statement.{statement}
 use Rattle.block_permutation_rows.proofs.writing.write_permutation.Tie as tie
 
--- where the checks are done, none fails
-none : (c : tie.After-enum-told) → let a = c .before .before .before .before .before .before .args in
-    0 ≡ writeFault (a .n) (a .inputs .now) (a .next .0) (length (a .rows .now)) (length (a .outputs .now))
-none c = ap answerNumber (sym (c .enum-told .given .1)) ∙ c .before .before .check-permutation-write .ensures
-
 passes : tie.Need-write-checked-permutation-requires
-passes c κs = write-passes _ _ _ _ _ (sym (none (c .before .before)))
-
--- where one fails, its number is the answer
-refusal : (c : tie.After-f) → let a = c .before .before .before .before .before .before .args in
-    faultNumber (c .f .given .0 .0) ≡ writeFault (a .n) (a .inputs .now) (a .next .0) (length (a .rows .now)) (length (a .outputs .now))
-refusal c = ap answerNumber (sym (c .f .given .1)) ∙ c .before .before .check-permutation-write .ensures
+passes c κs =
+    let told = c .before .before in
+    write-passes _ _ _ _ _ (sym (none-fails (told .enum-told .given .1) (told .before .before .check-permutation-write .ensures)))
 
 refused : tie.Need-returns
-refused c =
-    let f = c .before .f .given .0 .0 in
-    let e = refusal (c .before) in
-    (e, (filled-refused f _ _ _ e, filled-refused f _ _ _ e))
+refused c = refuses-both _ _ _ _ (c .before .before .before .check-permutation-write .ensures) (c .before .f .given .1)
 
 done : tie.Need-returns-2
 done c =
     let put = c .before .before .before .before in
-    let z = none (put .before .before .before) in
-    (z, (is-filled _ _ _ _ (put .write-checked-permutation .ensures .0) z, is-filled _ _ _ _ (put .write-checked-permutation .ensures .1) z))
+    let told = put .before .before .before in
+    fills-both _ _ _ _ (told .before .before .check-permutation-write .ensures) (told .enum-told .given .1)
+    (put .write-checked-permutation .ensures .0) (put .write-checked-permutation .ensures .1)
 
 pub write-permutation-spec : {M : Type 1} → statement M
 write-permutation-spec =

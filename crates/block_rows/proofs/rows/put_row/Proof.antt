@@ -42,5 +42,5 @@ pub put-row-spec : {M : Type 1} → statement M
 put-row-spec =
     tie.close
     (tie.spec
-    (λ c κs. search needs) (λ c. search needs) (λ c. search needs) second (λ c. search needs) (λ c. search needs) (λ c. search needs)
-    row short)
+    (λ c κs. search needs) (λ c. search needs) (λ c. search needs) (λ c. search needs) second
+    (λ c. search needs) (λ c. search needs) (λ c. search needs) (λ c. search needs) row short)

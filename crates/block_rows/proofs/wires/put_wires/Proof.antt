@@ -45,5 +45,5 @@ pub put-wires-spec : {M : Type 1} → statement M
 put-wires-spec =
     tie.close
     (tie.spec Inv-loop μ-loop
-    (λ c κs. search needs) holds (λ c. omega arith) (λ c. search needs) (λ c. search needs) (λ c. omega arith)
+    (λ c κs. search needs) (λ c. search needs) holds (λ c. omega arith) (λ c. search needs) (λ c. search needs) (λ c. omega arith)
     (λ c. search needs) (λ c. search needs) again (λ c. search needs) all)
