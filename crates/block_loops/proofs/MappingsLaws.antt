@@ -153,16 +153,16 @@ level-bits n lp P =
 
 -- ---- what the calls of a level hand on
 
-pub sides-known : {p : List ℕ} {a b : ℕ} → IsPerm p → LevelBuffers (length p) a b → SidesKnown (inverseList p) (sidesOf p)
-sides-known {p} P room =
+pub sides-known : {p q m : List ℕ} {a b : ℕ} → IsPerm p → LevelBuffers (length p) a b → q ≡ inverseList p → m ≡ sidesOf p → SidesKnown q m
+sides-known {p} P room eq em =
     let li = length-listOf (length p) (inverseOf p) in
     let ls = length-listOf (length p) (sideIn p (inverseList p)) in
-    record {
+    rw (eq, em) (record {
       size = li ∙ sym ls;
       some = rw ls (room .some);
       within = λ x l. let d = rw li at l in rw (ls, getD-listOf (length p) (inverseOf p) x 0 d) (perm-lt (flipped (P .perm)) x d);
       bits = sides-bits (length p / 2) (sym (room .even)) P;
-    }
+    })
 
 pub levelled : {p q m maps before after : List ℕ} {start part : ℕ} → q ≡ inverseList p → m ≡ sidesOf p
     → after ≡ storeBits (storeBits before start (inputSides q m)) (start + length m / 2 + part + part) (outputSides m)

@@ -19,13 +19,12 @@ pub use Rattle.block_program_checks.proofs.ChecksLaws.{selection-program-at-suc
 use Rattle.block_selection_bits.specs.ProgramCalls.{selectionProgramResult, selectionProgramAtResult}
 
 -- in the part of the program that begins with the first bit's byte
-pub passes-in-part : {m n : ℕ} {wanted : List ℕ} {start : ℕ} (program : List ℕ) → SelectionPasses m n wanted start (length program)
-    → SelectionPasses m n wanted (bitPlace start) (length (midOf (bitByte start) (length program - bitByte start) program))
-passes-in-part {start} program P =
-    let byte = bitByte start in
+pub passes-in-part : {m n : ℕ} {wanted : List ℕ} (program : List ℕ) {start byte place : ℕ} → SelectionPasses m n wanted start (length program)
+    → byte ≡ bitByte start → place ≡ bitPlace start → SelectionPasses m n wanted place (length (midOf byte (length program - byte) program))
+passes-in-part program {byte} P eb ep =
     let size : length (midOf byte (length program - byte) program) ≡ length program - byte =
     length-take-le (length program - byte) (drop byte program) (omega (arith, length-drop byte program)) in
-    record { sides = P .sides; selected = P .selected; fits = rw size (omega (arith, P .fits)) }
+    record { sides = P .sides; selected = P .selected; fits = rw size (omega (arith, P .fits, eb, ep)) }
 
 -- ---- after success
 

@@ -1,7 +1,7 @@
 // The program of S by its parts: the first network, which takes each wanted input to its head, the chain, and the second network, which
 // takes a copy to each output. The call holds three arrays, 3,072 bytes, and lends them to all that works under it.
 ghost use mathlib.Core.Path.{_≡_};
-ghost use Prim.Native.Nat.{_+_, _-_, _<_, _≤_};
+ghost use Prim.Native.Nat.{_+_, _-_, _^_, _<_, _≤_};
 ghost use lib.ListN.{length};
 ghost use Rattle.block_elements.specs.Bits.{bitsHeld, storeBits};
 ghost use Rattle.block_networks.specs.Permutation.{permutationCount};
@@ -70,7 +70,7 @@ fn store_first(counts: &[u16], list: &[u16], program: &mut [u8], start: usize) -
 // The chain's bits from bit `start` on: Y at a position has bit 1 exactly if the input there is a wanted one, whose head it is.
 fn store_chain(counts: &[u16], list: &[u16], program: &mut [u8], start: usize)
     requires { ⌜ SizeIs (length (now list)) × Wanted (length (now list)) (now list) ⌝ }
-    requires { ⌜ (length (now counts) ≡ maxSize) × (start ≤ 65536) ⌝ }
+    requires { ⌜ (length (now counts) ≡ maxSize) × (start + length (now list) < 2 ^ 64) ⌝ }
     ensures { λ _. ⌜ now (program .exit) ≡ storeBits (now (program .entry)) start (chainBitsBy (now (counts .entry)) (now (list .entry))) ⌝ }
 {
     let rows = list.len() - 1;

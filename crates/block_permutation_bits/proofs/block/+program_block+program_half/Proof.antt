@@ -124,7 +124,8 @@ half-falls : {level t : ℕ} → 1 < level → 2 * level + 1 ≡ t → 2 * (leve
 half-falls l e = omega arith
 
 module _ (t : ℕ) where
-  -- the places of a block: where it has halves, its rows are counted, its level is stored, its upper half, its lower, all, and the way back from each
+  -- the places of a block: where it has halves, its rows are counted, its level is stored, the level's buffers are back, its upper half is, its buffers are
+  -- back, its lower half is, all; and the way back from each
   abbrev Halved : Type 0
   Halved = program-block-lts.Then1 (block-calls t) (block-at t) program-block.Post
 
@@ -137,8 +138,14 @@ module _ (t : ℕ) where
   abbrev Levelled : Type 0
   Levelled = program-block-lts.After-program-level (block-calls t) (block-at t) program-block.Post
 
+  abbrev LevelBack : Type 0
+  LevelBack = program-block-lts.After-slice-known7 (block-calls t) (block-at t) program-block.Post
+
   abbrev Upper : Type 0
   Upper = program-block-lts.After-program-half (block-calls t) (block-at t) program-block.Post
+
+  abbrev UpperBack : Type 0
+  UpperBack = program-block-lts.After-slice-known11 (block-calls t) (block-at t) program-block.Post
 
   abbrev Lower : Type 0
   Lower = program-block-lts.After-program-half2 (block-calls t) (block-at t) program-block.Post
@@ -155,14 +162,26 @@ module _ (t : ℕ) where
   abbrev counted : Levelled → Counted
   counted c = c .before .before .before .before .before
 
-  abbrev levelled : Upper → Levelled
-  levelled c = c .before .before .before .before .before .before .before .before .before .before .before
+  abbrev levelled : LevelBack → Levelled
+  levelled c = c .before .before .before .before .before .before
 
-  abbrev upper : Lower → Upper
-  upper c = c .before .before .before .before .before .before .before .before .before .before .before .before .before
+  abbrev before-upper : Upper → LevelBack
+  before-upper c = c .before .before .before .before .before
+
+  abbrev back-program : UpperBack → program-block-lts.After-slice-known10 (block-calls t) (block-at t) program-block.Post
+  back-program c = c .before .before
+
+  abbrev upper : UpperBack → Upper
+  upper c = back-program c .before .before .before .before .before .before
+
+  abbrev before-lower : Lower → UpperBack
+  before-lower c = c .before .before .before .before .before
+
+  abbrev kept-program : Done → program-block-lts.After-slice-known14 (block-calls t) (block-at t) program-block.Post
+  kept-program c = c .before .before
 
   abbrev lower : Done → Lower
-  lower c = c .before .before .before .before .before .before .before .before
+  lower c = kept-program c .before .before .before .before .before .before
 
   -- a block above P(2)
   sized : (c : Halved) → Halving (start c .args .level) (length (start c .args .perm .now))
@@ -198,7 +217,7 @@ module _ (t : ℕ) where
 
   for-upper : program-block-lts.Need-program-half-requires (block-calls t) (block-at t) program-block.Post
   for-upper c κs =
-      let v = c .before .before .before .before .before .before .before .before .before .before in
+      let v = levelled (c .before .before .before .before) in
       let h = halved (counted v) in
       let s = start h in
       let l = some-below (h .if1 .taken) in
@@ -212,14 +231,14 @@ module _ (t : ℕ) where
 
   lower-fits : program-block-lts.Need-add-program-half (block-calls t) (block-at t) program-block.Post
   lower-fits c =
-      let n = counted (levelled (c .before .before .before .before .before .before .before .before .before .before .before .before)) in
+      let n = counted (levelled (before-upper (upper (c .before .before .before .before)))) in
       let s = start (halved n) in
       lower-place-fits (sized (halved n)) (s .args .start) (s .pre .1 .1 .1) (n .permutation-count .result) (rows n)
 
   for-lower : program-block-lts.Need-program-half-requires-2 (block-calls t) (block-at t) program-block.Post
   for-lower c κs =
-      let u = c .before .before .before .before .before .before .before .before .before .before .before .before in
-      let v = levelled u in
+      let u = upper (c .before .before .before .before) in
+      let v = levelled (before-upper u) in
       let h = halved (counted v) in
       let s = start h in
       let l = some-below (h .if1 .taken) in
@@ -238,24 +257,24 @@ module _ (t : ℕ) where
 
   -- no call changes a length
   same-perm : program-block-lts.Need-same-length (block-calls t) (block-at t) program-block.Post
-  same-perm c = let w = lower c in w .program-half2 .kept .1 .0 ∙ upper w .program-half .kept .1 .0
+  same-perm c = let w = lower c in w .program-half2 .kept .1 .0 ∙ upper (before-lower w) .program-half .kept .1 .0
 
   same-scratch : program-block-lts.Need-same-length-2 (block-calls t) (block-at t) program-block.Post
-  same-scratch c = let w = lower c in w .program-half2 .kept .0 ∙ upper w .program-half .kept .0 ∙ levelled (upper w) .program-level .kept .1 .0
+  same-scratch c = let w = lower c in w .program-half2 .kept .0 ∙ upper (before-lower w) .program-half .kept .0 ∙ levelled (before-upper (upper (before-lower w))) .program-level .kept .1 .0
 
   same-marks : program-block-lts.Need-same-length-3 (block-calls t) (block-at t) program-block.Post
-  same-marks c = let w = lower c in w .program-half2 .kept .1 .1 .0 ∙ upper w .program-half .kept .1 .1 .0 ∙ levelled (upper w) .program-level .kept .1 .1 .0
+  same-marks c = let w = lower c in w .program-half2 .kept .1 .1 .0 ∙ upper (before-lower w) .program-half .kept .1 .1 .0 ∙ levelled (before-upper (upper (before-lower w))) .program-level .kept .1 .1 .0
 
   same-program : program-block-lts.Need-same-length-4 (block-calls t) (block-at t) program-block.Post
   same-program c =
       let w = lower c in
-      w .program-half2 .kept .1 .1 .1 .0 ∙ upper w .program-half .kept .1 .1 .1 .0 ∙ levelled (upper w) .program-level .kept .1 .1 .1 .0
+      w .program-half2 .kept .1 .1 .1 .0 ∙ upper (before-lower w) .program-half .kept .1 .1 .1 .0 ∙ levelled (before-upper (upper (before-lower w))) .program-level .kept .1 .1 .1 .0
 
   stored : program-block-lts.Need-returns (block-calls t) (block-at t) program-block.Post
   stored c =
       let w = lower c in
-      let u = upper w in
-      let v = levelled u in
+      let u = upper (before-lower w) in
+      let v = levelled (before-upper u) in
       let n = counted v in
       let s = start (halved n) in
       let half = u .program-half in
@@ -265,62 +284,75 @@ module _ (t : ℕ) where
 
 for-pair : (t : ℕ) → program-block-lts.Need-program-pair-requires (block-calls t) (block-at t) program-block.Post
 for-pair t c κs =
-    let s = c .before .before .before .before .before .before .before in
-    ((s .pre .1 .0, s .pre .1 .1 .0 .size, c .before .before .if1 .left), s .pre .1 .1 .1)
+    let other = c .before .before in
+    let s = other .before .before .before .before .before in
+    ((s .pre .1 .0, s .pre .1 .1 .0 .size, other .if1 .left), s .pre .1 .1 .1)
 
 paired : (t : ℕ) → program-block-lts.Need-returns-2 (block-calls t) (block-at t) program-block.Post
 paired t c = c .before .before .program-pair .ensures
 
-for-block : (t : ℕ) → program-half-lts.Need-program-block-requires (half-calls t) (half-at t) program-half.Post
-for-block t c κs =
-    let s = c .before .before .before .before .before .before .before .before in
-    let a = s .args in (
-      block-falls (a .level) (s .pre .0),
-      (
-        rw (part-size (a .at) (length (a .perm .now))) (s .pre .1 .0),
-        (part-room (a .perm .now) (a .scratch .now) (a .mark .now) (s .pre .1 .1 .0) refl, s .pre .1 .1 .1),
-      ),
-    )
-
 module _ (t : ℕ) where
-  -- the place where a half is done, what it was given, and its block
-  abbrev HalfDone : Type 0
-  HalfDone = program-half-lts.After-slice-known8 (half-calls t) (half-at t) program-half.Post
-
+  -- the places of a half: what it is given, its block asked, the block done, all; and the way back from each
   abbrev Given : Type 0
   Given = program-half-lts.Start (half-calls t) (half-at t) program-half.Post
+
+  abbrev Asked : Type 0
+  Asked = program-half-lts.After-program-block-arg4 (half-calls t) (half-at t) program-half.Post
 
   abbrev Blocked : Type 0
   Blocked = program-half-lts.After-program-block (half-calls t) (half-at t) program-half.Post
 
-  abbrev given : HalfDone → Given
-  given c = c .before .before .before .before .before .before .before .before .before .before .before .before .before .before .before .before .before
+  abbrev HalfDone : Type 0
+  HalfDone = program-half-lts.After-slice-known8 (half-calls t) (half-at t) program-half.Post
+
+  abbrev known : Asked → program-half-lts.After-slice-known4 (half-calls t) (half-at t) program-half.Post
+  known c = c .before .before .before .before
+
+  abbrev given : Asked → Given
+  given c = known c .before .before .before .before
+
+  abbrev marks-back : HalfDone → program-half-lts.After-slice-known7 (half-calls t) (half-at t) program-half.Post
+  marks-back c = c .before .before
 
   abbrev blocked : HalfDone → Blocked
-  blocked c = c .before .before .before .before .before .before .before .before
+  blocked c = marks-back c .before .before .before .before .before .before
+
+  abbrev taken : HalfDone → Given
+  taken c = given (blocked c .before)
 
   abbrev size : HalfDone → ℕ
-  size c = given c .args .at + length (given c .args .perm .now) / 2 - given c .args .at
+  size c = taken c .args .at + length (taken c .args .perm .now) / 2 - taken c .args .at
+
+  for-block : program-half-lts.Need-program-block-requires (half-calls t) (half-at t) program-half.Post
+  for-block c κs =
+      let s = given c in
+      let a = s .args in (
+        block-falls (a .level) (s .pre .0),
+        (
+          rw (part-size (a .at) (length (a .perm .now))) (s .pre .1 .0),
+          (part-room (a .perm .now) (a .scratch .now) (a .mark .now) (s .pre .1 .1 .0) refl, s .pre .1 .1 .1),
+        ),
+      )
 
   -- the parts come back, and no array's length changes
   part-perm : program-half-lts.Need-same-length (half-calls t) (half-at t) program-half.Post
   part-perm c =
       let b = blocked c .program-block in
-      same-len-mid (given c .args .at) (size c) (given c .args .perm .now) (b .last .0) (b .kept .0)
+      same-len-mid (taken c .args .at) (size c) (taken c .args .perm .now) (b .last .0) (b .kept .0)
 
   part-scratch : program-half-lts.Need-same-length-2 (half-calls t) (half-at t) program-half.Post
   part-scratch c =
       let b = blocked c .program-block in
-      same-len-mid (given c .args .at) (size c) (given c .args .scratch .now) (b .last .1 .0) (b .kept .1 .0)
+      same-len-mid (taken c .args .at) (size c) (taken c .args .scratch .now) (b .last .1 .0) (b .kept .1 .0)
 
   part-marks : program-half-lts.Need-same-length-3 (half-calls t) (half-at t) program-half.Post
   part-marks c =
       let b = blocked c .program-block in
-      same-len-mid (given c .args .at) (size c) (given c .args .mark .now) (b .last .1 .1 .0) (b .kept .1 .1 .0)
+      same-len-mid (taken c .args .at) (size c) (taken c .args .mark .now) (b .last .1 .1 .0) (b .kept .1 .1 .0)
 
   half-stored : program-half-lts.Need-returns (half-calls t) (half-at t) program-half.Post
   half-stored c =
-      let s = given c in
+      let s = taken c in
       let a = s .args in
       let end = a .at + length (a .perm .now) / 2 in
       let b = blocked c .program-block in (
@@ -343,4 +375,4 @@ pub +program-block+program-half-spec : {M : Type 1} → statement M
     (λ c. in-scratch (c .before .before .before .before .before .pre .1 .1 .0))
     (λ c. le-add-right _ _) (λ c. le-add-right _ _) (λ c. in-marks (c .before .before .before .before .before .before .pre .1 .1 .0))
     (for-block t) (part-perm t) (part-scratch t) (part-marks t)
-    (λ c. c .before .before .before .before .before .before .before .before .program-block .kept .1 .1 .1 .0) (half-stored t)
+    (λ c. blocked t c .program-block .kept .1 .1 .1 .0) (half-stored t)

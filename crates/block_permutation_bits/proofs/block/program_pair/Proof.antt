@@ -20,10 +20,11 @@ small c =
 
 stored : tie.Need-returns
 stored c =
-    let s = c .before .before .before .before .before .before .before .before in
+    let taken = c .before .before .before .before .before in
+    let s = taken .before .before .before in
     let p = s .pre .0 in
     c .before .before .store-bit .ensures
-    ∙ pair-stored (s .args .perm .now) (p .0) (p .1) (p .2) (c .before .before .before .before .before .if1 .taken) (s .args .program .now) (s .args .start)
+    ∙ pair-stored (s .args .perm .now) (p .0) (p .1) (p .2) (taken .if1 .taken) (s .args .program .now) (s .args .start)
 
 nothing : tie.Need-returns-2
 nothing c =

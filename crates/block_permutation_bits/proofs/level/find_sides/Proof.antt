@@ -8,9 +8,16 @@ use Rattle.block_loops.proofs.MappingsLaws.{paired}
 use Rattle.block_permutation_bits.proofs.level.find_sides.Statement.{statement}
 use Rattle.block_permutation_bits.proofs.level.find_sides.Tie as tie
 
+-- the way back from the marks to the inverse, to the start
+abbrev inverted : tie.After-mark-sides → tie.After-invert
+inverted c = c .before .before .before .before .before
+
+abbrev start : tie.After-invert → tie.Start
+start c = c .before .before .before .before .before
+
 for-marks : tie.Need-mark-sides-requires
 for-marks c κs =
-    let s = c .before .before .before .before .before .before .before .before .before in
+    let s = start (c .before .before .before .before) in
     let room = s .pre .1 in
     let p = s .args .perm .now in
     let G : Paired p (inverseList p) = paired (length p / 2) (sym (room .even)) (s .pre .0) in
@@ -18,9 +25,9 @@ for-marks c κs =
 
 found : tie.Need-returns
 found c =
-    let inverted = c .before .before .before .before .before .before .before .invert .ensures in
-    let p = c .before .before .before .before .before .before .before .before .before .before .before .before .args .perm .now in
-    (inverted, c .before .before .mark-sides .ensures ∙ ap (sideList p) inverted)
+    let inverse = inverted (c .before .before) in
+    let p = start inverse .args .perm .now in
+    (inverse .invert .ensures, c .before .before .mark-sides .ensures ∙ ap (sideList p) (inverse .invert .ensures))
 
 pub find-sides-spec : {M : Type 1} → statement M
 find-sides-spec = tie.close (tie.spec (λ c κs. search needs) for-marks (λ c. search needs) (λ c. search needs) found)

@@ -28,11 +28,12 @@ taker-within c =
 
 again : tie.Need-loop-again Inv-loop μ-loop
 again c =
-    let at = c .before .before .before .before .before .before .before .before in
+    let read = c .before .before .before .before .before in
+    let at = read .before .before .before in
     let s = at .before .before .before .before in
     let a = s .args in
     let m = a .mark .now in
-    let wide = c .before .before .before .before .before .wide in
+    let wide = read .wide in
     let bit = ap (λ x. getD m x 0) (wide .ensures .0) in
     let stored =
     store-step (a .program .now) (a .start) (at .loop .j) (inputSide (a .inverse .now) m) (at .loop .inv .2) (s .pre .0 .bits .each (wide .result)) bit in

@@ -8,12 +8,17 @@ use Rattle.block_loops.specs.Mappings.{outputSides}
 use Rattle.block_permutation_bits.proofs.level.store_rows.Statement.{statement}
 use Rattle.block_permutation_bits.proofs.level.store_rows.Tie as tie
 
+-- the way back from the input rows' bits to the start
+abbrev start : tie.After-store-input-bits → tie.Start
+start c = c .before .before .before .before .before
+
 both : tie.Need-returns
 both c =
-    let a = c .before .before .before .before .before .before .before .before .before .before .before .args in
+    let inputs = c .before .before .before .before .before .before in
+    let a = start inputs .args in
     let m = a .mark .now in
     c .before .before .store-output-bits .ensures
-    ∙ ap (λ s. storeBits s (a .start + length m / 2 + a .part + a .part) (outputSides m)) (c .before .before .before .before .before .before .store-input-bits .ensures)
+    ∙ ap (λ s. storeBits s (a .start + length m / 2 + a .part + a .part) (outputSides m)) (inputs .store-input-bits .ensures)
 
 pub store-rows-spec : {M : Type 1} → statement M
 store-rows-spec =

@@ -15,16 +15,23 @@ Inv-loop perm inverse mark₀ pairs k₀ mark k = (k ≤ pairs) × Swept perm in
 abbrev μ-loop : tie.MeasureT-loop
 μ-loop perm inverse mark₀ pairs k₀ mark k = pairs - k
 
+-- the way back from the loop to the marks that are filled, to the start
+abbrev filled : tie.At-loop Inv-loop μ-loop → tie.After-fill-bytes Inv-loop μ-loop
+filled c = c .before .before .before
+
+abbrev start : tie.After-fill-bytes Inv-loop μ-loop → tie.Start Inv-loop μ-loop
+start c = c .before .before .before .before .before
+
 holds : tie.Need-loop-holds Inv-loop μ-loop
 holds c =
-    let s = c .before .before .before .before .before .before .before in
+    let s = start (c .before .before) in
     let filled = c .before .before .fill-bytes .ensures ∙ bytes-filled _ 2 (s .args .mark .now) (omega arith) ∙ filled-whole 2 (s .args .mark .now) (s .pre .1 .1) in
     (omega arith, rw filled (swept-none (s .args .perm .now) (s .args .inverse .now)))
 
 for-visit : tie.Need-visit-requires Inv-loop μ-loop
 for-visit c κs =
     let at = c .before .before .before in
-    let pre = at .before .before .before .before .before .before .before .before .pre in
+    let pre = start (filled at) .pre in
     let S = at .loop .inv .1 in
     let k = c .before .before .loop-test .taken in
     let o = c .before .visit-start .ensures in
@@ -35,13 +42,13 @@ again c =
     let at = c .before .before .before .before .before .before in
     let k = c .before .before .before .before .before .loop-test .taken in
     let o = c .before .before .before .before .visit-start .ensures in
-    (omega arith, swept-more (at .before .before .before .before .before .before .before .before .pre .0) k (at .loop .inv .1) o (c .before .before .visit .ensures))
+    (omega arith, swept-more (start (filled at) .pre .0) k (at .loop .inv .1) o (c .before .before .visit .ensures))
 
 same : tie.Need-same-length Inv-loop μ-loop
-same c = c .before .loop .inv .1 .size ∙ sym (c .before .before .before .before .before .before .before .before .before .pre .1 .1)
+same c = c .before .loop .inv .1 .size ∙ sym (start (filled (c .before)) .pre .1 .1)
 
 all : tie.Need-returns Inv-loop μ-loop
-all c = swept-all (c .before .before .before .before .before .before .before .before .before .pre .0) (c .loop-test .left) (c .before .loop .inv .1)
+all c = swept-all (start (filled (c .before)) .pre .0) (c .loop-test .left) (c .before .loop .inv .1)
 
 pub mark-sides-spec : {M : Type 1} → statement M
 mark-sides-spec =

@@ -12,9 +12,10 @@ use Rattle.block_permutation_rows.proofs.level.put_switches.Tie as tie
 
 put : tie.Need-returns
 put c =
-    let a = c .before .before .before .before .before .before .before .args in
+    let pairs = c .before .before in
+    let a = pairs .before .before .before .before .before .args in
     let e = length-pairRows Kind.X (a .count) (a .wires .now) (partOf (a .gap) (a .wires .now)) (a .step) in
-    c .before .before .put-pairs .ensures ∙ rows-put _ (a .rows .now) (rw e (omega arith))
+    pairs .put-pairs .ensures ∙ rows-put _ (a .rows .now) (rw e (omega arith))
     ∙ ap (λ r. over (flat r) (a .rows .now)) (gap-rows (a .count) (a .step) (a .gap) (a .wires .now) (omega arith))
 
 pub put-switches-spec : {M : Type 1} → statement M

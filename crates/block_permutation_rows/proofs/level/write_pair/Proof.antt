@@ -12,12 +12,12 @@ room c κs =
 
 pair : tie.Need-returns
 pair c =
-    let then = c .before .before .before .before .before .before .before in
+    let put = c .before .before .before .before in
+    let then = put .before .before .before in
     let s = then .before .before .before in
     let a = s .args in
-    let put = c .before .before .before .before .write-input-rows in
     let w = pair-written (a .level) (a .next .0) (a .rows .now) (a .wires .now) (s .pre .0) (then .if1 .taken) (s .pre .1 .wireRoom) in
-    (put .ensures .0 ∙ w .0, put .ensures .1 ∙ w .1)
+    (put .write-input-rows .ensures .0 ∙ w .0, put .write-input-rows .ensures .1 ∙ w .1)
 
 wire : tie.Need-returns-2
 wire c =

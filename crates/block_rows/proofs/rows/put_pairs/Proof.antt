@@ -19,9 +19,11 @@ no-room rows old h = rw (lt-leb (stride * length rows) (length old) h)
 
 done : tie.Need-returns
 done c =
-    let a = c .before .before .before .before .before .before .before .before .before .args in
+    let put = c .before .before in
+    let room = put .before .before in
+    let a = room .before .before .before .before .before .args in
     let e = length-pairRows (a .kind) (a .count) (a .lefts .now) (a .rights .now) (a .step) in
-    c .before .before .put-all .ensures ∙ sym (rows-put _ (a .rows .now) (rw e (omega arith)))
+    put .put-all .ensures ∙ sym (rows-put _ (a .rows .now) (rw e (omega arith)))
 
 kept : tie.Need-returns-2
 kept c =

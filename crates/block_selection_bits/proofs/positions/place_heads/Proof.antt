@@ -46,15 +46,17 @@ for-head c κs =
 
 sum : tie.Need-add-head Inv-loop μ-loop
 sum c =
-    let wide = c .before .before .before .before .wide in
-    let at = c .before .before .before .before .before .before .before in
+    let read = c .before .before .before .before in
+    let wide = read .wide in
+    let at = read .before .before .before in
     let s = at .before .before .before .before in
     omega (arith, at .loop .inv .1, wide .ensures .0, head-more (s .args .counts .now) (at .loop .j), s .pre .0 .each (at .loop .j + 1))
 
 again : tie.Need-loop-again Inv-loop μ-loop
 again c =
-    let wide = c .before .before .before .before .wide in
-    let at = c .before .before .before .before .before .before .before in
+    let read = c .before .before .before .before in
+    let wide = read .wide in
+    let at = read .before .before .before in
     let s = at .before .before .before .before in
     let counts = s .args .counts .now in
     let j = at .loop .j in

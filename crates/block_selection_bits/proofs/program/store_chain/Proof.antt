@@ -36,8 +36,9 @@ for-bit c κs =
 again : tie.Need-loop-again Inv-loop μ-loop
 again c =
     let store = c .before .before .store-bit in
-    let bit = c .before .before .before .before .wanted-bit in
-    let at = c .before .before .before .before .before .before .before in
+    let read = c .before .before .before .before in
+    let bit = read .wanted-bit in
+    let at = read .before .before .before in
     let s = at .before .before .before .before in
     let a = s .args in
     let counts = a .counts .now in

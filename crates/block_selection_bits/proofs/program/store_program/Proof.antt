@@ -24,6 +24,13 @@ for-positions c κs = (wanted-inputs (c .before .before .before), (blank, refl, 
 abbrev sized : tie.After-find-positions → tie.After-selection-positions
 sized placed = placed .before .before .before .before
 
+-- from the first network to where the list is lent, to where the positions were found
+abbrev lent : tie.After-store-first → tie.After-counts3
+lent c = c .before .before .before
+
+abbrev found-at : tie.After-store-first → tie.After-find-positions
+found-at c = lent c .before .before .before .before
+
 front : tie.Need-array-share-prefix-list
 front c =
     let placed = c .before .before .before .before in
@@ -52,7 +59,7 @@ for-second : tie.Need-store-second-requires
 for-second c κs =
     let behind = c .before .before .before .before .before in
     let first = behind .store-first in
-    let placed = behind .before .before .before .before .before .before .before in
+    let placed = found-at behind in
     let found = placed .find-positions .ensures in
     let size = sized placed .selection-positions in
     let s = sized placed .before .before .before in
@@ -64,10 +71,11 @@ for-second c κs =
 
 stored : tie.Need-returns
 stored c =
-    let second = c .before .before .before .before .store-second in
-    let behind = c .before .before .before .before .before .before .before .before .before .before in
+    let last = c .before .before .before .before in
+    let second = last .store-second in
+    let behind = last .before .before .before .before .before .before in
     let first = behind .store-first in
-    let placed = behind .before .before .before .before .before .before .before in
+    let placed = found-at behind in
     let size = sized placed .selection-positions in
     let s = sized placed .before .before .before in
     let a = s .args in

@@ -15,6 +15,13 @@ use Rattle.block_selection_bits.proofs.PartsLaws.{demand-most, network-
 use Rattle.block_selection_bits.proofs.program.store_second.Statement.{statement}
 use Rattle.block_selection_bits.proofs.program.store_second.Tie as tie
 
+-- the way back from the copies to where they are asked for, to the start
+abbrev asked : tie.After-list-copies → tie.After-list-copies-arg2
+asked c = c .before
+
+abbrev start : tie.After-list-copies → tie.Start
+start c = asked c .before .before .before .before .before .before
+
 for-copies : tie.Need-list-copies-requires
 for-copies c κs =
     let s = c .before .before .before .before .before .before in
@@ -22,8 +29,9 @@ for-copies c κs =
 
 part : tie.Need-slice-aggregate-store-network
 part c =
-    let copies = c .before .before .before .before .before .list-copies in
-    let s = c .before .before .before .before .before .before .before .before .before .before .before .before in
+    let copied = c .before .before .before .before .before in
+    let copies = copied .list-copies in
+    let s = start copied in
     sym (length-take-le (s .args .size) (copies .last .1 .1 .1 .0) (omega (arith, copies .kept .1 .1 .1 .0, s .pre .0 .0 .most, s .pre .1 .0 .1)))
 
 -- the positions are one to one
@@ -33,16 +41,20 @@ perm s = second-perm (mapping (s .args .wanted .now)) (length (s .args .wanted .
 
 for-network : tie.Need-store-network-requires
 for-network c κs =
-    let copies = c .before .before .before .before .before .before .list-copies in
-    let s = c .before .before .before .before .before .before .before .before .before .before .before .before .before in
+    let copied = c .before .before .before .before .before .before in
+    let copies = copied .list-copies in
+    let s = start copied in
     let a = s .args in
     network-room (perm s) (over-taken (a .size) _ (a .list .now) (copies .ensures)) (s .pre .0 .0) (a .start) (length (a .program .now)) (s .pre .1 .1)
 
 stored : tie.Need-returns
 stored c =
-    let network = c .before .before .store-network in
-    let copies = c .before .before .before .before .before .before .before .before .before .list-copies in
-    let s = c .before .before .before .before .before .before .before .before .before .before .before .before .before .before .before .before in
+    let stored = c .before .before in
+    let network = stored .store-network in
+    let listed = stored .before .before .before in
+    let copied = listed .before .before .before .before in
+    let copies = copied .list-copies in
+    let s = start copied in
     let a = s .args in
     let bits = network-bits (perm s) (over-taken (a .size) _ (a .list .now) (copies .ensures)) in
     network .ensures ∙ ap (storeBits (a .program .now) (a .start)) bits

@@ -10,12 +10,18 @@ use Rattle.block_selection_rows.proofs.BlockLaws.{PlacesIn, places-in, 
 use Rattle.block_selection_rows.proofs.block.write_block.Statement.{statement}
 use Rattle.block_selection_rows.proofs.block.write_block.Tie as tie
 
--- the way back from the second P to the chain, to the first P, to the parts
+-- the way back from the second P to where the chain's buffers are back, to the chain, to where the first P's are, to the first P, to the parts
+abbrev chain-back : tie.After-write-network2 → tie.After-slice-known7
+chain-back c = c .before .before .before .before
+
 abbrev chained : tie.After-write-network2 → tie.After-write-chain
-chained c = c .before .before .before .before .before .before .before .before
+chained c = chain-back c .before .before .before .before
+
+abbrev first-back : tie.After-write-chain → tie.After-slice-known5
+first-back c = c .before .before .before .before
 
 abbrev first : tie.After-write-chain → tie.After-write-network
-first c = c .before .before .before .before .before .before .before .before
+first c = first-back c .before .before .before .before
 
 abbrev parted : tie.After-write-network → tie.After-selection-parts
 parted c = c .before .before .before .before
@@ -48,7 +54,8 @@ first-fits c κs =
 
 chain-fits : tie.Need-write-chain-requires
 chain-fits c κs =
-    let one = c .before .before .before .before .before .before .before in
+    let back = c .before .before .before in
+    let one = back .before .before .before .before in
     let parts = parted one in
     let s = start parts in
     let a = s .args in
@@ -57,7 +64,8 @@ chain-fits c κs =
 
 second-fits : tie.Need-write-network-requires-2
 second-fits c κs =
-    let two = c .before .before .before .before .before .before .before in
+    let back = c .before .before .before in
+    let two = back .before .before .before .before in
     let one = first two in
     let parts = parted one in
     let s = start parts in
@@ -103,4 +111,4 @@ write-block-spec =
     (λ c. second-places (c .before .before .before .before) .secondFits) (λ c. second-places (c .before .before .before .before) .second)
     (λ c. second-places (c .before .before .before .before) .second) (λ c. le-refl _) second-fits
     -- what is written
-    same-rows (λ c. c .before .before .before .before .before .before .before .before .before .before .before .before .write-chain .kept .1 .1 .1 .0) same-to written)
+    same-rows (λ c. chained (c .before .before .before .before) .write-chain .kept .1 .1 .1 .0) same-to written)

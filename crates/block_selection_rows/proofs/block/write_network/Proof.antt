@@ -8,7 +8,8 @@ use Rattle.block_selection_rows.proofs.block.write_network.Tie as tie
 written : tie.Need-returns
 written c =
     let done = c .before .before .before .before in
-    let start = done .before .before .before .before .before .before .before in
+    let lent = done .before .before .before in
+    let start = lent .before .before .before .before in
     let none = write-done _ _ _ _ _ (start .pre) in
     (filled-over _ _ _ _ (done .write-permutation .ensures .1 .0) none, filled-over _ _ _ _ (done .write-permutation .ensures .1 .1) none)
 

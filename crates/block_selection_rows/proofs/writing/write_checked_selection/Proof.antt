@@ -49,7 +49,8 @@ outputs-part c =
 written : tie.Need-returns
 written c =
     let out = c .before .before in
-    let block = out .before .before .before .before .before .before .before in
+    let front = out .before .before in
+    let block = front .before .before .before .before .before in
     let copy = copied (block .before) in
     let size = sized copy in
     let start = size .before .before .before .before in

@@ -34,7 +34,8 @@ few-made c =
 
 few-rows : tie.Need-cast-check-room
 few-rows c =
-    let start = c .before .before .before .before .before .before .before in
+    let asked = c .before .before .before in
+    let start = asked .before .before .before .before in
     let m = start .args .m in
     let n = start .args .n in
     omega (arith, few-wires m n (start .pre), rows-make m n)
@@ -45,7 +46,7 @@ made : (c : tie.After-check-wires) → let a = c .before .before .before .before
 made c = rw (← c .before .selection-wires .ensures) (c .check-wires .ensures)
 
 -- and the room for as many rows as it has
-roomed : (c : tie.After-check-room) → let a = c .before .before .before .before .before .before .before .before .args in
+roomed : (c : tie.After-check-room) → let asked = c .before .before .before .before in let a = asked .before .before .before .before .args in
     answerNumber (c .check-room .result) ≡ buffersFault (selectionCount (a .m) (a .n)) (a .n) (a .rows) (a .outputs)
 roomed c = rw (← c .before .selection-count .ensures) (c .check-room .ensures)
 
