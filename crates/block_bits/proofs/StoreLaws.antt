@@ -13,7 +13,8 @@ use lib.Seq.{sets, sets-eq, set-append-left, getD-append-add, take-all, length-t
 use Rattle.lists.specs.Lists.{listOf}
 use Rattle.lists.proofs.ListsLaws.{length-listOf}
 use Rattle.fault.specs.Buffers.{over}
-use Rattle.block_elements.specs.Bits.{bitByte, bitPlace, bytesFor, bitAt, setBit, storeBits, zeroBytes, pack, AreBits, AreBytes, bitsHeld}
+use Rattle.block_elements.specs.Bits.{bitByte, bitPlace, bytesFor, bitAt, setBit, storeBits, zeroBytes, pack, AreBits, bitsHeld}
+use Rattle.block_elements.proofs.BitsLaws.{AreBytes}
 use Rattle.block_elements.proofs.BitsLaws.{length-setBit, setBit-same, setBit-other, setBit-bytes, ext-bits, length-storeBits, storeBits-append, storeBits-bytes}
 
 -- ---- one more

@@ -16,8 +16,11 @@ use lib.Arith.{digits-lt}
 use lib.Bits.{bitAnd, bitOr, and-mask, and-high, and-block, or-block, or-shifted, or-zero-r}
 use Rattle.lists.specs.Lists.{listOf}
 use Rattle.lists.proofs.ListsLaws.{length-listOf, getD-listOf}
-use Rattle.block_elements.specs.Bits.{bitByte, bitPlace, bytesFor, bitOf, withBit, bitAt, setBit, storeBits, zeroBytes, pack, unpack, AreBits, AreBytes}
-use Rattle.block_elements.specs.Bits.{bitsHeld}
+use Rattle.block_elements.specs.Bits.{bitByte, bitPlace, bytesFor, bitOf, withBit, bitAt, setBit, storeBits, zeroBytes, pack, unpack, AreBits, bitsHeld}
+
+-- every element is a byte
+pub record AreBytes (bytes : List ℕ) : Type 0 where
+  pub each : (i : ℕ) → getD bytes i 0 < 256
 
 -- ---- one number
 

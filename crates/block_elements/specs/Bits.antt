@@ -57,7 +57,3 @@ unpack n bytes = listOf n (bitAt bytes)
 -- every element is 0 or 1
 pub record AreBits (bs : List ℕ) : Type 0 where
   pub each : (i : ℕ) → getD bs i 0 < 2
-
--- every element is a byte
-pub record AreBytes (bytes : List ℕ) : Type 0 where
-  pub each : (i : ℕ) → getD bytes i 0 < 256

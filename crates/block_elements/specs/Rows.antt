@@ -87,10 +87,6 @@ decode (k ∷ l ∷ r ∷ es) = rowOf k l r ∷ decode es
 abbrev pub InFamily : Row → Type 0
 InFamily row = length (inputsOf row) ≡ operands
 
--- an X row
-pub data IsX : Row → Type 0 where
-  is-X : {l r : ℕ} → IsX (X l r)
-
 -- each row's wires are made before that row, where the first row makes the wire `next`
 pub data MadeBefore : ℕ → List Row → Type 0 where
   made-none : {next : ℕ} → MadeBefore next []

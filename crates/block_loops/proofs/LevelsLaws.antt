@@ -9,8 +9,8 @@ use lib.Pow.{pow-pos}
 use lib.Seq.{take-at, drop-at, take-all}
 use borrow.Rule.Slice.PartMut.{midOf, mid-len}
 use Rattle.lists.proofs.ListsLaws.{length-listOf}
-use Rattle.block_elements.specs.Bits.{AreBits, AreBytes, setBit, storeBits}
-use Rattle.block_elements.proofs.BitsLaws.{bits-listOf}
+use Rattle.block_elements.specs.Bits.{AreBits, setBit, storeBits}
+use Rattle.block_elements.proofs.BitsLaws.{AreBytes, bits-listOf}
 use Rattle.block_networks.specs.Permutation.{permutationCount, partner, iterate, walk, key, least, lowest, side, permutationBits}
 use Rattle.block_networks.specs.Wanted.{takerOf}
 use Rattle.block_networks.proofs.Loops.{perm-inj, perm-lt}

@@ -16,7 +16,12 @@ use Rattle.block_networks.proofs.WantedLaws.{taker-perm}
 use Rattle.lists.specs.Counting.{oneIf, countOf}
 use Rattle.lists.proofs.CountingLaws.{passed, both-ways, not-fails, or-le, one-lt, count-none, count-rest, count-before, count-later}
 use Rattle.lists.proofs.CountingLaws.{NthOf, nth-at, count-cover, count-single}
-use Rattle.block_networks.specs.Completion.{isTaken, isIdle, isFree, completed, PartialInjection, Left, FilledBy, RisingCompletion}
+use Rattle.block_networks.specs.Completion.{isTaken, isIdle, isFree, completed, Left, FilledBy, RisingCompletion}
+
+-- no two of the numbers below N have the same place, and the places are below N
+pub record PartialInjection (N : ℕ) (has : ℕ → Bool) (f : ℕ → ℕ) : Type 0 where
+  pub below : (x : ℕ) → x < N → has x ≡ true → f x < N
+  pub once : (x y : ℕ) → x < N → y < N → has x ≡ true → has y ≡ true → f x ≡ f y → x ≡ y
 
 -- ---- taken places
 

@@ -13,8 +13,8 @@ use Rattle.block_networks.proofs.Loops.{flipped}
 use Rattle.block_networks.proofs.WantedLaws.{taker-perm}
 use Rattle.lists.specs.Counting.{countOf}
 use Rattle.lists.proofs.CountingLaws.{count-le, count-none, count-before, count-sum, one-more}
-use Rattle.block_networks.specs.Completion.{PartialInjection, RisingCompletion}
-use Rattle.block_networks.proofs.CompletionLaws.{taken-here, taken-nowhere, completed-perm, completed-rule}
+use Rattle.block_networks.proofs.CompletionLaws.{PartialInjection, taken-here, taken-nowhere, completed-perm, completed-rule}
+use Rattle.block_networks.specs.Completion.{RisingCompletion}
 use Rattle.block_networks.specs.Selection.{wanting, copies, isWanted, headOf, isHead, positionOf, copyOf}
 
 module _ (want : ℕ → ℕ) (n : ℕ) where

@@ -14,6 +14,8 @@ pub mod Orbits
 pub mod PermutationLaws
 -- P's promises: what its run delivers
 pub mod PermutationRun
+-- which input reaches which output, for any bits
+pub mod Sources
 -- which input reaches which output: one to one for any bits, and as programmed
 pub mod Routing
 -- S's counts: rows, wires, bits

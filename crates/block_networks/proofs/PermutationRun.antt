@@ -16,7 +16,7 @@ use Rattle.block_elements.specs.Rows.{Row, choose, State, on, run, Delivered}
 use Rattle.block_elements.proofs.RowsLaws.{run-append, run-keeps, run-wires, run-bits, run-gates}
 use Rattle.block_networks.specs.Permutation.{permutationCount, inputRows, outputRows, firsts, seconds, upperNext, lowerNext, outputNext}
 use Rattle.block_networks.specs.Permutation.{permutationOuts, upperOuts, lowerOuts, permutationRows, Perm, permutationBits}
-use Rattle.block_networks.specs.Permutation.{cross, through, upperBits, source, target}
+use Rattle.block_networks.proofs.Sources.{cross, through, upperBits, source, target}
 use Rattle.block_networks.proofs.Loops.{parity, perm-lt}
 use Rattle.block_networks.proofs.XRun.{operand, operand-at, operand-list, operand-lt, chosen-listed, cross-lt, cross-ext}
 use Rattle.block_networks.proofs.XRun.{runX, runX-made, runX-left, runX-keeps, runX-at}

@@ -14,8 +14,8 @@ use Rattle.lists.proofs.ListsLaws.{length-listOf, getD-listOf-all}
 use Rattle.block_elements.specs.Rows.{choose}
 use Rattle.block_elements.specs.Bits.{AreBits}
 use Rattle.block_elements.proofs.BitsLaws.{bits-append, bits-listOf}
-use Rattle.block_networks.specs.Permutation.{permutationCount, Perm, partner, side, inHalf, permutationBits, cross, through}
-use Rattle.block_networks.specs.Permutation.{inputBits, upperBits, lowerBits, outputBits, source, target}
+use Rattle.block_networks.specs.Permutation.{permutationCount, Perm, partner, side, inHalf, permutationBits}
+use Rattle.block_networks.proofs.Sources.{cross, through, inputBits, upperBits, lowerBits, outputBits, source, target}
 use Rattle.block_networks.proofs.Loops.{partner-partner, partner-half, parity, flipped, perm-lt, side-past, side-last}
 use Rattle.block_networks.proofs.Halves.{Sides, even-place, odd-place, side-lt, side-pair, own-half, output-sides, input-sides, half-perm}
 

@@ -10,12 +10,17 @@ use lib.ListN.{length, getD, drop}
 use lib.Seq.{getD-append-add, getD-drop}
 use Rattle.lists.specs.Lists.{listOf, Every, every-none, every-more}
 use Rattle.lists.proofs.ListsLaws.{length-listOf, every-listOf, below-pair}
-use Rattle.block_elements.specs.Rows.{Row, X, inputsOf, makes, takes, gatesIn, total, IsX, is-X, MadeBefore, choose, State, on, outputs, step, run, Totals}
+use Rattle.block_elements.specs.Rows.{Row, X, inputsOf, makes, takes, gatesIn, total, MadeBefore, choose, State, on, outputs, step, run, Totals}
 use Rattle.block_elements.proofs.RowsLaws.{madeBefore-listOf, run-append, run-first, run-keeps, run-wires, run-bits}
-use Rattle.block_networks.specs.Permutation.{partner, cross}
+use Rattle.block_networks.specs.Permutation.{partner}
+use Rattle.block_networks.proofs.Sources.{cross}
 use Rattle.block_networks.proofs.Loops.{partner-even, partner-partner, parity}
 use Rattle.block_networks.proofs.Halves.{even-place, odd-place}
 use Rattle.block_networks.proofs.Routing.{cross-half}
+
+-- an X row
+pub data IsX : Row → Type 0 where
+  is-X : {l r : ℕ} → IsX (X l r)
 
 -- ---- X rows: two wires and one bit each
 

@@ -26,11 +26,6 @@ completed N has f x = cond (ltb x N) (cond (has x) (f x) (nthOf (isFree N has f)
 
 -- ---- the rule by itself
 
--- no two of the numbers below N have the same place, and the places are below N
-pub record PartialInjection (N : ℕ) (has : ℕ → Bool) (f : ℕ → ℕ) : Type 0 where
-  pub below : (x : ℕ) → x < N → has x ≡ true → f x < N
-  pub once : (x y : ℕ) → x < N → y < N → has x ≡ true → has y ≡ true → f x ≡ f y → x ≡ y
-
 -- the place p is left
 pub record Left (N : ℕ) (has : ℕ → Bool) (f : ℕ → ℕ) (p : ℕ) : Type 0 where
   pub low : p < N

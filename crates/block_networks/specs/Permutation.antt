@@ -1,13 +1,13 @@
--- Document 01, "Blocks": the permutation network P(N), N = 2 ^ n, its programming, and which input reaches which output.
+-- Document 01, "Blocks": the permutation network P(N), N = 2 ^ n and its programming.
 -- Places count from 0: pair i is the places 2i and 2i + 1. All recurse on the level n, and h is half of N.
 use Prim.Native.Nat.{ℕ, zero, suc, _+_, _-_, _*_, _/_, _%_, _^_, _≤_, min}
 use mathlib.Core.Path.{_≡_}
 use mathlib.Core.Bool.{cond}
 use mathlib.Core.List.{List, [], _∷_, _++_}
 use lib.Dec.{eqb}
-use lib.ListN.{getD, take, drop}
+use lib.ListN.{getD}
 use Rattle.lists.specs.Lists.{listOf}
-use Rattle.block_elements.specs.Rows.{Row, X, choose}
+use Rattle.block_elements.specs.Rows.{Row, X}
 
 -- ---- rows
 
@@ -127,38 +127,3 @@ permutationBits (suc n) π ρ =
     ++ (permutationBits n (inHalf π s 0) (inHalf ρ t 0)
     ++ (permutationBits n (inHalf π s 1) (inHalf ρ t 1)
     ++ listOf (h - 1) (λ i. s (2 * i))))
-
--- ---- which input reaches which output, for any bits
-
--- the place after X rows with these bits to which a place before them goes: the same one, or its partner where the X is crossed
-unfoldable pub cross : List ℕ → ℕ → ℕ
-cross bits x = choose (getD bits (x / 2) 0) x (partner x)
-
--- f on the first places of the pairs and g on the second ones
-unfoldable pub through : (ℕ → ℕ) → (ℕ → ℕ) → ℕ → ℕ
-through f g x = 2 * choose (x % 2) (f (x / 2)) (g (x / 2)) + x % 2
-
--- the bits of the parts of P(2 * 2 ^ n)
-abbrev pub inputBits : ℕ → List ℕ → List ℕ
-inputBits n bits = take (2 ^ n) bits
-
-abbrev pub upperBits : ℕ → List ℕ → List ℕ
-upperBits n bits = drop (2 ^ n) bits
-
-abbrev pub lowerBits : ℕ → List ℕ → List ℕ
-lowerBits n bits = drop (permutationCount n) (upperBits n bits)
-
-abbrev pub outputBits : ℕ → List ℕ → List ℕ
-outputBits n bits = take (2 ^ n - 1) (drop (permutationCount n) (lowerBits n bits))
-
--- the input that reaches output o
-unfoldable pub source : ℕ → List ℕ → ℕ → ℕ
-source zero bits o = o
-source (suc n) bits o =
-    cross (inputBits n bits) (through (source n (upperBits n bits)) (source n (lowerBits n bits)) (cross (outputBits n bits) o))
-
--- the output that input x reaches
-unfoldable pub target : ℕ → List ℕ → ℕ → ℕ
-target zero bits x = x
-target (suc n) bits x =
-    cross (outputBits n bits) (through (target n (upperBits n bits)) (target n (lowerBits n bits)) (cross (inputBits n bits) x))

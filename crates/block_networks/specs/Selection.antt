@@ -1,4 +1,4 @@
--- Document 01, "Blocks": the selection network S(m, n), its programming after 003, and which input reaches which output. S(m, n) is a block
+-- Document 01, "Blocks": the selection network S(m, n) and its programming after 003. S(m, n) is a block
 -- of N inputs and N outputs, N = 2 ^ level, with the inputs past m on wire 0; its first n outputs are S's. What belongs to the block of all
 -- N is named `whole..` and speaks of the level. Inputs, outputs and positions count from 0, so a head's position is the sum c(0) + .. + c(j - 1).
 use Prim.Native.Nat.{ℕ, zero, suc, _+_, _-_, _*_, _^_, _≤_, _<_, max}
@@ -6,11 +6,11 @@ use mathlib.Core.Path.{_≡_}
 use mathlib.Core.Bool.{Bool, cond}
 use mathlib.Core.List.{List, _++_}
 use lib.Dec.{eqb, ltb}
-use lib.ListN.{length, getD, take, drop}
+use lib.ListN.{length, getD, take}
 use Rattle.lists.specs.Lists.{listOf}
 use Rattle.powers.specs.Powers.{ceilLog}
-use Rattle.block_elements.specs.Rows.{Row, Y, choose}
-use Rattle.block_networks.specs.Permutation.{permutationCount, permutationOuts, permutationRows, permutationBits, source}
+use Rattle.block_elements.specs.Rows.{Row, Y}
+use Rattle.block_networks.specs.Permutation.{permutationCount, permutationOuts, permutationRows, permutationBits}
 use Rattle.block_networks.specs.Wanted.{mapping, takerOf}
 use Rattle.lists.specs.Counting.{oneIf, countOf}
 use Rattle.block_networks.specs.Completion.{isTaken, completed}
@@ -138,24 +138,3 @@ module _ (want : ℕ → ℕ) (n : ℕ) where
 -- the program bits of S(m, n) for the wanted inputs, in the rows' order
 unfoldable pub selectionBits : ℕ → ℕ → List ℕ → List ℕ
 selectionBits m n wanted = wholeProgram (mapping wanted) n (selectionLevel m n)
-
--- ---- which input reaches which output, for any bits
-
--- the position whose value the chain has at position i
-unfoldable pub chainSource : List ℕ → ℕ → ℕ
-chainSource bits zero = 0
-chainSource bits (suc i) = choose (getD bits i 0) (chainSource bits i) (suc i)
-
--- the bits from the chain's on, from the second P's on
-abbrev pub chainBits : ℕ → List ℕ → List ℕ
-chainBits level bits = drop (permutationCount level) bits
-
-abbrev pub secondBits : ℕ → List ℕ → List ℕ
-secondBits level bits = drop (2 ^ level - 1) (chainBits level bits)
-
--- the input, of N, that reaches output o
-unfoldable pub wholeSource : ℕ → List ℕ → ℕ → ℕ
-wholeSource level bits o = source level bits (chainSource (chainBits level bits) (source level (secondBits level bits) o))
-
-unfoldable pub selectionSource : ℕ → ℕ → List ℕ → ℕ → ℕ
-selectionSource m n bits o = wholeSource (selectionLevel m n) bits o

@@ -12,7 +12,8 @@ use borrow.Fn.Kinds.{In}
 use borrow.Fn.PlainCycle.{Measures, is, falls, and}
 use borrow.Rule.Slice.PartMut.{mid-len, drop-put, same-len-mid}
 use lib.ListN.{length, take, drop}
-use Rattle.block_elements.specs.Bits.{AreBytes, storeBits}
+use Rattle.block_elements.proofs.BitsLaws.{AreBytes}
+use Rattle.block_elements.specs.Bits.{storeBits}
 use Rattle.block_networks.specs.Permutation.{permutationCount}
 use Rattle.block_sizes.specs.Sizes.{maxSize, maxLevel}
 use Rattle.block_sizes.proofs.SizesLaws.{power-small, count-at}
