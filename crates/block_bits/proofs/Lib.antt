@@ -1,3 +1,3 @@
--- Program bits in lent bytes.
--- storing bits one after another, in any order, and in a part of the bytes
+-- Laws of program bits in lent bytes.
+-- storing bits one after another, in any order, in a part of the bytes, and in cleared bytes
 pub mod StoreLaws

@@ -28,7 +28,7 @@ unfolding listOf storeBits
 store-more s p i f =
     rw (add-one i, storeBits-append s p (listOf i f) (f i ∷ [])) (ap (λ k. setBit (storeBits s p (listOf i f)) (p + k) (f i)) (sym (length-listOf i f)))
 
--- the same for a store of b's lowest bit
+-- a store of b's lowest bit
 pub store-step : (s₀ : List ℕ) {s : List ℕ} (p i : ℕ) {b : ℕ} (f : ℕ → ℕ) → s ≡ storeBits s₀ p (listOf i f) → b < 2 → b ≡ f i
     → setBit s (p + i) (b % 2) ≡ storeBits s₀ p (listOf (i + 1) f)
 store-step s₀ p i f held small e = rw (mod-eq-of-lt small, held, e) (store-more s₀ p i f)

@@ -60,7 +60,7 @@ fn with_bit(x: u8, place: u32, b: u8) -> u8
     (x & !(1u8 << place)) | (b << place)
 }
 
-// Makes each of the first `count` bytes b, as far as there are so many.
+// Makes each of the first `count` bytes b, or all of them where there are fewer.
 pub fn fill_bytes(bytes: &mut [u8], count: usize, b: u8)
     ensures { λ _. ⌜ now (bytes .exit) ≡ over (replicate (min count (length (now (bytes .entry)))) b) (now (bytes .entry)) ⌝ }
 {

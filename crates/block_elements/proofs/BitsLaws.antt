@@ -74,7 +74,7 @@ same-bits (suc k) x y hx hy e =
     let low : x % 2 ≡ y % 2 = simp div-one at (e 0 (omega arith)) in
     omega arith
 
--- the same by shift and mask, as code reads and stores a bit
+-- a bit by shift and mask, as code reads and stores it
 
 pub bitOf-mask : (k x : ℕ) → bitAnd (x / 2 ^ k) 1 ≡ bitOf k x
 bitOf-mask k x = and-mask (x / 2 ^ k) 1

@@ -83,7 +83,7 @@ decode (k ∷ []) = []
 decode (k ∷ l ∷ []) = []
 decode (k ∷ l ∷ r ∷ es) = rowOf k l r ∷ decode es
 
--- a row of this family: a gate has just so many operands
+-- a row of this family: as many input wires as a gate has operands
 abbrev pub InFamily : Row → Type 0
 InFamily row = length (inputsOf row) ≡ operands
 
@@ -150,7 +150,7 @@ pub record Delivered {A : Type 0} (none : A) (size : ℕ) (π : ℕ → ℕ) (in
   pub bits : t .bits ≡ rest
   pub gates : t .gates ≡ s .gates
 
--- rows of this family that make so many wires, take so many bits and are so many gates
+-- rows of this family that make `made` wires and take `taken` bits, `count` of them gates
 pub record Totals (rows : List Row) (made taken count : ℕ) : Type 0 where
   pub wires : total makes rows ≡ made
   pub bits : total takes rows ≡ taken

@@ -1,1 +1,1 @@
-// The elements X, Y and G: rows, their entries in a table and their run over values of any type; program bits. No code: definitions and theorems.
+// No code: the elements X, Y and G as rows, their entries in a table and their run over values of any type; program bits; and their laws.

@@ -1,7 +1,7 @@
--- the bits of a level and of its halves, stored one after another
-pub mod LevelsLaws
--- the bits of a level are those of its input rows, of its halves, and of its output rows
-pub mod MappingsLaws
--- The laws of the definitions.
+-- That programming on lists gives P's program bits.
 -- the marks that are left are the sides of the outputs
 pub mod MarkingLaws
+-- the bits of a level are those of its input rows, of its halves, and of its output rows
+pub mod MappingsLaws
+-- the bits of a level and of its halves, stored one after another
+pub mod LevelsLaws

@@ -1,4 +1,4 @@
--- How P is programmed on lists: the definitions that its code follows, and that they give P's program bits.
+-- How P is programmed on lists: the definitions that its code follows.
 -- a mapping as a list with its inverse, and what one level makes of it
 pub mod Mappings
 -- how the sides of the outputs are marked, loop after loop

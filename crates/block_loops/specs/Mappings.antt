@@ -32,31 +32,35 @@ pub record Paired (p q : List ℕ) : Type 0 where
 
 -- ---- one level of the programming
 
--- one step along a loop, and the half of an output
+-- one step along a loop of the mapping p with the inverse q
 abbrev pub walkIn : List ℕ → List ℕ → ℕ → ℕ
 walkIn p q = walk (mapOf p) (mapOf q)
 
+-- the half of an output
 abbrev pub sideIn : List ℕ → List ℕ → ℕ → ℕ
 sideIn p q = side (length p / 2) (mapOf p) (mapOf q)
 
--- the inverse as a list, and the list of the outputs' halves
+-- the inverse as a list
 abbrev pub inverseList : List ℕ → List ℕ
 inverseList p = listOf (length p) (inverseOf p)
 
+-- the list of the outputs' halves
 abbrev pub sideList : List ℕ → List ℕ → List ℕ
 sideList p q = listOf (length p) (sideIn p q)
 
--- from the inverse q and the halves m: the bits of the input rows, which are the halves of the pairs' first inputs
+-- from the inverse q and the halves m: the bit of input row j, which is the half of its pair's first input
 abbrev pub inputSide : List ℕ → List ℕ → ℕ → ℕ
 inputSide q m j = getD m (getD q (2 * j) 0) 0
 
+-- the bits of the input rows
 abbrev pub inputSides : List ℕ → List ℕ → List ℕ
 inputSides q m = listOf (length q / 2) (inputSide q m)
 
--- the bits of the output rows, which are the halves of the pairs' first outputs; the last pair has no row
+-- the bit of output row i, which is the half of its pair's first output
 abbrev pub outputSide : List ℕ → ℕ → ℕ
 outputSide m i = getD m (2 * i) 0
 
+-- the bits of the output rows; the last pair has no row
 abbrev pub outputSides : List ℕ → List ℕ
 outputSides m = listOf (length m / 2 - 1) (outputSide m)
 
@@ -64,10 +68,11 @@ outputSides m = listOf (length m / 2 - 1) (outputSide m)
 abbrev pub rowsStored : List ℕ → ℕ → ℕ → List ℕ → List ℕ → List ℕ
 rowsStored before start part q m = storeBits (storeBits before start (inputSides q m)) (start + length m / 2 + part + part) (outputSides m)
 
--- from the mapping p and the halves m: the mapping that is left to the half c
+-- from the mapping p and the halves m: entry i of the mapping that is left to the half c
 abbrev pub halfEntry : ℕ → List ℕ → List ℕ → ℕ → ℕ
 halfEntry c p m i = getD p (2 * i + (getD m (2 * i) 0 + c) % 2) 0 / 2
 
+-- that mapping
 abbrev pub halfList : ℕ → List ℕ → List ℕ → List ℕ
 halfList c p m = listOf (length p / 2) (halfEntry c p m)
 

@@ -25,6 +25,7 @@ visitStart h (suc k) = 2 * k
 unfoldable pub loopOf : ℕ → (ℕ → ℕ) → (ℕ → ℕ) → ℕ → ℕ
 loopOf h π ρ x = lowest h π ρ x / 2
 
+-- the number of the pair that leads x's loop, of the mapping p with the inverse q
 abbrev pub loopIn : List ℕ → List ℕ → ℕ → ℕ
 loopIn p q = loopOf (length p / 2) (mapOf p) (mapOf q)
 
@@ -39,7 +40,7 @@ pub record Traced (p q : List ℕ) (start : ℕ) (m₀ m : List ℕ) : Type 0 wh
   pub done : (x : ℕ) → loopIn p q x ≡ loopIn p q start → getD m x 0 ≡ sideIn p q x
   pub kept : (x : ℕ) → loopIn p q x ≢ loopIn p q start → getD m x 0 ≡ getD m₀ x 0
 
--- the same, unless the start is marked already
+-- the start's loop is marked, unless the start is marked already
 pub record Visited (p q : List ℕ) (start : ℕ) (m₀ m : List ℕ) : Type 0 where
   pub new : getD m₀ start 0 ≡ unmarked → Traced p q start m₀ m
   pub old : getD m₀ start 0 ≢ unmarked → m ≡ m₀

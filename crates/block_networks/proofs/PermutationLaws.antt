@@ -23,7 +23,7 @@ permutation-count zero = refl
 permutation-count (suc n) =
     rw (pow-succ' 2 n, suc-mul n (2 * 2 ^ n), mul-left-comm n 2 (2 ^ n)) (omega (arith, permutation-count n, pow-pos n))
 
--- the input rows and the output rows are so many X
+-- the input rows and the output rows are X rows, as many as their number says
 record XRows (rows : List Row) (n : ℕ) : Type 0 where
   count : length rows ≡ n
   every : Every IsX rows

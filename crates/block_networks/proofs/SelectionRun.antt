@@ -164,7 +164,7 @@ module _ {A : Type 0} (none : A) (gate : ℕ → List ℕ → List A → A) wher
         gates = d .gates;
       }
 
-  -- the same for packed bits and written entries: what is read back from them runs as S does
+  -- packed bits and written entries: what is read back from them runs as S does
   pub packed-selection-delivers : {m n : ℕ} {wanted : List ℕ} → Selected m n wanted → (ins : List ℕ) (next : ℕ) (values : List A)
       → 0 < next → Below next ins → length values ≡ next → (o : ℕ) → o < n
       → let bits : List ℕ = unpack (selectionCount m n) (pack (selectionBits m n wanted)) in

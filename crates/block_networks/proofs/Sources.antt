@@ -14,16 +14,19 @@ cross bits x = choose (getD bits (x / 2) 0) x (partner x)
 unfoldable pub through : (ℕ → ℕ) → (ℕ → ℕ) → ℕ → ℕ
 through f g x = 2 * choose (x % 2) (f (x / 2)) (g (x / 2)) + x % 2
 
--- the bits of the parts of P(2 * 2 ^ n)
+-- the bits of the input X rows of P(2 * 2 ^ n)
 abbrev pub inputBits : ℕ → List ℕ → List ℕ
 inputBits n bits = take (2 ^ n) bits
 
+-- the bits from the upper half's on
 abbrev pub upperBits : ℕ → List ℕ → List ℕ
 upperBits n bits = drop (2 ^ n) bits
 
+-- the bits from the lower half's on
 abbrev pub lowerBits : ℕ → List ℕ → List ℕ
 lowerBits n bits = drop (permutationCount n) (upperBits n bits)
 
+-- the bits of the output X rows
 abbrev pub outputBits : ℕ → List ℕ → List ℕ
 outputBits n bits = take (2 ^ n - 1) (drop (permutationCount n) (lowerBits n bits))
 
@@ -44,10 +47,11 @@ unfoldable pub chainSource : List ℕ → ℕ → ℕ
 chainSource bits zero = 0
 chainSource bits (suc i) = choose (getD bits i 0) (chainSource bits i) (suc i)
 
--- the bits from the chain's on, from the second P's on
+-- the bits from the chain's on
 abbrev pub chainBits : ℕ → List ℕ → List ℕ
 chainBits level bits = drop (permutationCount level) bits
 
+-- the bits from the second P's on
 abbrev pub secondBits : ℕ → List ℕ → List ℕ
 secondBits level bits = drop (2 ^ level - 1) (chainBits level bits)
 
@@ -55,5 +59,6 @@ secondBits level bits = drop (2 ^ level - 1) (chainBits level bits)
 unfoldable pub wholeSource : ℕ → List ℕ → ℕ → ℕ
 wholeSource level bits o = source level bits (chainSource (chainBits level bits) (source level (secondBits level bits) o))
 
+-- the input, of N, that reaches output o of S(m, n)
 unfoldable pub selectionSource : ℕ → ℕ → List ℕ → ℕ → ℕ
 selectionSource m n bits o = wholeSource (selectionLevel m n) bits o

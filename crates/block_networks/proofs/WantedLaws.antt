@@ -145,7 +145,7 @@ pub wanted-delivers : {A : Type 0} (none : A) (gate : ℕ → List ℕ → List 
 unfolding wantedBits
 wanted-delivers none gate n W ins next s rest e b m bits = permutation-delivers none gate n (wanted-perm W) ins next s rest e b m bits
 
--- the same for packed bits and written entries: what is read back from them runs as P does
+-- packed bits and written entries: what is read back from them runs as P does
 pub packed-delivers : {A : Type 0} (none : A) (gate : ℕ → List ℕ → List A → A) (n : ℕ) {wanted : List ℕ} → Wanted (2 ^ n) wanted
     → (ins : List ℕ) (next : ℕ) (values : List A) → length ins ≡ 2 ^ n → Below next ins → length values ≡ next → (o : ℕ) → o < 2 ^ n
     → let bits : List ℕ = unpack (permutationCount n) (pack (wantedBits n wanted)) in

@@ -13,10 +13,11 @@ unfoldable pub isTaken : (ℕ → Bool) → (ℕ → ℕ) → ℕ → ℕ → Bo
 isTaken has f zero p = false
 isTaken has f (suc n) p = (has n && eqb (f n) p) || isTaken has f n p
 
--- an idle number has no place; a free place is that of no number below N
+-- an idle number has no place
 abbrev pub isIdle : (ℕ → Bool) → ℕ → Bool
 isIdle has x = not (has x)
 
+-- a free place is that of no number below N
 abbrev pub isFree : ℕ → (ℕ → Bool) → (ℕ → ℕ) → ℕ → Bool
 isFree N has f p = not (isTaken has f N p)
 

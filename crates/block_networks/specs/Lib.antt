@@ -1,4 +1,5 @@
--- "Blocks", P(N): its rows and output wires, its program bits, and which input reaches which output
+-- Document 01, "Blocks": the networks P and S. With block_elements they give every table and program of P and S.
+-- P(N): its rows and output wires, its program bits, and which input reaches which output
 pub mod Permutation
 -- P's programming: the rule for the loops of pairs, by itself
 pub mod SideRule
@@ -6,7 +7,7 @@ pub mod SideRule
 pub mod Wanted
 -- a partial injection completed in rising order
 pub mod Completion
--- "Blocks", S(m, n): its rows and output wires, its program bits, and which input reaches which output
+-- S(m, n): its rows and output wires, its program bits, and which input reaches which output
 pub mod Selection
 -- S's programming: the rule by itself
 pub mod SelectionRule

@@ -24,20 +24,23 @@ inputRows h ins = listOf h (λ i. X (getD ins (2 * i) 0) (getD ins (2 * i + 1) 0
 unfoldable pub outputRows : ℕ → List ℕ → List ℕ → List Row
 outputRows k upper lower = listOf k (λ i. X (getD upper i 0) (getD lower i 0))
 
--- the first outputs of h X rows that make their wires from `next` on feed the upper half, the second ones the lower
+-- the first outputs of h X rows that make their wires from `next` on: they feed the upper half
 unfoldable pub firsts : ℕ → ℕ → List ℕ
 firsts h next = listOf h (λ i. next + 2 * i)
 
+-- their second outputs: they feed the lower half
 unfoldable pub seconds : ℕ → ℕ → List ℕ
 seconds h next = listOf h (λ i. next + 2 * i + 1)
 
--- the first wire that the upper half makes, that the lower makes, that the output X rows make: two wires a row
+-- the first wire that the upper half makes: two wires a row
 abbrev pub upperNext : ℕ → ℕ → ℕ
 upperNext n next = next + 2 * 2 ^ n
 
+-- the first wire that the lower half makes
 abbrev pub lowerNext : ℕ → ℕ → ℕ
 lowerNext n next = upperNext n next + 2 * permutationCount n
 
+-- the first wire that the output X rows make
 abbrev pub outputNext : ℕ → ℕ → ℕ
 outputNext n next = lowerNext n next + 2 * permutationCount n
 
@@ -51,10 +54,11 @@ permutationOuts (suc n) ins next =
     let lower : List ℕ = permutationOuts n (seconds h next) (lowerNext n next) in
     listOf (2 * (h - 1)) (λ o. outputNext n next + o) ++ (getD upper (h - 1) 0 ∷ getD lower (h - 1) 0 ∷ [])
 
--- the output wires of the halves of P(2 * 2 ^ n)
+-- the output wires of the upper half of P(2 * 2 ^ n)
 abbrev pub upperOuts : ℕ → ℕ → List ℕ
 upperOuts n next = permutationOuts n (firsts (2 ^ n) next) (upperNext n next)
 
+-- those of its lower half
 abbrev pub lowerOuts : ℕ → ℕ → List ℕ
 lowerOuts n next = permutationOuts n (seconds (2 ^ n) next) (lowerNext n next)
 

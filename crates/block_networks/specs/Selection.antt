@@ -38,47 +38,54 @@ chainRows k s next = listOf k (λ i. Y (chainWire s next i) (getD s (suc i) 0))
 unfoldable pub chainOuts : ℕ → List ℕ → ℕ → List ℕ
 chainOuts N s next = listOf N (chainWire s next)
 
--- the first wire that the chain makes, that the second P makes: two wires a row of P, one a row of the chain
+-- the first wire that the chain makes: two wires a row of P
 abbrev pub chainNext : ℕ → ℕ → ℕ
 chainNext level next = next + 2 * permutationCount level
 
+-- the first wire that the second P makes: one wire a row of the chain
 abbrev pub secondNext : ℕ → ℕ → ℕ
 secondNext level next = chainNext level next + (2 ^ level - 1)
 
--- s, the output wires of the first P, and t, those of the chain
+-- s, the output wires of the first P
 abbrev pub firstOuts : ℕ → List ℕ → ℕ → List ℕ
 firstOuts level ins next = permutationOuts level (padded (2 ^ level) ins) next
 
+-- t, the output wires of the chain
 abbrev pub middleOuts : ℕ → List ℕ → ℕ → List ℕ
 middleOuts level ins next = chainOuts (2 ^ level) (firstOuts level ins next) (chainNext level next)
 
--- first P, chain, second P
+-- its rows: first P, chain, second P
 unfoldable pub wholeRows : ℕ → List ℕ → ℕ → List Row
 wholeRows level ins next =
     permutationRows level (padded (2 ^ level) ins) next
     ++ (chainRows (2 ^ level - 1) (firstOuts level ins next) (chainNext level next)
     ++ permutationRows level (middleOuts level ins next) (secondNext level next))
 
+-- its output wires
 unfoldable pub wholeOuts : ℕ → List ℕ → ℕ → List ℕ
 wholeOuts level ins next = permutationOuts level (middleOuts level ins next) (secondNext level next)
 
--- how many rows and program bits it has, and how many wires it makes
+-- how many rows and program bits it has
 unfoldable pub wholeCount : ℕ → ℕ
 wholeCount level = permutationCount level + (2 ^ level - 1 + permutationCount level)
 
+-- how many wires it makes
 unfoldable pub wholeWires : ℕ → ℕ
 wholeWires level = 2 * permutationCount level + (2 ^ level - 1 + 2 * permutationCount level)
 
--- S(m, n) on the input wires `ins`, where `next` is the next unmade wire
+-- the rows of S(m, n) on the input wires `ins`, where `next` is the next unmade wire
 unfoldable pub selectionRows : ℕ → ℕ → List ℕ → ℕ → List Row
 selectionRows m n ins next = wholeRows (selectionLevel m n) ins next
 
+-- its output wires
 unfoldable pub selectionOuts : ℕ → ℕ → List ℕ → ℕ → List ℕ
 selectionOuts m n ins next = take n (wholeOuts (selectionLevel m n) ins next)
 
+-- how many rows and program bits it has
 unfoldable pub selectionCount : ℕ → ℕ → ℕ
 selectionCount m n = wholeCount (selectionLevel m n)
 
+-- how many wires it makes
 unfoldable pub selectionWires : ℕ → ℕ → ℕ
 selectionWires m n = wholeWires (selectionLevel m n)
 
@@ -99,6 +106,7 @@ module _ (want : ℕ → ℕ) (n : ℕ) where
   abbrev pub copies : ℕ → ℕ
   copies j = wanting want n j
 
+  -- some output wants input j
   abbrev pub isWanted : ℕ → Bool
   isWanted j = ltb 0 (copies j)
 
@@ -132,6 +140,7 @@ module _ (want : ℕ → ℕ) (n : ℕ) where
   abbrev pub secondProgram : ℕ → List ℕ
   secondProgram level = permutationBits level copyOf (takerOf (2 ^ level) copyOf)
 
+  -- the bits of the block of all N positions
   unfoldable pub wholeProgram : ℕ → List ℕ
   wholeProgram level = firstProgram level ++ (chainProgram level ++ secondProgram level)
 

@@ -8,6 +8,7 @@ use Prim.Native.Nat.{ℕ, suc, _+_, _-_, _*_, _/_, _^_, _≤_, _<_}
 use Rattle.lists.specs.Lists.{listOf}
 use Rattle.block_networks.specs.Permutation.{partner, inHalf}
 
+-- an input pair or an output pair, by its number
 pub data Pair : Type 0 where
   inputPair outputPair : ℕ → Pair
 

@@ -1,2 +1,3 @@
--- Document 01, the block library, programming P: the calls, and that they do what document 01 says.
+-- Document 01, the block library, programming P: the definitions of the calls.
+-- what the calls leave in the program
 pub mod ProgramCalls

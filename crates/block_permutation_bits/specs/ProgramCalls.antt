@@ -13,6 +13,6 @@ use Rattle.block_program_checks.specs.Checks.{programFault, programAtFault}
 abbrev pub programResult : ℕ → List ℕ → List ℕ → List ℕ
 programResult N wanted program = filled (programFault N wanted (length program)) (pack (wantedBits (levelOf N) wanted)) program
 
--- the same with the bits stored from bit `start` on
+-- the lent program after a call that stores the bits from bit `start` on
 abbrev pub programAtResult : ℕ → List ℕ → ℕ → List ℕ → List ℕ
 programAtResult N wanted start program = storedAt (programAtFault N wanted start (length program)) start (wantedBits (levelOf N) wanted) program

@@ -38,8 +38,8 @@ pub(crate) fn program_block(
     }
 }
 
-// The same for P(2), whose one row is crossed where its first output takes the second input, and for P(1), which has no row. Most blocks
-// are these.
+// The program bits of P(2), whose one row is crossed where its first output takes the second input, and of P(1), which has no row. Most
+// blocks are these.
 fn program_pair(perm: &[u16], program: &mut [u8], start: usize, level: usize)
     requires { ⌜ IsPerm (now perm) × (length (now perm) ≡ 2 ^ level) × (level ≤ 1) ⌝ }
     requires { ⌜ start + permutationCount level < 2 ^ 32 ⌝ }
@@ -50,7 +50,7 @@ fn program_pair(perm: &[u16], program: &mut [u8], start: usize, level: usize)
     }
 }
 
-// The same for the half of `perm` from place `at` on. What stands behind it stays.
+// The program bits of a half, whose mapping stands in `perm` from place `at` on. What stands behind that stays.
 fn program_half(
     perm: &mut [u16],
     scratch: &mut [u16],

@@ -14,9 +14,9 @@ ghost use Rattle.block_program_checks.specs.Checks.{programFault, programAtFaul
 ghost use Rattle.block_permutation_bits.specs.ProgramCalls.{programResult, programAtResult};
 use crate::block::program_block;
 use block_bits::bit_byte;
+use block_bits::bit_place;
 use block_bits::bytes_for;
 use block_bits::fill_bytes;
-use block_bits::bit_place;
 use block_program_checks::check_permutation;
 use block_sizes::MAX_PLACES;
 use block_sizes::permutation_count;
@@ -37,7 +37,7 @@ pub fn program_permutation(n: u32, wanted: &[u16], program: &mut [u8]) -> Answer
     }
 }
 
-// The same bits stored from bit `start` on. No other bit changes.
+// The program of P(n) for the wanted inputs, its bits stored from bit `start` on. No other bit changes.
 pub fn program_permutation_at(n: u32, wanted: &[u16], program: &mut [u8], start: usize) -> Answer
     ensures answered { λ r. ⌜ answerNumber r ≡ programAtFault n (now (wanted .entry)) start (length (now (program .entry))) ⌝ }
     ensures written { λ _. ⌜ now (program .exit) ≡ programAtResult n (now (wanted .entry)) start (now (program .entry)) ⌝ }

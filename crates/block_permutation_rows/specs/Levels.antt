@@ -10,7 +10,7 @@ use Rattle.block_permutation_rows.specs.declared.level.LevelParts.{Level
 use Rattle.block_sizes.specs.Sizes.{maxSize, maxLevel}
 use Rattle.elements.specs.Elements.{maxWires}
 
--- so many X rows: row i takes the wires at the places step * i and step * i + gap
+-- `count` X rows: row i takes the wires at the places step * i and step * i + gap
 unfoldable pub gapRows : ℕ → List ℕ → ℕ → ℕ → List Row
 gapRows count wires step gap = listOf count (λ i. X (getD wires (step * i) 0) (getD wires (step * i + gap) 0))
 

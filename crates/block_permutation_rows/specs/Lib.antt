@@ -1,4 +1,5 @@
--- Document 01, the block library, writing P: the call, and when it succeeds.
+-- Document 01, the block library, writing P: the definitions of the call.
+-- the lent buffers after the call
 pub mod WriteCalls
--- one level of P by its halves
+-- what the writer of one level needs of wires and room
 pub mod Levels

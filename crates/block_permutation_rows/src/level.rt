@@ -16,7 +16,7 @@ use block_sizes::permutation_count;
 use elements::FabricWire;
 use elements::Kind;
 
-// Where the parts of one level begin: the entries of their rows in the level's stretch, and the first wire that they make.
+// Where the parts of one level begin: the entries of their rows in the level's stretch, and the first wire that they make. A half has `half` places.
 struct LevelParts {
     half: usize,
     upper: usize,
@@ -53,7 +53,7 @@ pub(crate) fn write_level(level: u32, next: FabricWire, rows: &mut [u16], wires:
     }
 }
 
-// The same for P(2), which is one X, and for P(1), which is a wire. Most blocks are these.
+// P at level 1, P(2), which is one X, and at level 0, P(1), which is a wire. Most blocks are these.
 fn write_pair(level: u32, next: FabricWire, rows: &mut [u16], wires: &mut [u16])
     requires { ⌜ (level ≤ 1) × LevelRoom level (next .0) (length (now rows)) (length (now wires)) ⌝ }
     ensures { λ _. ⌜ now (rows .exit) ≡ over (flat (permutationRows level (take (2 ^ level) (now (wires .entry))) (next .0))) (now (rows .entry)) ⌝ }
@@ -92,7 +92,7 @@ fn level_parts(level: u32, next: FabricWire) -> LevelParts
     }
 }
 
-// So many X from the front of a part of the table on. Row i takes the wires at the places step * i and step * i + gap.
+// `count` X rows from the front of a part of the table on. Row i takes the wires at the places step * i and step * i + gap.
 fn put_switches(rows: &mut [u16], count: usize, wires: &[u16], step: u16, gap: usize)
     requires { ⌜ GapRoom (length (now rows)) count (length (now wires)) gap ⌝ }
     ensures { λ _. ⌜ now (rows .exit) ≡ over (flat (gapRows count (now (wires .entry)) step gap)) (now (rows .entry)) ⌝ }

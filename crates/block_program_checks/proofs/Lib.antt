@@ -1,3 +1,5 @@
+-- When the checks of programming pass.
+-- check 11 of bits
 pub mod BitsLaws
--- when they pass
+-- the checks of P and of S
 pub mod ChecksLaws

@@ -6,11 +6,11 @@ use Rattle.fault.specs.declared.Fault.{Fault}
 use Rattle.fault.specs.Checks.{unless}
 use Rattle.block_elements.specs.Bits.{bytesFor, storeBits, bitsHeld}
 
--- 11: a lent program has fewer bytes than so many bits need
+-- 11: a lent program of `room` bytes does not hold `count` bits
 unfoldable pub bitsFault : ℕ → ℕ → ℕ
 bitsFault count room = unless (leb (bytesFor count) room) Fault.Short
 
--- 11 for bits from bit `start` on: they go past the lent program's end
+-- 11 for `count` bits from bit `start` on: they go past the end of a program of `room` bytes
 unfoldable pub bitsAtFault : ℕ → ℕ → ℕ → ℕ
 bitsAtFault count start room = unless (leb (start + count) (bitsHeld room)) Fault.Short
 

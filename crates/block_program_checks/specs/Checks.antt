@@ -50,11 +50,11 @@ sourceFault N wanted = andThen (selectedFault N wanted) (twiceFault wanted)
 unfoldable pub wantedFault : ℕ → List ℕ → ℕ
 wantedFault N wanted = andThen (unless (sizeAllowed N) Fault.Inputs) (andThen (listFault N wanted) (sourceFault N wanted))
 
--- the checks of a call that is lent a program of so many bytes: these, then 11
+-- the checks of a call that is lent a program of `room` bytes: these, then 11
 abbrev pub programFault : ℕ → List ℕ → ℕ → ℕ
 programFault N wanted room = andThen (wantedFault N wanted) (bitsFault (permutationCount (levelOf N)) room)
 
--- the same where the bits begin with bit `start`
+-- the checks of a call that stores the bits from bit `start` on
 abbrev pub programAtFault : ℕ → List ℕ → ℕ → ℕ → ℕ
 programAtFault N wanted start room = andThen (wantedFault N wanted) (bitsAtFault (permutationCount (levelOf N)) start room)
 
@@ -64,11 +64,11 @@ programAtFault N wanted start room = andThen (wantedFault N wanted) (bitsAtFault
 unfoldable pub selectionWantedFault : ℕ → ℕ → List ℕ → ℕ
 selectionWantedFault m n wanted = andThen (selectionSizesFault m n) (andThen (listFault n wanted) (selectedFault m wanted))
 
--- these, then 11
+-- the checks of a call that is lent a program of `room` bytes: these, then 11
 abbrev pub selectionProgramFault : ℕ → ℕ → List ℕ → ℕ → ℕ
 selectionProgramFault m n wanted room = andThen (selectionWantedFault m n wanted) (bitsFault (selectionCount m n) room)
 
--- the same where the bits begin with bit `start`
+-- the checks of a call that stores the bits from bit `start` on
 abbrev pub selectionProgramAtFault : ℕ → ℕ → List ℕ → ℕ → ℕ → ℕ
 selectionProgramAtFault m n wanted start room = andThen (selectionWantedFault m n wanted) (bitsAtFault (selectionCount m n) start room)
 

@@ -3,8 +3,8 @@ ghost use mathlib.Core.Path.{_≡_};
 ghost use Rattle.fault.specs.Number.{answerNumber};
 ghost use Rattle.block_program_checks.specs.Bits.{bitsAtFault};
 use block_bits::bit_byte;
-use block_bits::bytes_for;
 use block_bits::bit_place;
+use block_bits::bytes_for;
 use fault::Answer;
 use fault::Fault;
 

@@ -12,7 +12,7 @@ use Rattle.fault.specs.Buffers.{over}
 use Rattle.elements.specs.Elements.{maxWires}
 use Rattle.block_rows.specs.Wires.{wiresPut}
 
--- the wires first, first + step, .. fit a list of so many places
+-- the wires first, first + step, .. fit a list of `places` places
 pub record Progression (places count first step : ℕ) : Type 0 where
   pub room : count ≤ places
   pub each : (i : ℕ) → i < count → first + step * i < maxWires

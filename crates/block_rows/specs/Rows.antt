@@ -14,7 +14,7 @@ use Rattle.elements.specs.Elements.{maxWires, kindNumber}
 unfoldable pub rowPut : ℕ → ℕ → ℕ → List ℕ → List ℕ
 rowPut kind left right old = cond (leb stride (length old)) (over (kind ∷ left % maxWires ∷ right % maxWires ∷ []) old) old
 
--- so many rows of a kind: row i takes the wires at place step * i of two lists
+-- `count` rows of a kind: row i takes the wires at place step * i of two lists
 unfoldable pub pairRows : Kind → ℕ → List ℕ → List ℕ → ℕ → List Row
 pairRows kind count lefts rights step = listOf count (λ i. rowOf (kindNumber kind) (getD lefts (step * i) 0) (getD rights (step * i) 0))
 

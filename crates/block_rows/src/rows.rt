@@ -1,4 +1,4 @@
-// Rows in the table of 16-bit entries. `put_row` and `row_place` alone know how many entries a row has and in which order.
+// Rows in the table of 16-bit entries. How many entries a row has and in which order is said here alone.
 ghost use mathlib.Core.Path.{_≡_};
 ghost use Prim.Native.Nat.{_*_, _≤_};
 ghost use lib.ListN.{length};
@@ -23,7 +23,7 @@ pub const LEFT_PLACE: usize = 1;
 // The place of its right wire.
 pub const RIGHT_PLACE: usize = 2;
 
-// The entries that so many rows take, which is the place of the row behind them.
+// The entries that `rows` rows take, which is the place of the row behind them.
 pub fn row_place(rows: u32) -> usize
     ensures { λ r. ⌜ r ≡ stride * rows ⌝ }
 {
@@ -41,7 +41,7 @@ pub fn put_row(rows: &mut [u16], kind: Kind, left: FabricWire, right: FabricWire
     }
 }
 
-// So many rows of a kind from the front of a part of the table on, if it has room for them. Row i takes the wires at place step * i of two lists.
+// `count` rows of a kind from the front of a part of the table on, if it has room for them. Row i takes the wires at place step * i of two lists.
 pub fn put_pairs(rows: &mut [u16], kind: Kind, count: u32, lefts: &[u16], rights: &[u16], step: u16)
     ensures { λ _. ⌜ now (rows .exit) ≡ rowsPut (pairRows kind count (now (lefts .entry)) (now (rights .entry)) step) (now (rows .entry)) ⌝ }
 {
@@ -50,7 +50,7 @@ pub fn put_pairs(rows: &mut [u16], kind: Kind, count: u32, lefts: &[u16], rights
     }
 }
 
-// The same where there is room.
+// Those rows where there is room for them.
 fn put_all(rows: &mut [u16], kind: Kind, count: u32, lefts: &[u16], rights: &[u16], step: u16)
     requires { ⌜ stride * count ≤ length (now rows) ⌝ }
     ensures { λ _. ⌜ now (rows .exit) ≡ over (flat (pairRows kind count (now (lefts .entry)) (now (rights .entry)) step)) (now (rows .entry)) ⌝ }

@@ -33,6 +33,7 @@ Blank array = PlacesHold (λ i. 0) array
 
 -- ---- positions, by counts: `counts` tells for each input how many outputs want it
 
+-- some output wants input j
 abbrev pub isCounted : List ℕ → ℕ → Bool
 isCounted counts j = ltb 0 (getD counts j 0)
 
@@ -96,6 +97,7 @@ networkBits list = wantedBits (levelOf (length list)) list
 abbrev pub chainBitBy : List ℕ → List ℕ → ℕ → ℕ
 chainBitBy counts list i = oneIf (isCounted counts (getD list (i + 1) 0 - 1))
 
+-- the bits of the chain
 abbrev pub chainBitsBy : List ℕ → List ℕ → List ℕ
 chainBitsBy counts list = listOf (length list - 1) (chainBitBy counts list)
 
@@ -103,6 +105,7 @@ chainBitsBy counts list = listOf (length list - 1) (chainBitBy counts list)
 abbrev pub firstBits : List ℕ → List ℕ → List ℕ
 firstBits counts list = networkBits list ++ chainBitsBy counts list
 
+-- how many those are, for N positions
 abbrev pub firstCount : ℕ → ℕ
 firstCount N = permutationCount (levelOf N) + (N - 1)
 
@@ -120,6 +123,7 @@ pub record NextCopies (wanted : List ℕ) (o : ℕ) (heads : List ℕ) : Type 0 
 
 -- ---- all that is found before a bit is stored
 
+-- how many outputs want each input, the heads of the inputs, and the inputs of the first network's N positions
 pub record PositionsFound (N : ℕ) (wanted counts heads list : List ℕ) : Type 0 where
   pub counted : PlacesHold (copies (mapping wanted) (length wanted)) counts
   pub headed : NextCopies wanted 0 heads

@@ -1,5 +1,5 @@
--- Document 01, the block library, programming S.
--- the calls, when they succeed, and what they leave in the program
+-- Document 01, the block library, programming S: the definitions of the calls.
+-- what the calls leave in the program
 pub mod ProgramCalls
 -- what the inner calls find and leave in their arrays
 pub mod Arrays

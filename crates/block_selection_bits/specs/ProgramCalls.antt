@@ -13,7 +13,7 @@ abbrev pub selectionProgramResult : ℕ → ℕ → List ℕ → List ℕ → Li
 selectionProgramResult m n wanted program =
     filled (selectionProgramFault m n wanted (length program)) (pack (selectionBits m n wanted)) program
 
--- the same with the bits stored from bit `start` on
+-- the lent program after a call that stores the bits from bit `start` on
 abbrev pub selectionProgramAtResult : ℕ → ℕ → List ℕ → ℕ → List ℕ → List ℕ
 selectionProgramAtResult m n wanted start program =
     storedAt (selectionProgramAtFault m n wanted start (length program)) start (selectionBits m n wanted) program

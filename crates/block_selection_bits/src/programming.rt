@@ -6,9 +6,9 @@ ghost use Rattle.block_program_checks.specs.Checks.{selectionProgramFault, sele
 ghost use Rattle.block_selection_bits.specs.ProgramCalls.{selectionProgramResult, selectionProgramAtResult};
 use crate::program::store_program;
 use block_bits::bit_byte;
+use block_bits::bit_place;
 use block_bits::bytes_for;
 use block_bits::fill_bytes;
-use block_bits::bit_place;
 use block_program_checks::check_selection;
 use block_sizes::selection_count;
 use fault::Answer;
@@ -28,8 +28,8 @@ pub fn program_selection(m: u32, n: u32, wanted: &[u16], program: &mut [u8]) -> 
     }
 }
 
-// The same bits stored from bit `start` on. No other bit changes. The part of the program that begins with that bit's byte is lent on, so
-// that bit positions stay small.
+// The program of S(m, n) for the wanted inputs, its bits stored from bit `start` on. No other bit changes. The part of the program that
+// begins with that bit's byte is lent on, so that bit positions stay small.
 pub fn program_selection_at(
     m: u32,
     n: u32,

@@ -1,6 +1,7 @@
-pub mod BlockLaws
--- Laws of the definitions.
--- the chain, and the block of all N positions
+-- Laws of writing S.
+-- the chain's wires and rows
 pub mod ChainLaws
--- the call succeeds exactly if its bounds hold, and what it writes is S
+-- the block of all N positions: first P, chain, second P
+pub mod BlockLaws
+-- what is written has its stated length, and is S where the checks pass
 pub mod SelectionWriteLaws

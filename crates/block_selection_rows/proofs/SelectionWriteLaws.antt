@@ -49,7 +49,7 @@ module _ (m n : ℕ) (ins : List ℕ) (next : ℕ) (rows outputs : List ℕ) whe
 
 -- ---- the core of the call
 
--- a list of so many places that all hold wire 0
+-- a list of n places that all hold wire 0
 abbrev pub zeroWires : ℕ → List ℕ
 zeroWires k = replicate k 0
 

@@ -1,5 +1,5 @@
--- Writing S, as document 01 has it: the definitions of the call.
+-- Document 01, the block library, writing S: the definitions of the call.
 -- the lent buffers after the call
 pub mod WriteCalls
--- what the functions under the call need
+-- what the functions under the call need of wires and room
 pub mod Block

@@ -1,2 +1,3 @@
--- Document 01, the block library, checks 2 and 4: the sizes of blocks.
+-- Document 01, the block library: the sizes of blocks.
+-- checks 2 and 4, and the largest block
 pub mod Sizes

@@ -7,6 +7,7 @@ use Rattle.fault.specs.Checks.{unless, andThen}
 use Rattle.powers.specs.Powers.{ceilLog, ceilPower}
 use mathlib.Core.Path.{_≡_}
 
+-- the largest number of positions of a block
 abbrev pub maxSize : ℕ
 maxSize = 512
 
@@ -14,6 +15,7 @@ maxSize = 512
 abbrev pub maxLevel : ℕ
 maxLevel = 9
 
+-- P may have N positions: a power of two from 1 to 512
 unfoldable pub sizeAllowed : ℕ → Bool
 sizeAllowed N = leb 1 N && (leb N maxSize && eqb (ceilPower N) N)
 
@@ -25,16 +27,18 @@ levelOf N = ceilLog N
 unfoldable pub selectionSizeAllowed : ℕ → Bool
 selectionSizeAllowed n = leb 1 n && leb n maxSize
 
--- 2, then 4
+-- the checks of S(m, n)'s sizes: 2, then 4
 unfoldable pub selectionSizesFault : ℕ → ℕ → ℕ
 selectionSizesFault m n = andThen (unless (selectionSizeAllowed m) Fault.Inputs) (unless (selectionSizeAllowed n) Fault.Outputs)
 
+-- what holds of a size that is allowed
 pub record SizeIs (N : ℕ) : Type 0 where
   pub power : 2 ^ levelOf N ≡ N
   pub level : levelOf N ≤ maxLevel
   pub some : 1 ≤ N
   pub most : N ≤ maxSize
 
+-- what holds of the sizes of S(m, n) where they are allowed
 pub record SelectionSizes (m n : ℕ) : Type 0 where
   pub someInputs : 1 ≤ m
   pub inputs : m ≤ maxSize

@@ -1,4 +1,5 @@
--- Document 01, the block library, writing: the checks, and when they pass.
-pub mod WriteChecks
--- checks 13 and 11
+-- Document 01, the block library, writing: the checks.
+-- checks 13 and 11, which P and S share
 pub mod Wires
+-- the checks of P and of S in their order, and what holds where all pass
+pub mod WriteChecks

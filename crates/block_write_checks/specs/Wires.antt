@@ -13,7 +13,7 @@ use Rattle.elements.specs.Elements.{maxWires}
 unfoldable pub unmadeFault : List ℕ → ℕ → ℕ
 unmadeFault ins next = firstOf (λ i. unless (ltb (getD ins i 0) next) Fault.Fabric) (length ins)
 
--- so many wires are made from `next` on, and none passes 65,535. Where none is made, `next` may be anything
+-- `made` wires are made from `next` on, and none passes 65,535. Where none is made, `next` may be anything
 unfoldable pub wiresFit : ℕ → ℕ → Bool
 wiresFit made next = eqb made 0 || leb (next + made) maxWires
 
@@ -21,6 +21,6 @@ wiresFit made next = eqb made 0 || leb (next + made) maxWires
 unfoldable pub wiresFault : List ℕ → ℕ → ℕ → ℕ
 wiresFault ins made next = andThen (unmadeFault ins next) (unless (wiresFit made next) Fault.Fabric)
 
--- 11: so many rows or so many output wires do not fit the lent buffers
+-- 11: `count` rows or `outs` output wires do not fit lent buffers of `rows` and `outputs` entries
 unfoldable pub buffersFault : ℕ → ℕ → ℕ → ℕ → ℕ
 buffersFault count outs rows outputs = andThen (roomFault (stride * count) rows) (roomFault outs outputs)

@@ -1,5 +1,5 @@
--- Document 01, "Block library", writing P and S: the checks in their order, for buffers of so many entries for the rows and for the output
--- wires.
+-- Document 01, "Block library", writing P and S: the checks in their order, where the lent buffers have `rows` entries for the rows and
+-- `outputs` for the output wires.
 use Prim.Native.Nat.{ℕ, _*_, _+_, _≤_}
 use mathlib.Core.List.{List}
 use Rattle.fault.specs.declared.Fault.{Fault}

@@ -39,7 +39,7 @@ fn check_made(inputs: &[u16], next: FabricWire) -> Answer
     Answer::Done
 }
 
-// Whether so many wires can be made from `next` on. Where none is made, any `next` will do.
+// Whether `made` wires can be made from `next` on. Where none is made, any `next` will do.
 fn wires_fit(made: u32, next: FabricWire) -> bool
     ensures { λ r. ⌜ r ≡ wiresFit made (next .0) ⌝ }
 {
@@ -49,7 +49,7 @@ fn wires_fit(made: u32, next: FabricWire) -> bool
     next.0 as usize + made as usize <= MAX_WIRES
 }
 
-// 11: so many rows, or so many output wires, do not fit the lent buffers.
+// 11: `count` rows, or `outs` output wires, do not fit lent buffers of `rows` and `outputs` entries.
 pub fn check_room(count: u32, outs: u32, rows: usize, outputs: usize) -> Answer
     ensures { λ r. ⌜ answerNumber r ≡ buffersFault count outs rows outputs ⌝ }
 {

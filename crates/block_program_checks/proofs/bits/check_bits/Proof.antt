@@ -1,4 +1,4 @@
--- `block_program_checks::bits::check_bits` meets its contract: the bits end within so many bytes. Assumes nothing.
+-- `block_program_checks::bits::check_bits` meets its contract: the bytes that the bits take, counted from the front, are what is compared. Assumes nothing.
 use native.Mathlib.Omega.{arith}
 use Prim.Native.Nat.{_+_, _<_, _≤_}
 use borrow.Author.Needs.{needs}
