@@ -75,6 +75,7 @@ fails (suc a) b h = refl
 --     room-passes e d, room-refuses e d          the buffer has the stated length; it is too short
 -- A return of the function is then what each check before it gave, `then` the check that decides, under `stop` where more would follow:
 --     third c = test-passes .. then answer-passes .. then stop f _ (answer-refuses ..)
+-- A loop over checks has `next-passes` and `first-fails` below, of what the check of its turn gave.
 
 pub answer-passes : {r : Answer} {a : ℕ} → answerNumber r ≡ a → r ≡ Answer.Done → 0 ≡ a
 answer-passes e d = ap answerNumber (sym d) ∙ e
@@ -90,13 +91,13 @@ pub test-refuses : {test r : Bool} (f : Fault) → r ≡ test → not r ≡ true
 test-refuses {r = true} f e d = absurd (false≢true d)
 test-refuses {r = false} f e d = rw (← e)
 
-pub room-passes : {length stated room : ℕ} → length ≡ stated → length ≤ room → 0 ≡ roomFault stated room
+pub room-passes : {long stated room : ℕ} → long ≡ stated → long ≤ room → 0 ≡ roomFault stated room
 unfolding roomFault
-room-passes {length} {stated} {room} e d = rw (le-leb stated room (omega arith))
+room-passes {long} {stated} {room} e d = rw (le-leb stated room (omega arith))
 
-pub room-refuses : {length stated room : ℕ} → length ≡ stated → room < length → faultNumber Fault.Short ≡ roomFault stated room
+pub room-refuses : {long stated room : ℕ} → long ≡ stated → room < long → faultNumber Fault.Short ≡ roomFault stated room
 unfolding roomFault
-room-refuses {length} {stated} {room} e d = rw (lt-leb stated room (omega arith))
+room-refuses {long} {stated} {room} e d = rw (lt-leb stated room (omega arith))
 
 infixr 5 _then_
 -- the first check passes: the second answers
