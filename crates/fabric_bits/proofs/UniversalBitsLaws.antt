@@ -21,7 +21,7 @@ use Rattle.fabric_universal.proofs.UniversalLaws.{length-universalBits}
 use Rattle.fabric_universal.proofs.UniversalProgram.{wanted-selected, length-mixBits}
 use Rattle.fabric_universal.specs.Fabric.{gateLevel}
 use Rattle.fabric_sizes.proofs.PartsLaws.{one-gate, Halved}
-use Rattle.fabric_lists.specs.WantedLists.{gatesIn, pinsIn, isAmong, wantedAmong}
+use Rattle.fabric_lists.specs.WantedLists.{listedGates, listedOperands, isAmong, wantedAmong}
 use Rattle.fabric_lists.proofs.WantedListsLaws.{among-gates, wanted-among}
 use Rattle.fabric_bits.specs.ProgramParts.{betweenBits, BetweenRoom, UniversalRoom}
 
@@ -108,10 +108,10 @@ between-stored G base h start s₀ {choices} {wanted} {s₁} {s₂} ew e₁ ec e
     e₂ ∙ ap₂ (λ s p. storeBits s p (mixBits G base h)) first at ∙ sym (storeBits-append s₀ start S (mixBits G base h))
 
 -- the tables do not matter there
-pub between-pins : (before : ℕ) (pins tables : List ℕ) (base h : ℕ)
-    → betweenBits (pinsIn before pins) base h ≡ betweenBits (gatesIn before pins tables) base h
+pub between-listed : (before : ℕ) (operandList tables : List ℕ) (base h : ℕ)
+    → betweenBits (listedOperands before operandList) base h ≡ betweenBits (listedGates before operandList tables) base h
 unfolding betweenBits wantedGates wantedGate mixBits isOf
-between-pins before pins tables base h = refl
+between-listed before operandList tables base h = refl
 
 -- ---- the whole
 
