@@ -80,13 +80,13 @@ fn check_both(
         Answer::Refused(f) => Answer::Refused(f),
         Answer::Done => match contact_fault(plan.inputs as usize, row) {
             Answer::Refused(f) => Answer::Refused(f),
-            Answer::Done => check_rooms(plan, table, program, work, evaluated, ran),
+            Answer::Done => check_both_rooms(plan, table, program, work, evaluated, ran),
         },
     }
 }
 
 // 11 for each of the five lent buffers.
-fn check_rooms(
+fn check_both_rooms(
     plan: Plan,
     table: usize,
     program: usize,

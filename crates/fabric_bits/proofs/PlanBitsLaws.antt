@@ -26,7 +26,7 @@ use Rattle.fabric_universal.proofs.FabricRun.{inputs-selected, outputs-selected
 use Rattle.fabric_sizes.proofs.PartsLaws.{few-places, same-level}
 use Rattle.fabric_sizes.specs.Parts.{maxPins}
 use Rattle.fabric_lists.specs.WantedLists.{listedGates, inputsWanted}
-use Rattle.fabric_bits.specs.ProgramParts.{bitLimit, gatesProgram, UniversalRoom, GatesRoom, Loaded}
+use Rattle.fabric_bits.specs.ProgramParts.{bitLimit, gatesProgram, UniversalProgramRoom, GatesRoom, Loaded}
 use Rattle.fabric_bits.proofs.UniversalBitsLaws.{SameGates, universal-same}
 
 -- ---- how many bits
@@ -44,8 +44,8 @@ length-gates u k operandList tables =
 
 -- what U(K) is lent after S(u, 2K)'s bits are stored
 pub room-behind : {gates base tables wanted start room gates′ wanted′ start′ room′ : ℕ}
-    → UniversalRoom gates base tables wanted start room → gates′ ≡ gates → wanted′ ≡ wanted → start′ ≡ start → room′ ≡ room
-    → UniversalRoom gates′ base tables wanted′ start′ room′
+    → UniversalProgramRoom gates base tables wanted start room → gates′ ≡ gates → wanted′ ≡ wanted → start′ ≡ start → room′ ≡ room
+    → UniversalProgramRoom gates′ base tables wanted′ start′ room′
 room-behind R el ew es er = rw (el, ew, es, er) R
 
 pub gates-stored : (u k : ℕ) (operandList tables s₀ : List ℕ) {places count next : ℕ} {s₁ s₂ : List ℕ} → places ≡ 2 ^ gateLevel k → count ≡ 2 * places
@@ -96,10 +96,10 @@ module _ (p : Plan) {operandList tables : List ℕ} (L : Loaded p operandList ta
         (universal-same maxGates _ _ loaded-same n 0 (omega (arith, few-gates)))
 
     -- they have room
-    pub gates-room : {wanted room : ℕ} → wanted ≡ maxPins → fabricTakes (p .inputs) (p .«gate_count») (p .«output_count») ≤ 8 * room
+    pub gates-program-room : {wanted room : ℕ} → wanted ≡ maxPins → fabricTakes (p .inputs) (p .«gate_count») (p .«output_count») ≤ 8 * room
         → GatesRoom (p .inputs) (p .«gate_count») operandList tables wanted room
     unfolding fabricTakes
-    gates-room ew fits =
+    gates-program-room ew fits =
         let n : ℕ = gateLevel (p .«gate_count») in
         let c = accepted-counts p accepted in
         let few = fabric-within _ _ _ c .bits in
@@ -138,13 +138,13 @@ module _ (p : Plan) {operandList tables : List ℕ} (L : Loaded p operandList ta
         ∙ ap (storeBits s₀ 0) (append-assoc (selectionBits (p .inputs) (pinCount n) (wantedInputs p)) (universalBits selection (planGates p) n 0) O)
 
 -- what is left of the plan's bits has room behind theirs
-pub outputs-fit : (p : Plan) → Accepted p → (operandList tables : List ℕ) {next : ℕ} (room : ℕ)
+pub output-bits-fit : (p : Plan) → Accepted p → (operandList tables : List ℕ) {next : ℕ} (room : ℕ)
     → fabricTakes (p .inputs) (p .«gate_count») (p .«output_count») ≤ 8 * room
     → next ≡ length (gatesProgram (p .inputs) (p .«gate_count») operandList tables)
     → (next + selectionCount (2 ^ gateLevel (p .«gate_count»)) (p .«output_count») ≤ 8 * room)
     × (next + selectionCount (2 ^ gateLevel (p .«gate_count»)) (p .«output_count») ≤ bitLimit)
 unfolding fabricTakes
-outputs-fit p accepted operandList tables room fits en =
+output-bits-fit p accepted operandList tables room fits en =
     let few = fabric-within _ _ _ (accepted-counts p accepted) .bits in
     let size = length-gates (p .inputs) (p .«gate_count») operandList tables in
     (omega arith, omega arith)

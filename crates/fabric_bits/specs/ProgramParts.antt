@@ -43,7 +43,7 @@ pub record BetweenRoom (h wanted start room : ℕ) : Type 0 where
 
 -- the bits of U for `gates` gates, a power of two, from gate `base` on, whose tables stand in a list of `tables` entries; `wanted`, `start` and
 -- `room` as above
-pub record UniversalRoom (gates base tables wanted start room : ℕ) : Type 0 where
+pub record UniversalProgramRoom (gates base tables wanted start room : ℕ) : Type 0 where
   pub power : gates ≡ 2 ^ gateLevel gates
   pub all : base + gates ≤ maxGates
   pub tableRoom : tables ≡ maxGates
@@ -54,7 +54,7 @@ pub record UniversalRoom (gates base tables wanted start room : ℕ) : Type 0 wh
 -- S(u, 2K) and U(K) for the gates that lists give
 pub record GatesRoom (u k : ℕ) (operandList tables : List ℕ) (wanted room : ℕ) : Type 0 where
   pub inputs : SelectionPasses u (pinCount (gateLevel k)) (inputsWanted u operandList (pinCount (gateLevel k))) 0 room
-  pub gates : UniversalRoom (2 ^ gateLevel k) 0 (length tables) wanted (selectionCount u (pinCount (gateLevel k))) room
+  pub gates : UniversalProgramRoom (2 ^ gateLevel k) 0 (length tables) wanted (selectionCount u (pinCount (gateLevel k))) room
 
 -- the lists of a plan's gates, spare ones included
 pub record Loaded (p : Plan) (operandList tables : List ℕ) : Type 0 where

@@ -9,7 +9,7 @@ ghost use Rattle.fabric_universal.specs.Selector.{selection};
 ghost use Rattle.fabric_universal.specs.Universal.{universalTakes, universalBits};
 ghost use Rattle.fabric_universal.specs.Fabric.{gateLevel};
 ghost use Rattle.fabric_lists.specs.WantedLists.{listedGates, listedOperands};
-ghost use Rattle.fabric_bits.specs.ProgramParts.{bitLimit, betweenBits, BetweenRoom, UniversalRoom};
+ghost use Rattle.fabric_bits.specs.ProgramParts.{bitLimit, betweenBits, BetweenRoom, UniversalProgramRoom};
 use blocks::program_selection_at;
 use blocks::selection_count;
 use elements::GATE_BITS;
@@ -29,7 +29,7 @@ pub(crate) fn program_universal(
     program: &mut [u8],
     start: u32,
 ) -> u32
-    requires { ⌜ UniversalRoom gates base (length (now tables)) (length (now wanted)) start (length (now program)) ⌝ }
+    requires { ⌜ UniversalProgramRoom gates base (length (now tables)) (length (now wanted)) start (length (now program)) ⌝ }
     ensures behind { λ r. ⌜ r ≡ start + universalTakes selection (gateLevel gates) ⌝ }
     ensures stored { λ _. ⌜ now (program .exit) ≡ storeBits (now (program .entry)) start (universalBits selection (listedGates before (now (operands .entry)) (now (tables .entry))) (gateLevel gates) base) ⌝ }
 {

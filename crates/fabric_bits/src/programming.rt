@@ -21,7 +21,7 @@ use fabric_lists::list_inputs;
 use fabric_lists::list_outputs;
 use fabric_lists::load_gates;
 use fabric_sizes::MAX_PINS;
-use fabric_sizes::check_program;
+use fabric_sizes::check_plan_program;
 use fabric_sizes::gate_places;
 use fabric_sizes::program_length;
 use fault::Answer;
@@ -32,7 +32,7 @@ pub fn program_plan(plan: Plan, program: &mut [u8]) -> Answer
     ensures answered { λ r. ⌜ answerNumber r ≡ planProgramFault plan (length (now (program .entry))) ⌝ }
     ensures written { λ _. ⌜ now (program .exit) ≡ planProgramResult plan (now (program .entry)) ⌝ }
 {
-    match check_program(plan, program.len()) {
+    match check_plan_program(plan, program.len()) {
         Answer::Refused(f) => Answer::Refused(f),
         Answer::Done => {
             let length = program_length(plan.inputs, plan.gate_count, plan.output_count);

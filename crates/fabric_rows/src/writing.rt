@@ -18,7 +18,7 @@ use blocks::put_wires;
 use blocks::row_place;
 use elements::FabricWire;
 use fabric_parts::put_outputs;
-use fabric_parts::put_selection;
+use fabric_parts::write_selection_on;
 use fabric_sizes::HEADER;
 use fabric_sizes::MAX_PINS;
 use fabric_sizes::check_fabric;
@@ -125,5 +125,5 @@ fn put_pins(u: u16, gates: u16, rows: &mut [u16], pins: &mut [u16])
     let mut inputs = [0u16; Plan::MAX_INPUTS];
     put_wires(&mut inputs, u as usize, FabricWire(1), 1);
     let next = FabricWire(u as u32 + 1);
-    put_selection(u, 2 * gates, &inputs, next, rows, pins);
+    write_selection_on(u, 2 * gates, &inputs, next, rows, pins);
 }

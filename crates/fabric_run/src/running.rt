@@ -10,7 +10,7 @@ ghost use Rattle.fabric_run.specs.Running.{runWires};
 ghost use Rattle.fabric_run_checks.specs.RunFault.{runFault};
 ghost use Rattle.fabric_run.specs.RunCalls.{runWork, runResult};
 ghost use Rattle.fabric_table_checks.specs.Counting.{kindWires};
-ghost use Rattle.fabric_run.specs.RunRows.{Runnable, RowRoom, OutputRoom, outputsOn, leftOf, rightOf, rowDone};
+ghost use Rattle.fabric_run.specs.RunRows.{Runnable, RowRoom, ResultRoom, outputsOn, leftOf, rightOf, rowDone};
 use blocks::read_bit;
 use blocks::wide;
 use elements::FabricWire;
@@ -21,7 +21,7 @@ use fabric_table_checks::INPUTS;
 use fabric_table_checks::OUTPUTS;
 use fabric_table_checks::ROWS;
 use fabric_table_checks::counts_of;
-use fabric_table_checks::row_place;
+use fabric_table_checks::row_start;
 use fabric_table_checks::wire_of;
 use fault::Answer;
 
@@ -35,7 +35,7 @@ pub fn run(table: &[u16], program: &[u8], row: &[u8], work: &mut [u8], result: &
         Answer::Refused(f) => Answer::Refused(f),
         Answer::Done => {
             run_rows(table, program, row, work);
-            write_outputs(table, work, result);
+            write_result(table, work, result);
             Answer::Done
         }
     }
@@ -52,7 +52,7 @@ fn run_rows(table: &[u16], program: &[u8], row: &[u8], work: &mut [u8])
     let mut bit: usize = 0;
     let mut i: u16 = 0;
     while i < rows {
-        let at = row_place(i);
+        let at = row_start(i);
         let kind = table[at];
         run_row(table, at, kind, program, bit, made, work);
         let own = counts_of(kind);
@@ -140,11 +140,11 @@ fn chosen(table: &[u16], at: usize, b: u8) -> FabricWire
 }
 
 // The bits on the output wires, into the first entries of the result.
-fn write_outputs(table: &[u16], work: &[u8], result: &mut [u8])
-    requires { ⌜ OutputRoom (now table) (length (now work)) (length (now result)) ⌝ }
+fn write_result(table: &[u16], work: &[u8], result: &mut [u8])
+    requires { ⌜ ResultRoom (now table) (length (now work)) (length (now result)) ⌝ }
     ensures { λ _. ⌜ now (result .exit) ≡ over (outputsOn (now (table .entry)) (now (work .entry))) (now (result .entry)) ⌝ }
 {
-    let first = row_place(table[ROWS]);
+    let first = row_start(table[ROWS]);
     let count = wide(table[OUTPUTS]);
     let mut j: usize = 0;
     while j < count {

@@ -21,18 +21,18 @@ pub fn check_run(table: &[u16], program: &[u8], row: &[u8], work: usize, result:
 {
     match check_table(table) {
         TableCheck::Refused(f) => Answer::Refused(f),
-        TableCheck::Counted(c) => match check_program(c.bits, program) {
+        TableCheck::Counted(c) => match check_given_program(c.bits, program) {
             Answer::Refused(f) => Answer::Refused(f),
             Answer::Done => match contact_fault(wide(table[INPUTS]), row) {
                 Answer::Refused(f) => Answer::Refused(f),
-                Answer::Done => check_rooms(c.wires, wide(table[OUTPUTS]), work, result),
+                Answer::Done => check_run_rooms(c.wires, wide(table[OUTPUTS]), work, result),
             },
         },
     }
 }
 
 // 14: a program of another length than that of so many bits; a spare bit set.
-fn check_program(bits: usize, program: &[u8]) -> Answer
+fn check_given_program(bits: usize, program: &[u8]) -> Answer
     requires { ⌜ bits ≤ maxBits ⌝ }
     ensures { λ r. ⌜ answerNumber r ≡ givenProgramFault bits (now (program .entry)) ⌝ }
 {
@@ -52,7 +52,7 @@ fn check_program(bits: usize, program: &[u8]) -> Answer
 }
 
 // 11: the work buffer has less than one byte per wire, or the result less than one per output.
-fn check_rooms(wires: usize, outputs: usize, work: usize, result: usize) -> Answer
+fn check_run_rooms(wires: usize, outputs: usize, work: usize, result: usize) -> Answer
     ensures { λ r. ⌜ answerNumber r ≡ roomsFault wires outputs work result ⌝ }
 {
     if work < wires {

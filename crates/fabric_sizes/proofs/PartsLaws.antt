@@ -13,7 +13,7 @@ use Rattle.fabric_universal.proofs.SelectorLaws.{double}
 use Rattle.fabric_universal.specs.Universal.{universalCount, universalWires, universalTakes}
 use Rattle.fabric_universal.proofs.UniversalLaws.{universal-takes, universal-count, universal-made}
 use Rattle.fabric_universal.specs.Fabric.{gateLevel}
-use Rattle.fabric_sizes.specs.Parts.{topLevel, blockLimit, PlacesAre, SidesWithin, UniversalIs}
+use Rattle.fabric_sizes.specs.Parts.{topLevel, blockLimit, PlacesAre, SelectionWithin, UniversalIs}
 
 -- ---- K
 
@@ -62,7 +62,7 @@ pub record FewSelected (m n : ℕ) : Type 0 where
   pub rows : selectionCount m n ≤ blockLimit
   pub wires : selectionWires m n ≤ blockLimit
 
-pub few-selected : {m n : ℕ} → SidesWithin m n → FewSelected m n
+pub few-selected : {m n : ℕ} → SelectionWithin m n → FewSelected m n
 few-selected {m} {n} s =
     let level : ℕ = selectionLevel m n in
     let low : level ≤ suc topLevel = level-least m n (suc topLevel) (s .inputs) (s .outputs) in

@@ -37,7 +37,7 @@ pub record BlockIs (rows wires bits : ℕ) (c : Counts) : Type 0 where
   pub fewBits : c .bits ≤ blockLimit
 
 -- of S(m, n), where neither side has more than the pins of the largest U
-pub record SidesWithin (m n : ℕ) : Type 0 where
+pub record SelectionWithin (m n : ℕ) : Type 0 where
   pub inputs : m ≤ 2 ^ suc topLevel
   pub outputs : n ≤ 2 ^ suc topLevel
 

@@ -15,5 +15,5 @@ pub use parts::gate_places;
 pub use parts::output_counts;
 pub use parts::pin_counts;
 pub use parts::universal_counts;
-pub use programming::check_program;
+pub use programming::check_plan_program;
 pub use writing::check_fabric;

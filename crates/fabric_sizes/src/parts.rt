@@ -3,7 +3,7 @@
 ghost use Prim.Native.Nat.{_^_};
 ghost use Rattle.fabric_universal.specs.Selector.{pinCount};
 ghost use Rattle.fabric_universal.specs.Fabric.{gateLevel};
-ghost use Rattle.fabric_sizes.specs.Parts.{PlacesAre, SidesWithin, SelectionIs, UniversalIs};
+ghost use Rattle.fabric_sizes.specs.Parts.{PlacesAre, SelectionWithin, SelectionIs, UniversalIs};
 use blocks::selection_count;
 use blocks::selection_wires;
 use elements::Counts;
@@ -51,7 +51,7 @@ pub fn output_counts(k: u16, v: u16) -> Counts
 
 // S(m, n). Each of its rows takes one bit.
 fn selection_counts(m: u32, n: u32) -> Counts
-    requires { ⌜ SidesWithin m n ⌝ }
+    requires { ⌜ SelectionWithin m n ⌝ }
     ensures { λ r. ⌜ SelectionIs m n r ⌝ }
 {
     let rows = selection_count(m, n) as u32;

@@ -9,7 +9,7 @@ use plan::Plan;
 use plan::plan_fault;
 
 // Plan faults; then 11 for a program of so many bytes.
-pub fn check_program(plan: Plan, room: usize) -> Answer
+pub fn check_plan_program(plan: Plan, room: usize) -> Answer
     ensures { λ r. ⌜ answerNumber r ≡ planProgramFault plan room ⌝ }
 {
     match plan_fault(plan) {

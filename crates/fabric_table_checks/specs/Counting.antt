@@ -25,7 +25,7 @@ pub record CountsOf (kind : ℕ) (c : RowCounts) : Type 0 where
   pub fewBits : c .bits ≤ gateBits
 
 -- before row i of a table there are w wires and b bits
-pub record Counted (table : List ℕ) (i w b : ℕ) : Type 0 where
+pub record CountedBefore (table : List ℕ) (i w b : ℕ) : Type 0 where
   pub wires : w ≡ wiresBefore table i
   pub bits : b ≡ bitsBefore table i
 

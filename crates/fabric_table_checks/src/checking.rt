@@ -11,8 +11,8 @@ use crate::table::INPUTS;
 use crate::table::OUTPUTS;
 use crate::table::ROWS;
 use crate::table::counts_of;
-use crate::table::row_place;
-use crate::table::table_length;
+use crate::table::row_start;
+use crate::table::expected_length;
 use crate::table::wire_of;
 use blocks::wide;
 use elements::KIND_G;
@@ -66,7 +66,7 @@ fn check_header(table: &[u16]) -> Answer
     if !count_allowed(table[OUTPUTS] as u32, Plan::MAX_OUTPUTS) {
         return Answer::Refused(Fault::Fabric);
     }
-    if table.len() != table_length(table) {
+    if table.len() != expected_length(table) {
         return Answer::Refused(Fault::Fabric);
     }
     Answer::Done
@@ -89,7 +89,7 @@ fn check_rows(table: &[u16]) -> TableCheck
             }
             Answer::Done => {}
         }
-        let own = counts_of(table[row_place(i)]);
+        let own = counts_of(table[row_start(i)]);
         wires += own.wires;
         bits += own.bits;
         i += 1;
@@ -105,7 +105,7 @@ fn check_row(table: &[u16], i: u16, wires: usize) -> Answer
     requires { ⌜ RowToCheck (now table) i wires ⌝ }
     ensures { λ r. ⌜ answerNumber r ≡ rowFault (now (table .entry)) i ⌝ }
 {
-    let at = row_place(i);
+    let at = row_start(i);
     if !kind_allowed(table[at]) {
         return Answer::Refused(Fault::Fabric);
     }
@@ -151,7 +151,7 @@ fn check_outputs(table: &[u16], wires: usize) -> Answer
     requires { ⌜ HeaderWithin (now table) × (wires ≡ wiresIn (now table)) ⌝ }
     ensures { λ r. ⌜ answerNumber r ≡ firstOf (outputWireFault (now (table .entry))) (outputsIn (now (table .entry))) ⌝ }
 {
-    let first = row_place(table[ROWS]);
+    let first = row_start(table[ROWS]);
     let count = wide(table[OUTPUTS]);
     let mut j: usize = 0;
     while j < count {

@@ -11,5 +11,5 @@ pub use table::OUTPUTS;
 pub use table::ROWS;
 pub use table::RowCounts;
 pub use table::counts_of;
-pub use table::row_place;
+pub use table::row_start;
 pub use table::wire_of;

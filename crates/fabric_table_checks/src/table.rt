@@ -43,7 +43,7 @@ pub fn counts_of(kind: u16) -> RowCounts
 }
 
 // The place of row i in the table. Behind the last row stand the output wires.
-pub fn row_place(i: u16) -> usize
+pub fn row_start(i: u16) -> usize
     ensures { λ r. ⌜ (r ≡ header + stride * i) × (r ≤ stride * maxWires) ⌝ }
 {
     HEADER + blocks::row_place(i as u32)
@@ -57,9 +57,9 @@ pub fn wire_of(entry: u16) -> FabricWire
 }
 
 // The length that a table with these counts has.
-pub(crate) fn table_length(table: &[u16]) -> usize
+pub(crate) fn expected_length(table: &[u16]) -> usize
     requires { ⌜ header ≤ length (now table) ⌝ }
     ensures { λ r. ⌜ r ≡ header + stride * rowsIn (now (table .entry)) + outputsIn (now (table .entry)) ⌝ }
 {
-    row_place(table[ROWS]) + wide(table[OUTPUTS])
+    row_start(table[ROWS]) + wide(table[OUTPUTS])
 }

@@ -32,8 +32,8 @@ fabricPins u k = selectionOuts u (pinCount (gateLevel k)) (inputWires u) (suc u)
 abbrev pub universalNext : ℕ → ℕ → ℕ
 universalNext u k = suc u + selectionWires u (pinCount (gateLevel k))
 
-abbrev pub outputNext : ℕ → ℕ → ℕ
-outputNext u k = universalNext u k + universalWires selection (gateLevel k)
+abbrev pub fabricOutputNext : ℕ → ℕ → ℕ
+fabricOutputNext u k = universalNext u k + universalWires selection (gateLevel k)
 
 -- the gates' wires: the outputs of U(K)
 abbrev pub gateOuts : ℕ → ℕ → List ℕ
@@ -43,10 +43,10 @@ unfoldable pub fabricRows : ℕ → ℕ → ℕ → List Row
 fabricRows u k v =
     selectionRows u (pinCount (gateLevel k)) (inputWires u) (suc u)
     ++ (universalRows selection (gateLevel k) (fabricPins u k) (universalNext u k)
-    ++ selectionRows (2 ^ gateLevel k) v (gateOuts u k) (outputNext u k))
+    ++ selectionRows (2 ^ gateLevel k) v (gateOuts u k) (fabricOutputNext u k))
 
 unfoldable pub fabricOuts : ℕ → ℕ → ℕ → List ℕ
-fabricOuts u k v = selectionOuts (2 ^ gateLevel k) v (gateOuts u k) (outputNext u k)
+fabricOuts u k v = selectionOuts (2 ^ gateLevel k) v (gateOuts u k) (fabricOutputNext u k)
 
 -- ---- counts: rows, wires, program bits
 
@@ -55,7 +55,7 @@ fabricCount u k v =
     selectionCount u (pinCount (gateLevel k)) + (universalCount selection (gateLevel k) + selectionCount (2 ^ gateLevel k) v)
 
 unfoldable pub fabricWires : ℕ → ℕ → ℕ → ℕ
-fabricWires u k v = outputNext u k + selectionWires (2 ^ gateLevel k) v
+fabricWires u k v = fabricOutputNext u k + selectionWires (2 ^ gateLevel k) v
 
 unfoldable pub fabricTakes : ℕ → ℕ → ℕ → ℕ
 fabricTakes u k v =

@@ -47,12 +47,12 @@ pub(crate) fn put_entries(line: &mut Line, at: usize, row: &[u8], count: usize) 
 
 fn put_entry(line: &mut Line, at: usize, row: &[u8], i: usize) -> usize {
     if i < row.len() {
-        return put_number(line, at, wide(row[i]));
+        return put_number(line, at, entry_number(row[i]));
     }
     at
 }
 
-fn wide(entry: u8) -> u64 {
+fn entry_number(entry: u8) -> u64 {
     entry as u64
 }
 

@@ -30,7 +30,7 @@ pub(crate) fn print_rows(plan: Plan) {
     let mut inputs = [0u8; ROW];
     let mut evaluated = [0u8; ROW];
     let mut ran = [0u8; ROW];
-    let rows = row_count(plan.inputs);
+    let rows = input_row_count(plan.inputs);
     let mut r: u8 = 0;
     while r < rows
         && print_row(
@@ -49,7 +49,7 @@ pub(crate) fn print_rows(plan: Plan) {
 }
 
 // 2 to the power min(u, 6).
-fn row_count(inputs: u16) -> u8 {
+fn input_row_count(inputs: u16) -> u8 {
     if inputs < COUNTED {
         return 1u8 << inputs;
     }
@@ -68,7 +68,7 @@ fn print_row(
     ran: &mut [u8; ROW],
 ) -> bool {
     set_inputs(inputs, r);
-    match run_row(plan, inputs, table, program, work, evaluated, ran) {
+    match run_input_row(plan, inputs, table, program, work, evaluated, ran) {
         Answer::Refused(f) => {
             print_refusal(f, 0);
             false
@@ -83,7 +83,7 @@ fn print_row(
 }
 
 // The library's call on the first u entries. A plan that was read has at most 64 inputs.
-fn run_row(
+fn run_input_row(
     plan: Plan,
     inputs: &[u8],
     table: &mut [u16; TABLE],
@@ -103,12 +103,12 @@ fn run_row(
 fn set_inputs(inputs: &mut [u8; ROW], r: u8) {
     let mut i: usize = 0;
     while i < ROW {
-        inputs[i] = input_of(r, i);
+        inputs[i] = input_bit(r, i);
         i += 1;
     }
 }
 
-fn input_of(r: u8, i: usize) -> u8 {
+fn input_bit(r: u8, i: usize) -> u8 {
     if i < COUNTED as usize {
         return (r >> i) & 1;
     }

@@ -13,7 +13,7 @@ use Rattle.blocks.specs.Elements.{storeBits}
 use Rattle.fabric_universal.specs.Fabric.{gateLevel}
 use Rattle.fabric_sizes.proofs.PartsLaws.{halved}
 use Rattle.fabric_lists.specs.WantedLists.{listedGates, listedOperands}
-use Rattle.fabric_bits.proofs.UniversalBitsLaws.{takes-half, upper-room, between-room, lower-room, length-between, between-listed, gate-takes, gate-stored, halves-stored}
+use Rattle.fabric_bits.proofs.UniversalBitsLaws.{takes-half, upper-program-room, between-room, lower-program-room, length-between, between-listed, gate-takes, gate-stored, halves-stored}
 use Rattle.fabric_bits.proofs.block.program_universal.Reads as program-universal
 use Rattle.fabric_bits.proofs.block.program_universal.Kinds as program-universal-kinds
 use Rattle.fabric_bits.proofs.block.+program_universal.Lts-program_universal as program-universal-lts
@@ -67,7 +67,7 @@ for-upper t c κs =
     let if1 = c .before .before in
     let s = if1 .before .before .before .before .before in
     let h = halved (s .pre .1 .power) (if1 .if1 .left) in
-    (omega (arith, s .pre .0), upper-room (s .pre .1) h)
+    (omega (arith, s .pre .0), upper-program-room (s .pre .1) h)
 
 for-between : (t : ℕ) → program-universal-lts.Need-program-between-requires (calls t) (universal-at t) program-universal.Post
 for-between t c κs =
@@ -93,7 +93,7 @@ for-lower t c κs =
     let h = halved (s .pre .1 .power) (if1 .if1 .left) in
     let size = length-between (listedOperands (a .before) (a .operands .now)) (a .base) (a .gates / 2) in (
       omega (arith, s .pre .0),
-      lower-room (s .pre .1) h (omega (arith, between .program-between .ensures .0, upper .program-universal .ensures .0, size))
+      lower-program-room (s .pre .1) h (omega (arith, between .program-between .ensures .0, upper .program-universal .ensures .0, size))
           (between .program-between .kept .1 .1 .1 .1 .0 ∙ upper .program-universal .kept .1 .1 .1 .1 .1 .0)
           (between .program-between .kept .1 .1 .1 .1 .1 .0 ∙ upper .program-universal .kept .1 .1 .1 .1 .1 .1 .0),
     )

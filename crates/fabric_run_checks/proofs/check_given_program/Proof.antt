@@ -1,4 +1,4 @@
--- `fabric_run_checks::check_program` meets its contract. The loop's invariant: the first i spare bits are 0. Assumes nothing.
+-- `fabric_run_checks::check_given_program` meets its contract. The loop's invariant: the first i spare bits are 0. Assumes nothing.
 use native.Mathlib.Omega.{arith}
 use mathlib.Core.Path.{_≡_, refl, sym, ap, _∙_}
 use Prim.Native.Nat.{_+_, _-_, _≤_}
@@ -12,8 +12,8 @@ use Rattle.fault.specs.Checks.{unless, firstOf}
 use Rattle.fault.proofs.ChecksLaws.{first-passes, first-fails}
 use Rattle.blocks.specs.Elements.{bytesFor, bitAt}
 use Rattle.fabric_run_checks.specs.RunFault.{spareBits, givenProgramFault}
-use Rattle.fabric_run_checks.proofs.check_program.Statement.{statement}
-use Rattle.fabric_run_checks.proofs.check_program.Tie as tie
+use Rattle.fabric_run_checks.proofs.check_given_program.Statement.{statement}
+use Rattle.fabric_run_checks.proofs.check_given_program.Tie as tie
 
 abbrev Inv-loop : tie.InvT-loop
 Inv-loop bits program bytes spare i₀ i =
@@ -53,8 +53,8 @@ passes c =
     let all : loop .i ≡ spareBits (c .before .before .before .before .args .bits) = omega arith in
     rw (eq-eqb _ _ (loop .inv .0), ← all) (sym (loop .inv .3))
 
-pub check-program-spec : {M : Type 1} → statement M
-check-program-spec =
+pub check-given-program-spec : {M : Type 1} → statement M
+check-given-program-spec =
     tie.close
     (tie.spec Inv-loop μ-loop
     (λ c. search needs) length-fails (λ c. search needs) (λ c. search needs) holds (λ c. search needs) (λ c κs. search needs) bit-fails
