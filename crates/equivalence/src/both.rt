@@ -85,7 +85,7 @@ fn check_both(
     }
 }
 
-// 11 for each of the five lent buffers.
+// 11 for each of the five lent buffers, whose lengths are given.
 fn check_both_rooms(
     plan: Plan,
     table: usize,
@@ -159,7 +159,7 @@ fn make_both(
     evaluate(plan, row, evaluated);
 }
 
-// The run of exactly so many entries and bytes.
+// The run of exactly the first `entries` entries of the table and `bytes` bytes of the program.
 fn run_written(
     table: &[u16],
     entries: usize,

@@ -57,7 +57,7 @@ module _ (old : List ℕ) {l : List ℕ} where
   unfolding wantedOutputs
   outputs-listed p e few room = front-is _ old (p .«output_count») (min maxOutputs (length old)) e (length-listOf (p .«output_count») _) (omega arith)
 
--- ---- gates behind so many wires
+-- ---- the h gates behind `before` wires
 
 pub among-gates : (G : Gates) (base h w : ℕ) → isAmong (G .before + base) h w ≡ isOf G base h w
 unfolding isAmong isOf

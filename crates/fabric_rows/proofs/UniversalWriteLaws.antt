@@ -33,7 +33,7 @@ length-universal n pins next =
     length-flat (universal-totals selection selection-shape n pins next .family)
     ∙ ap (λ k. stride * k) (length-universalRows selection selection-shape n pins next)
 
--- what U of so many gates writes, and that no list changes its length
+-- what U of `gates` gates writes, and that no list changes its length
 pub record UniversalWritten (gates next : ℕ) (R₀ P₀ O₀ R P O : List ℕ) : Type 0 where
   pub rows : R ≡ over (flat (universalRows selection (gateLevel gates) (take (pinCount (gateLevel gates)) P₀) next)) R₀
   pub pins : drop (2 * gates) P ≡ drop (2 * gates) P₀

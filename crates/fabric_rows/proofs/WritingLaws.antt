@@ -26,7 +26,7 @@ use Rattle.fabric_universal.proofs.UniversalLaws.{length-universalOuts}
 use Rattle.fabric_universal.specs.Fabric.{gateLevel, inputWires, fabricPins, universalNext, fabricOutputNext, gateOuts, fabricRows, fabricOuts}
 use Rattle.fabric_universal.specs.Fabric.{fabricCount, fabricWires, fabricTable}
 use Rattle.fabric_universal.proofs.FabricLaws.{length-inputWires, inputs-below, gates-below, fabric-within}
-use Rattle.fabric_sizes.specs.Layout.{header}
+use Rattle.fabric_sizes.specs.Layout.{header, rowStart}
 use Rattle.elements.specs.declared.Counts.{Counts}
 use Rattle.fabric_sizes.specs.Counting.{tableLength}
 use Rattle.fabric_sizes.specs.Parts.{maxPins, PlacesAre, SelectionIs, UniversalIs}
@@ -43,8 +43,8 @@ use Rattle.fabric_rows.proofs.UniversalWriteLaws.{length-universal}
 -- what the code computes from the parts' counts
 pub record LaidOut (u : ℕ) (pins universal outputs : Counts) (l : Layout) : Type 0 where
   pub isRows : l .rows ≡ pins .rows + universal .rows + outputs .rows
-  pub universalAt : l .universal ≡ header + stride * pins .rows
-  pub outputsAt : l .outputs ≡ header + stride * (pins .rows + universal .rows)
+  pub universalAt : l .universal ≡ rowStart (pins .rows)
+  pub outputsAt : l .outputs ≡ rowStart (pins .rows + universal .rows)
   pub endAt : l .end ≡ stride * outputs .rows
   pub universalFrom : l .«universal_next» .0 ≡ 1 + u + pins .wires
   pub outputFrom : l .«output_next» .0 ≡ 1 + u + pins .wires + universal .wires
@@ -128,15 +128,18 @@ outputs-put {gates} {v} {end} {next} {outs} R₀ room e =
 
 -- ---- the steps. T is the table, with a number for each step, F what a callee was lent of it; P and O the lists of pins and of the gates' wires
 
+-- the checks passed, the layout is found, the header stands
 pub record FabricBegun (u k v : ℕ) (l : Layout) (T₀ T₁ : List ℕ) : Type 0 where
   pub passes : FabricPasses u k v (length T₀)
   pub layout : LayoutIs u k v l
   pub headed : T₁ ≡ over (u ∷ v ∷ l .rows ∷ []) T₀
 
+-- S(u, 2K) is written
 pub record PinsDone (u : ℕ) (l : Layout) (T₁ P₀ F₂ P₂ : List ℕ) : Type 0 where
   pub rows : F₂ ≡ over (flat (selectionRows u (2 * l .gates) (inputWires u) (suc u))) (partOf header T₁)
   pub pins : P₂ ≡ over (selectionOuts u (2 * l .gates) (inputWires u) (suc u)) P₀
 
+-- U(K) is written
 pub record GatesDone (l : Layout) (T₂ P₂ O₀ F₃ O₃ : List ℕ) : Type 0 where
   pub rows :
       F₃ ≡ over (flat (universalRows selection (gateLevel (l .gates)) (take (pinCount (gateLevel (l .gates))) P₂) (l .«universal_next» .0))) (partOf (l .universal) T₂)

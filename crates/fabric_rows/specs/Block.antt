@@ -25,14 +25,14 @@ middlePins p outs = selectionOuts (p .half) (p .pins) (take (p .half) outs) (p .
 
 -- ---- what fits
 
--- the wires of U of so many gates, a power of two above 1
+-- the wires of U of `gates` gates, a power of two above 1
 pub record UniversalWires (gates next : ℕ) : Type 0 where
   pub some : 1 < gates
   pub power : gates ≡ 2 ^ gateLevel gates
   pub few : gates ≤ maxGates
   pub wires : next + universalWires selection (gateLevel gates) ≤ maxWires
 
--- U of so many gates, a power of two, with so many entries for its rows, its pins and its output wires
+-- U of `gates` gates, a power of two, with places for `rows`, `pins` and `outs` entries of its rows, its pins and its output wires
 pub record UniversalWriteRoom (gates next rows pins outs : ℕ) : Type 0 where
   pub power : gates ≡ 2 ^ gateLevel gates
   pub few : gates ≤ maxGates
@@ -49,8 +49,7 @@ pub record MiddleRoom (p : UniversalParts) (outs : List ℕ) (rows pins : ℕ) :
   pub pinRoom : 2 * p .pins ≤ pins
   pub wires : p .«mix_next» .0 + p .pins ≤ maxWires
 
--- ---- where the parts of U begin; the Y rows' place is counted from the selection block's
-
+-- where the parts of U begin; the Y rows' place is counted from the selection block's
 pub record UniversalPartsAt (gates next : ℕ) (p : UniversalParts) : Type 0 where
   pub halfIs : p .half ≡ 2 ^ gateLevel (p .half)
   pub pinsAre : p .pins ≡ 2 * p .half

@@ -30,7 +30,7 @@ struct UniversalParts {
     lower_next: FabricWire,
 }
 
-// U of so many gates, a power of two, on the first pins of the list: its rows to the front of the table's part, its output wires to the front
+// U of `gates` gates, a power of two, on the first pins of the list: its rows to the front of the table's part, its output wires to the front
 // of `outs`. These pins are used up; those behind them stay.
 pub(crate) fn write_universal(
     gates: u16,
@@ -65,7 +65,7 @@ pub(crate) fn write_universal(
     }
 }
 
-// The parts of U of more than one gate.
+// The parts of U of `gates` gates, more than one.
 fn universal_parts(gates: u16, next: FabricWire) -> UniversalParts
     requires { ⌜ UniversalWires gates (next .0) ⌝ }
     ensures { λ r. ⌜ UniversalPartsAt gates (next .0) r ⌝ }

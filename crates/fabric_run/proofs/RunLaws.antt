@@ -1,16 +1,16 @@
 -- The run on the work buffer, row by row: it stands before the first row, then before each next one, and behind the last it has every wire.
 use mathlib.Core.Path.{_≡_, refl, sym, ap, _∙_}
 use mathlib.Core.List.{List, [], _∷_, _++_}
-use Prim.Native.Nat.{ℕ, zero, suc, _+_, _*_, _≤_, _<_}
+use Prim.Native.Nat.{ℕ, zero, suc, _+_, _≤_, _<_}
 use native.Mathlib.Numerals.{add-one}
 use native.Mathlib.Omega.{arith}
 use lib.ListN.{length, getD, drop, length-append, List·getD-append}
 use lib.Seq.{sets, length-sets}
 use Rattle.lists.specs.Lists.{listOf}
 use Rattle.fault.specs.Buffers.{over}
-use Rattle.blocks.specs.Elements.{stride, makes, total, rowOf, outputs, step, run, gateOnBits, unpack, AreBits}
+use Rattle.blocks.specs.Elements.{makes, total, rowOf, outputs, step, run, gateOnBits, unpack, AreBits}
 use Rattle.blocks.proofs.ElementsLaws.{run-append, run-wires, run-bits, unpack-bits}
-use Rattle.fabric_sizes.specs.Layout.{header, inputsIn, rowsIn, kindAt, leftAt, rightAt, rowAt, rowsTo, wiresBefore, bitsBefore, wiresIn, bitsIn}
+use Rattle.fabric_sizes.specs.Layout.{inputsIn, rowsIn, kindAt, leftAt, rightAt, rowAt, rowsTo, wiresBefore, bitsBefore, wiresIn, bitsIn, rowStart}
 use Rattle.elements.specs.Elements.{maxWires}
 use Rattle.fabric_run.specs.Running.{runStart, runWires}
 use Rattle.fabric_sizes.proofs.LayoutLaws.{wires-more, bits-more}
@@ -63,7 +63,7 @@ module _ {table program row old : List ℕ} {i bit made : ℕ} {work : List ℕ}
 
   module _ (h : i < rowsIn table) where
     -- the row's wires are made, with a bit on each, and those that it makes have room
-    row-room : rowsIn table ≤ maxWires → RowRoom (kindWires (kindAt table i)) table (header + stride * i) bit made work
+    row-room : rowsIn table ≤ maxWires → RowRoom (kindWires (kindAt table i)) table (rowStart i) bit made work
     unfolding rowAt
     row-room few =
         let r = ready .wellFormed .row i h in
@@ -80,8 +80,8 @@ module _ {table program row old : List ℕ} {i bit made : ℕ} {work : List ℕ}
           bits = counted-few (start .inputs) (omega arith) at .bits;
         }
 
-    -- the same for what is read
-    pub row-ready : {at kind : ℕ} → rowsIn table ≤ maxWires → at ≡ header + stride * i → kind ≡ kindAt table i
+    -- row i has room where its place and its kind are read from the table
+    pub row-ready : {at kind : ℕ} → rowsIn table ≤ maxWires → at ≡ rowStart i → kind ≡ kindAt table i
         → RowRoom (kindWires kind) table at bit made work
     row-ready few ea ek = rw (ek, ea) (row-room few)
 
@@ -110,7 +110,7 @@ module _ {table program row old : List ℕ} {i bit made : ℕ} {work : List ℕ}
         ∙ sets-over ws old new room ∙ ap (λ xs. over xs old) more
 
     -- behind it the run stands before the next row
-    pub stands-more : {at kind : ℕ} (c : RowCounts) (after : List ℕ) → at ≡ header + stride * i → kind ≡ kindAt table i → CountsOf kind c
+    pub stands-more : {at kind : ℕ} (c : RowCounts) (after : List ℕ) → at ≡ rowStart i → kind ≡ kindAt table i → CountsOf kind c
         → after ≡ rowDone (rowOf kind (leftOf table at) (rightOf table at)) program bit made work
         → RunStands table program row old (i + 1) (bit + c .bits) (made + c .wires) after
     unfolding rowAt

@@ -7,7 +7,7 @@ use lib.Seq.{sets}
 use Rattle.lists.specs.Lists.{listOf}
 use Rattle.fault.specs.Buffers.{over}
 use Rattle.blocks.specs.Elements.{Row, gateBits, State, outputs, run, gateOnBits, bitAt, AreBits}
-use Rattle.fabric_sizes.specs.Layout.{inputsIn, outputsIn, rowsIn, outputWireAt, rowsTo, wiresIn}
+use Rattle.fabric_sizes.specs.Layout.{leftPlace, rightPlace, inputsIn, outputsIn, rowsIn, outputWireAt, rowsTo, wiresIn}
 use Rattle.fabric_run.specs.Running.{runStart}
 use Rattle.fabric_table_checks.specs.TableFault.{WellFormed}
 use Rattle.fabric_table_checks.specs.Counting.{maxBits, CountedBefore}
@@ -16,20 +16,20 @@ use Rattle.fabric_table_checks.specs.Counting.{maxBits, CountedBefore}
 abbrev pub rowState : List ℕ → ℕ → List ℕ → State ℕ
 rowState program bit wires = record { wires = wires; bits = listOf gateBits (λ i. bitAt program (bit + i)); gates = 0 }
 
--- the work buffer after a row behind so many made wires
+-- the work buffer after a row whose program begins at `bit`, behind `made` wires
 abbrev pub rowDone : Row → List ℕ → ℕ → ℕ → List ℕ → List ℕ
 rowDone row program bit made work = sets work made (outputs 0 gateOnBits row (rowState program bit work))
 
--- the wires of the row at a place of the table
+-- the left and the right wire of the row at the place `at` of the table
 abbrev pub leftOf : List ℕ → ℕ → ℕ
-leftOf table at = getD table (at + 1) 0
+leftOf table at = getD table (at + leftPlace) 0
 
 abbrev pub rightOf : List ℕ → ℕ → ℕ
-rightOf table at = getD table (at + 2) 0
+rightOf table at = getD table (at + rightPlace) 0
 
--- the row at a place of the table: its two wires are made, both with a bit, and so many that it makes have room in the work buffer
+-- the row at the place `at` of the table: its two wires are made, both with a bit, and the `new` wires that it makes have room in the work buffer
 pub record RowRoom (new : ℕ) (table : List ℕ) (at bit made : ℕ) (work : List ℕ) : Type 0 where
-  pub entries : at + 2 < length table
+  pub entries : at + rightPlace < length table
   pub left : leftOf table at < made
   pub right : rightOf table at < made
   pub leftBit : getD work (leftOf table at) 0 ≤ 1

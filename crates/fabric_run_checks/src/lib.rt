@@ -7,15 +7,16 @@ ghost use Rattle.fabric_run_checks.specs.RunFault.{givenProgramFault, ro
 ghost use Rattle.fabric_table_checks.specs.Counting.{maxBits};
 use blocks::read_bit;
 use blocks::wide;
-use fabric_table_checks::INPUTS;
-use fabric_table_checks::OUTPUTS;
+use fabric_sizes::INPUTS;
+use fabric_sizes::OUTPUTS;
+use fabric_sizes::bytes_for;
 use fabric_table_checks::TableCheck;
 use fabric_table_checks::check_table;
 use fault::Answer;
 use fault::Fault;
 use plan_evaluation_checks::contact_fault;
 
-// The checks of the run, for a work buffer and a result of so many entries.
+// The checks of the run, for a work buffer of `work` entries and a result of `result` entries.
 pub fn check_run(table: &[u16], program: &[u8], row: &[u8], work: usize, result: usize) -> Answer
     ensures { λ r. ⌜ answerNumber r ≡ runFault (now (table .entry)) (now (program .entry)) (now (row .entry)) work result ⌝ }
 {
@@ -31,12 +32,12 @@ pub fn check_run(table: &[u16], program: &[u8], row: &[u8], work: usize, result:
     }
 }
 
-// 14: a program of another length than that of so many bits; a spare bit set.
+// 14: a program of another length than that of `bits` program bits; a spare bit set.
 fn check_given_program(bits: usize, program: &[u8]) -> Answer
     requires { ⌜ bits ≤ maxBits ⌝ }
     ensures { λ r. ⌜ answerNumber r ≡ givenProgramFault bits (now (program .entry)) ⌝ }
 {
-    let bytes = (bits + 7) / 8;
+    let bytes = bytes_for(bits);
     if program.len() != bytes {
         return Answer::Refused(Fault::Program);
     }

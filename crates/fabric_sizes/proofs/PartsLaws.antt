@@ -35,6 +35,7 @@ same-level k = ceilLog-power (gateLevel k)
 pub one-gate : {gates : ℕ} → gates ≤ 1 → gateLevel gates ≡ 0
 one-gate {gates} h = omega (arith, ceilLog-least gates 0 h)
 
+-- a number of gates, a power of two above 1, and its half
 pub record Halved (gates half : ℕ) : Type 0 where
   pub twice : gates ≡ 2 * half
   pub level : gateLevel gates ≡ suc (gateLevel half)
@@ -58,6 +59,7 @@ halved {gates} e l = halved-at gates (gateLevel gates) refl e l
 
 -- ---- S
 
+-- S(m, n) is small
 pub record FewSelected (m n : ℕ) : Type 0 where
   pub rows : selectionCount m n ≤ blockLimit
   pub wires : selectionWires m n ≤ blockLimit
@@ -71,6 +73,7 @@ few-selected {m} {n} s =
 
 -- ---- U: what the closed forms are computed from
 
+-- the products stay in 32 bits, and the closed forms are the counts
 pub record Products (n gates : ℕ) : Type 0 where
   pub low : n ≤ topLevel
   pub square : n * n ≤ topLevel * topLevel

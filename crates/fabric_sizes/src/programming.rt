@@ -8,7 +8,7 @@ use fault::Fault;
 use plan::Plan;
 use plan::plan_fault;
 
-// Plan faults; then 11 for a program of so many bytes.
+// Plan faults; then 11 for a program of `room` bytes.
 pub fn check_plan_program(plan: Plan, room: usize) -> Answer
     ensures { λ r. ⌜ answerNumber r ≡ planProgramFault plan room ⌝ }
 {

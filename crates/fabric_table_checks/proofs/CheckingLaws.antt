@@ -26,6 +26,7 @@ pub counted-table : (n : ℕ) (table : List ℕ) (c : TableCounts) → 0 ≡ n �
     → checkOutcome (TableCheck.Counted c) ≡ countedOr n table
 counted-table n table c z h = rw (← z) (cc (h .wires, h .bits))
 
+-- a check that answers with counts passed, and they are the table's
 pub record CountedBy (n : ℕ) (table : List ℕ) (c : TableCounts) : Type 0 where
   pub passes : 0 ≡ n
   pub counted : CountedBefore table (rowsIn table) (c .wires) (c .bits)

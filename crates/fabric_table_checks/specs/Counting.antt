@@ -18,6 +18,7 @@ kindWires kind = makes (rowOf kind 0 0)
 abbrev pub kindBits : ℕ → ℕ
 kindBits kind = takes (rowOf kind 0 0)
 
+-- both, as the code counts them
 pub record CountsOf (kind : ℕ) (c : RowCounts) : Type 0 where
   pub wires : c .wires ≡ kindWires kind
   pub bits : c .bits ≡ kindBits kind

@@ -16,7 +16,7 @@ use Rattle.fabric_universal.specs.Selector.{pinCount, Selector}
 unfoldable pub mixRows : ℕ → List ℕ → List ℕ → List Row
 mixRows k pins selected = listOf k (λ j. Y (getD pins (k + j) 0) (getD selected j 0))
 
--- k wires from `next` on: the outputs of so many Y rows
+-- k wires from `next` on: the outputs of k Y rows
 unfoldable pub wiresFrom : ℕ → ℕ → List ℕ
 wiresFrom k next = listOf k (λ j. next + j)
 

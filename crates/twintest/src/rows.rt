@@ -5,19 +5,22 @@ use crate::line::put_byte;
 use crate::line::put_entries;
 use crate::print_refusal;
 use equivalence::run_both;
+use fabric::HEADER;
 use fault::Answer;
 use fault::Fault;
 use plan::Plan;
 
-// The stated lengths for u, k and v of 64, whose fabric has 5,185 rows, 9,476 wires and 5,377 bits.
-const TABLE: usize = 3 + 3 * 5185 + 64;
+// The entries of the table for u, k and v of 64, whose fabric has 5,185 rows of three entries.
+const TABLE: usize = HEADER + 3 * 5185 + Plan::MAX_OUTPUTS;
 
+// The bytes of its programs, of 5,377 bits.
 const PROGRAM: usize = (5377 + 7) / 8;
 
+// The bytes of its run's work buffer, one for each of 9,476 wires.
 const WORK: usize = 9476;
 
-// Entries of a row of inputs or outputs.
-const ROW: usize = 64;
+// The entries of the longest row of inputs, and of the longest row of outputs.
+const ROW: usize = Plan::MAX_INPUTS;
 
 // The inputs that a row's number sets; those past them are 0.
 const COUNTED: u16 = 6;
@@ -108,6 +111,7 @@ fn set_inputs(inputs: &mut [u8; ROW], r: u8) {
     }
 }
 
+// Bit i of r; 0 past the inputs that r sets.
 fn input_bit(r: u8, i: usize) -> u8 {
     if i < COUNTED as usize {
         return (r >> i) & 1;

@@ -11,7 +11,7 @@ use lib.Dec.{lit<}
 use lib.ListN.{length, getD}
 use Rattle.blocks.specs.Elements.{stride, gateBits}
 use Rattle.elements.specs.Elements.{maxWires}
-use Rattle.fabric_sizes.specs.Layout.{header, rowsIn, kindAt}
+use Rattle.fabric_sizes.specs.Layout.{header, rowsIn, kindAt, rowStart}
 use Rattle.fabric_table_checks.specs.TableFault.{WellFormed}
 use Rattle.fabric_table_checks.proofs.CountingLaws.{counted-first, counted-few}
 use Rattle.fabric_table_checks.specs.declared.table.RowCounts.{RowCounts}
@@ -44,7 +44,7 @@ bits-sum bit h k = fits-below {n = maxBits + gateBits} tt (omega arith)
 header-in : {table : List ℕ} (at : ℕ) → at < header → WellFormed table → at < length table
 header-in at h w = lt-of-lt-of-le h (w .start .long)
 
-place-in : {table : List ℕ} {i at : ℕ} → WellFormed table → i < rowsIn table → at ≡ header + stride * i → at < length table
+place-in : {table : List ℕ} {i at : ℕ} → WellFormed table → i < rowsIn table → at ≡ rowStart i → at < length table
 place-in w h e = let s = w .start .size in omega arith
 
 -- one row more
