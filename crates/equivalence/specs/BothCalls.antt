@@ -14,7 +14,7 @@ use Rattle.equivalence.specs.declared.both.Lengths.{Lengths}
 use Rattle.equivalence.specs.ThirdDemand.{Rooms, planTableLength, planFabricWires}
 
 module _ (p : Plan) where
-  -- 11 for lent buffers of so many entries: table, program, work, and the two results
+  -- 11 for lent buffers of these lengths: table, program, work, and the two results
   unfoldable pub bothRoomFault : ℕ → ℕ → ℕ → ℕ → ℕ → ℕ
   bothRoomFault table program work evaluated ran =
       andThen (roomFault (planTableLength p) table)

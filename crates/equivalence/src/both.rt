@@ -80,13 +80,13 @@ fn check_both(
         Answer::Refused(f) => Answer::Refused(f),
         Answer::Done => match contact_fault(plan.inputs as usize, row) {
             Answer::Refused(f) => Answer::Refused(f),
-            Answer::Done => check_rooms(plan, table, program, work, evaluated, ran),
+            Answer::Done => check_both_rooms(plan, table, program, work, evaluated, ran),
         },
     }
 }
 
-// 11 for each of the five lent buffers.
-fn check_rooms(
+// 11 for each of the five lent buffers, whose lengths are given.
+fn check_both_rooms(
     plan: Plan,
     table: usize,
     program: usize,
@@ -159,7 +159,7 @@ fn make_both(
     evaluate(plan, row, evaluated);
 }
 
-// The run of exactly so many entries and bytes.
+// The run of exactly the first `entries` entries of the table and `bytes` bytes of the program.
 fn run_written(
     table: &[u16],
     entries: usize,

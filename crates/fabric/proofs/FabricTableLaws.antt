@@ -31,7 +31,7 @@ use Rattle.fabric_table_checks.proofs.WrittenTables.{tableOf, tableRows-of, out
 use Rattle.fabric_universal.proofs.PlanValues.{actOf}
 use Rattle.fabric_universal.proofs.FabricLaws.{length-fabricRows, fabric-totals, fabric-wires, length-fabricOuts, fabric-below, fabric-madeBefore}
 use Rattle.fabric_universal.proofs.FabricLaws.{length-planBits, planBits-bits, fabric-within}
-use Rattle.fabric_universal.proofs.FabricRun.{startOf, fabric-computes}
+use Rattle.fabric_universal.proofs.FabricRun.{fabricStart, fabric-computes}
 use Rattle.fabric.specs.Promise.{FabricPromise}
 use Rattle.fault.specs.Checks.{roomFault}
 use borrow.Author.Tests.{le-leb}
@@ -135,10 +135,10 @@ module _ (p : Plan) where
 
   -- the wires are those of a run of the fabric's rows with the plan's bits
   pub fabric-runWires : (row : List ℕ)
-      → runWires (planTable p) (planProgram p) row ≡ run 0 gateOnBits (fabricRows u k v) (startOf 0 row (planBits p ++ [])) .wires
+      → runWires (planTable p) (planProgram p) row ≡ run 0 gateOnBits (fabricRows u k v) (fabricStart 0 row (planBits p ++ [])) .wires
   unfolding runWires
   fabric-runWires row =
-      ap₂ (λ (rows : List Row) (bs : List ℕ). run 0 gateOnBits rows (startOf 0 row bs) .wires) (fabric-tableRows u k v)
+      ap₂ (λ (rows : List Row) (bs : List ℕ). run 0 gateOnBits rows (fabricStart 0 row bs) .wires) (fabric-tableRows u k v)
       (unpack-program ∙ sym (append-nil (planBits p)))
 
   -- for every accepted plan and every row of its inputs' bits, the run of the fabric of its counts with its program gives the plan's outputs

@@ -1,4 +1,4 @@
--- laws that the door hands on
+-- when the calls succeed, and what they left: the laws that the door hands on
 pub mod FabricsLaws
 -- the fabric's table is well formed, a plan's program exact, and their run gives what the plan gives
 pub mod FabricTableLaws

@@ -1,5 +1,5 @@
--- The door of the fabrics: what stands above is built on.
--- the fabric, its program and its run, and the calls: closed
+-- The door of the fabrics: what the crates above build on.
+-- the fabric, its program and its run, and what the calls answer and leave: closed
 pub mod Fabrics
--- what the fabric promises
+-- what the fabric promises of a plan
 pub mod Promise

@@ -9,6 +9,7 @@ use Rattle.fabric_universal.specs.Fabric.{fabricWires, planTable, planProgram}
 use Rattle.fabric_run_checks.specs.RunFault.{runFault}
 use Rattle.fabric_run.specs.Running.{runOutputs}
 
+-- the promise for the plan p and the row
 pub record FabricPromise (p : Plan) (row : List ℕ) : Type 0 where
   pub runs : (work result : ℕ) → fabricWires (p .inputs) (p .«gate_count») (p .«output_count») ≤ work → p .«output_count» ≤ result
       → runFault (planTable p) (planProgram p) row work result ≡ 0

@@ -3,6 +3,7 @@
 pub use fabric_bits::program_plan;
 pub use fabric_rows::write_fabric;
 pub use fabric_run::run;
+pub use fabric_sizes::HEADER;
 pub use fabric_sizes::count_fabric;
 pub use fabric_sizes::fabric_counts;
 pub use fabric_sizes::program_length;

@@ -49,29 +49,29 @@ choose-same zero a = refl
 choose-same (suc c) a = refl
 
 -- pins on input 1 and tables 0
-abbrev sparePins : List ℕ
-sparePins = replicate maxPins 1
+abbrev spareOperands : List ℕ
+spareOperands = replicate maxPins 1
 
 abbrev spareTables : List ℕ
 spareTables = replicate maxGates 0
 
 module _ (p : Plan) where
-  spare-pin : (q : ℕ) → operands * (p .«gate_count») ≤ q → planGates p .operand q ≡ 1
-  spare-pin q h = rw (padded-spare p (q / operands) (omega arith)) (choose-same (q % operands) 1)
+  spare-operand : (q : ℕ) → operands * (p .«gate_count») ≤ q → planGates p .operand q ≡ 1
+  spare-operand q h = rw (padded-spare p (q / operands) (omega arith)) (choose-same (q % operands) 1)
 
   -- the plan's gates written over them
-  pub loaded : Accepted p → {pins tables : List ℕ} {n : ℕ} → n ≡ loadedGates (p .«gate_count») (length sparePins) (length spareTables)
-      → pins ≡ over (listOf (operands * n) (planGates p .operand)) sparePins → tables ≡ over (listOf n (planGates p .table)) spareTables
-      → Loaded p pins tables
+  pub loaded : Accepted p → {operandList tables : List ℕ} {n : ℕ} → n ≡ loadedGates (p .«gate_count») (length spareOperands) (length spareTables)
+      → operandList ≡ over (listOf (operands * n) (planGates p .operand)) spareOperands → tables ≡ over (listOf n (planGates p .table)) spareTables
+      → Loaded p operandList tables
   loaded accepted en ep et =
       let k = p .«gate_count» in
       let c = accepted-counts p accepted in
-      let all = en ∙ all-loaded k (length sparePins) (length spareTables) (omega arith)
+      let all = en ∙ all-loaded k (length spareOperands) (length spareTables) (omega arith)
       (omega (arith, length-replicate {A = ℕ} maxPins 1)) (omega (arith, length-replicate {A = ℕ} maxGates 0)) in
       record {
         operandsAre =
-            ep ∙ ap (λ n. over (listOf (operands * n) (planGates p .operand)) sparePins) all
-            ∙ already (operands * k) maxPins (planGates p .operand) 1 (omega arith) (λ q h l. spare-pin q h);
+            ep ∙ ap (λ n. over (listOf (operands * n) (planGates p .operand)) spareOperands) all
+            ∙ already (operands * k) maxPins (planGates p .operand) 1 (omega arith) (λ q h l. spare-operand q h);
         tablesAre =
             et ∙ ap (λ n. over (listOf n (planGates p .table)) spareTables) all
             ∙ already k maxGates (planGates p .table) 0 (omega arith) (λ g h l. ap (λ x. x .table) (padded-spare p g h));

@@ -25,54 +25,54 @@ use Rattle.fabric_universal.proofs.FabricLaws.{fabric-within}
 use Rattle.fabric_universal.proofs.FabricRun.{inputs-selected, outputs-selected}
 use Rattle.fabric_sizes.proofs.PartsLaws.{few-places, same-level}
 use Rattle.fabric_sizes.specs.Parts.{maxPins}
-use Rattle.fabric_lists.specs.WantedLists.{gatesIn, inputsWanted}
-use Rattle.fabric_bits.specs.ProgramParts.{bitLimit, gatesProgram, UniversalRoom, GatesRoom, Loaded}
+use Rattle.fabric_lists.specs.WantedLists.{listedGates, inputsWanted}
+use Rattle.fabric_bits.specs.ProgramParts.{bitLimit, gatesProgram, UniversalProgramRoom, GatesRoom, Loaded}
 use Rattle.fabric_bits.proofs.UniversalBitsLaws.{SameGates, universal-same}
 
 -- ---- how many bits
 
-pub length-gates : (u k : ℕ) (pins tables : List ℕ)
-    → length (gatesProgram u k pins tables) ≡ selectionCount u (pinCount (gateLevel k)) + universalTakes selection (gateLevel k)
+pub length-gates : (u k : ℕ) (operandList tables : List ℕ)
+    → length (gatesProgram u k operandList tables) ≡ selectionCount u (pinCount (gateLevel k)) + universalTakes selection (gateLevel k)
 unfolding gatesProgram
-length-gates u k pins tables =
+length-gates u k operandList tables =
     let n : ℕ = gateLevel k in
-    let wanted = inputsWanted u pins (pinCount n) in
+    let wanted = inputsWanted u operandList (pinCount n) in
     length-append (selectionBits u (pinCount n) wanted) _
-    ∙ ap₂ (λ a b. a + b) (length-selectionBits u (pinCount n) wanted) (length-universalBits selection selection-shape (gatesIn u pins tables) n 0)
+    ∙ ap₂ (λ a b. a + b) (length-selectionBits u (pinCount n) wanted) (length-universalBits selection selection-shape (listedGates u operandList tables) n 0)
 
 -- ---- S(u, 2K), then U(K)
 
 -- what U(K) is lent after S(u, 2K)'s bits are stored
 pub room-behind : {gates base tables wanted start room gates′ wanted′ start′ room′ : ℕ}
-    → UniversalRoom gates base tables wanted start room → gates′ ≡ gates → wanted′ ≡ wanted → start′ ≡ start → room′ ≡ room
-    → UniversalRoom gates′ base tables wanted′ start′ room′
+    → UniversalProgramRoom gates base tables wanted start room → gates′ ≡ gates → wanted′ ≡ wanted → start′ ≡ start → room′ ≡ room
+    → UniversalProgramRoom gates′ base tables wanted′ start′ room′
 room-behind R el ew es er = rw (el, ew, es, er) R
 
-pub gates-stored : (u k : ℕ) (pins tables s₀ : List ℕ) {places count next : ℕ} {s₁ s₂ : List ℕ} → places ≡ 2 ^ gateLevel k → count ≡ 2 * places
-    → s₁ ≡ storeBits s₀ 0 (selectionBits u count (inputsWanted u pins count)) → next ≡ selectionCount u count
-    → s₂ ≡ storeBits s₁ next (universalBits selection (gatesIn u pins tables) (gateLevel places) 0) → s₂ ≡ storeBits s₀ 0 (gatesProgram u k pins tables)
+pub gates-stored : (u k : ℕ) (operandList tables s₀ : List ℕ) {places count next : ℕ} {s₁ s₂ : List ℕ} → places ≡ 2 ^ gateLevel k → count ≡ 2 * places
+    → s₁ ≡ storeBits s₀ 0 (selectionBits u count (inputsWanted u operandList count)) → next ≡ selectionCount u count
+    → s₂ ≡ storeBits s₁ next (universalBits selection (listedGates u operandList tables) (gateLevel places) 0) → s₂ ≡ storeBits s₀ 0 (gatesProgram u k operandList tables)
 unfolding gatesProgram
-gates-stored u k pins tables s₀ {places} {count} {next} {s₁} {s₂} ep two e₁ en e₂ =
+gates-stored u k operandList tables s₀ {places} {count} {next} {s₁} {s₂} ep two e₁ en e₂ =
     let n : ℕ = gateLevel k in
     let el : gateLevel places ≡ n = ap gateLevel ep ∙ same-level k in
     let ec : count ≡ pinCount n = two ∙ ap (λ m. 2 * m) ep in
-    let I = selectionBits u (pinCount n) (inputsWanted u pins (pinCount n)) in
-    let G = universalBits selection (gatesIn u pins tables) n 0 in
-    let first : s₁ ≡ storeBits s₀ 0 I = e₁ ∙ ap (λ c. storeBits s₀ 0 (selectionBits u c (inputsWanted u pins c))) ec in
-    let at : next ≡ 0 + length I = en ∙ ap (selectionCount u) ec ∙ omega (arith, length-selectionBits u (pinCount n) (inputsWanted u pins (pinCount n))) in
-    e₂ ∙ ap (λ l. storeBits s₁ next (universalBits selection (gatesIn u pins tables) l 0)) el
+    let I = selectionBits u (pinCount n) (inputsWanted u operandList (pinCount n)) in
+    let G = universalBits selection (listedGates u operandList tables) n 0 in
+    let first : s₁ ≡ storeBits s₀ 0 I = e₁ ∙ ap (λ c. storeBits s₀ 0 (selectionBits u c (inputsWanted u operandList c))) ec in
+    let at : next ≡ 0 + length I = en ∙ ap (selectionCount u) ec ∙ omega (arith, length-selectionBits u (pinCount n) (inputsWanted u operandList (pinCount n))) in
+    e₂ ∙ ap (λ l. storeBits s₁ next (universalBits selection (listedGates u operandList tables) l 0)) el
     ∙ ap₂ (λ s q. storeBits s q G) first at ∙ sym (storeBits-append s₀ 0 I G)
 
 -- ---- the lists of a plan's gates
 
-module _ (p : Plan) {pins tables : List ℕ} (L : Loaded p pins tables) where
-  loaded-pin : (q : ℕ) → q < maxPins → getD pins q 0 ≡ planGates p .operand q
-  loaded-pin q l = ap (λ s. getD s q 0) (L .operandsAre) ∙ getD-listOf maxPins _ q 0 l
+module _ (p : Plan) {operandList tables : List ℕ} (L : Loaded p operandList tables) where
+  loaded-operand : (q : ℕ) → q < maxPins → getD operandList q 0 ≡ planGates p .operand q
+  loaded-operand q l = ap (λ s. getD s q 0) (L .operandsAre) ∙ getD-listOf maxPins _ q 0 l
 
-  loaded-same : SameGates maxGates (gatesIn (p .inputs) pins tables) (planGates p)
+  loaded-same : SameGates maxGates (listedGates (p .inputs) operandList tables) (planGates p)
   loaded-same = record {
     before = refl;
-    operand = loaded-pin;
+    operand = loaded-operand;
     table = λ g l. ap (λ s. getD s g 0) (L .tablesAre) ∙ getD-listOf maxGates _ g 0 l;
   }
 
@@ -80,14 +80,14 @@ module _ (p : Plan) {pins tables : List ℕ} (L : Loaded p pins tables) where
     few-gates : 2 ^ gateLevel (p .«gate_count») ≤ maxGates
     few-gates = few-places (p .«gate_count») (accepted-counts p accepted .gates)
 
-    loaded-wanted : inputsWanted (p .inputs) pins (pinCount (gateLevel (p .«gate_count»))) ≡ wantedInputs p
+    loaded-wanted : inputsWanted (p .inputs) operandList (pinCount (gateLevel (p .«gate_count»))) ≡ wantedInputs p
     unfolding inputsWanted wantedInputs
     loaded-wanted =
-        listOf-ext (pinCount (gateLevel (p .«gate_count»))) _ _ (λ q l. ap (wantedInput (p .inputs)) (loaded-pin q (omega (arith, few-gates))))
+        listOf-ext (pinCount (gateLevel (p .«gate_count»))) _ _ (λ q l. ap (wantedInput (p .inputs)) (loaded-operand q (omega (arith, few-gates))))
 
     -- S(u, 2K) and U(K) are programmed for the plan
     gates-programmed : let n : ℕ = gateLevel (p .«gate_count») in
-        gatesProgram (p .inputs) (p .«gate_count») pins tables
+        gatesProgram (p .inputs) (p .«gate_count») operandList tables
         ≡ selectionBits (p .inputs) (pinCount n) (wantedInputs p) ++ universalBits selection (planGates p) n 0
     unfolding gatesProgram
     gates-programmed =
@@ -96,10 +96,10 @@ module _ (p : Plan) {pins tables : List ℕ} (L : Loaded p pins tables) where
         (universal-same maxGates _ _ loaded-same n 0 (omega (arith, few-gates)))
 
     -- they have room
-    pub gates-room : {wanted room : ℕ} → wanted ≡ maxPins → fabricTakes (p .inputs) (p .«gate_count») (p .«output_count») ≤ 8 * room
-        → GatesRoom (p .inputs) (p .«gate_count») pins tables wanted room
+    pub gates-program-room : {wanted room : ℕ} → wanted ≡ maxPins → fabricTakes (p .inputs) (p .«gate_count») (p .«output_count») ≤ 8 * room
+        → GatesRoom (p .inputs) (p .«gate_count») operandList tables wanted room
     unfolding fabricTakes
-    gates-room ew fits =
+    gates-program-room ew fits =
         let n : ℕ = gateLevel (p .«gate_count») in
         let c = accepted-counts p accepted in
         let few = fabric-within _ _ _ c .bits in
@@ -123,14 +123,14 @@ module _ (p : Plan) {pins tables : List ℕ} (L : Loaded p pins tables) where
         }
 
     -- the bits of S(K, v) behind theirs are the plan's
-    pub plan-stored : (s₀ : List ℕ) {next : ℕ} {s₁ s₂ : List ℕ} → s₁ ≡ storeBits s₀ 0 (gatesProgram (p .inputs) (p .«gate_count») pins tables)
-        → next ≡ length (gatesProgram (p .inputs) (p .«gate_count») pins tables)
+    pub plan-stored : (s₀ : List ℕ) {next : ℕ} {s₁ s₂ : List ℕ} → s₁ ≡ storeBits s₀ 0 (gatesProgram (p .inputs) (p .«gate_count») operandList tables)
+        → next ≡ length (gatesProgram (p .inputs) (p .«gate_count») operandList tables)
         → s₂ ≡ storeBits s₁ next (selectionBits (2 ^ gateLevel (p .«gate_count»)) (p .«output_count») (wantedOutputs p))
         → s₂ ≡ storeBits s₀ 0 (planBits p)
     unfolding planBits
     plan-stored s₀ {next} e₁ en e₂ =
         let n : ℕ = gateLevel (p .«gate_count») in
-        let A = gatesProgram (p .inputs) (p .«gate_count») pins tables in
+        let A = gatesProgram (p .inputs) (p .«gate_count») operandList tables in
         let O = selectionBits (2 ^ n) (p .«output_count») (wantedOutputs p) in
         let at : next ≡ 0 + length A = omega arith in
         e₂ ∙ ap₂ (λ s q. storeBits s q O) e₁ at ∙ sym (storeBits-append s₀ 0 A O)
@@ -138,15 +138,15 @@ module _ (p : Plan) {pins tables : List ℕ} (L : Loaded p pins tables) where
         ∙ ap (storeBits s₀ 0) (append-assoc (selectionBits (p .inputs) (pinCount n) (wantedInputs p)) (universalBits selection (planGates p) n 0) O)
 
 -- what is left of the plan's bits has room behind theirs
-pub outputs-fit : (p : Plan) → Accepted p → (pins tables : List ℕ) {next : ℕ} (room : ℕ)
+pub output-bits-fit : (p : Plan) → Accepted p → (operandList tables : List ℕ) {next : ℕ} (room : ℕ)
     → fabricTakes (p .inputs) (p .«gate_count») (p .«output_count») ≤ 8 * room
-    → next ≡ length (gatesProgram (p .inputs) (p .«gate_count») pins tables)
+    → next ≡ length (gatesProgram (p .inputs) (p .«gate_count») operandList tables)
     → (next + selectionCount (2 ^ gateLevel (p .«gate_count»)) (p .«output_count») ≤ 8 * room)
     × (next + selectionCount (2 ^ gateLevel (p .«gate_count»)) (p .«output_count») ≤ bitLimit)
 unfolding fabricTakes
-outputs-fit p accepted pins tables room fits en =
+output-bits-fit p accepted operandList tables room fits en =
     let few = fabric-within _ _ _ (accepted-counts p accepted) .bits in
-    let size = length-gates (p .inputs) (p .«gate_count») pins tables in
+    let size = length-gates (p .inputs) (p .«gate_count») operandList tables in
     (omega arith, omega arith)
 
 -- S(K, v)'s call has nothing to refuse

@@ -21,14 +21,14 @@ use Rattle.fabric_universal.proofs.UniversalLaws.{length-universalBits}
 use Rattle.fabric_universal.proofs.UniversalProgram.{wanted-selected, length-mixBits}
 use Rattle.fabric_universal.specs.Fabric.{gateLevel}
 use Rattle.fabric_sizes.proofs.PartsLaws.{one-gate, Halved}
-use Rattle.fabric_lists.specs.WantedLists.{gatesIn, pinsIn, isAmong, wantedAmong}
+use Rattle.fabric_lists.specs.WantedLists.{listedGates, listedOperands, isAmong, wantedAmong}
 use Rattle.fabric_lists.proofs.WantedListsLaws.{among-gates, wanted-among}
-use Rattle.fabric_bits.specs.ProgramParts.{betweenBits, BetweenRoom, UniversalRoom}
+use Rattle.fabric_bits.specs.ProgramParts.{betweenBits, BetweenRoom, UniversalProgramRoom}
 
 -- ---- U by its halves
 
 -- what its parts are lent
-module _ {gates base tables wanted start room half : ℕ} (R : UniversalRoom gates base tables wanted start room) (H : Halved gates half) where
+module _ {gates base tables wanted start room half : ℕ} (R : UniversalProgramRoom gates base tables wanted start room) (H : Halved gates half) where
   abbrev n : ℕ
   n = gateLevel half
 
@@ -42,8 +42,8 @@ module _ {gates base tables wanted start room half : ℕ} (R : UniversalRoom gat
   all-gates : base + (half + half) ≤ maxGates
   all-gates = omega (arith, H .twice, R .all)
 
-  pub upper-room : UniversalRoom half base tables wanted start room
-  upper-room = record {
+  pub upper-program-room : UniversalProgramRoom half base tables wanted start room
+  upper-program-room = record {
     power = H .power;
     all = omega (arith, all-gates);
     tableRoom = R .tableRoom;
@@ -61,9 +61,9 @@ module _ {gates base tables wanted start room half : ℕ} (R : UniversalRoom gat
     fits = omega (arith, takes-half, R .fits);
   }
 
-  pub lower-room : {lower w r : ℕ} → lower ≡ start + universalTakes selection n + (selectionCount half (operands * half) + operands * half)
-      → w ≡ wanted → r ≡ room → UniversalRoom half (base + half) tables w lower r
-  lower-room el ew er = record {
+  pub lower-program-room : {lower w r : ℕ} → lower ≡ start + universalTakes selection n + (selectionCount half (operands * half) + operands * half)
+      → w ≡ wanted → r ≡ room → UniversalProgramRoom half (base + half) tables w lower r
+  lower-program-room el ew er = record {
     power = H .power;
     all = omega (arith, all-gates);
     tableRoom = R .tableRoom;
@@ -108,10 +108,10 @@ between-stored G base h start s₀ {choices} {wanted} {s₁} {s₂} ew e₁ ec e
     e₂ ∙ ap₂ (λ s p. storeBits s p (mixBits G base h)) first at ∙ sym (storeBits-append s₀ start S (mixBits G base h))
 
 -- the tables do not matter there
-pub between-pins : (before : ℕ) (pins tables : List ℕ) (base h : ℕ)
-    → betweenBits (pinsIn before pins) base h ≡ betweenBits (gatesIn before pins tables) base h
+pub between-listed : (before : ℕ) (operandList tables : List ℕ) (base h : ℕ)
+    → betweenBits (listedOperands before operandList) base h ≡ betweenBits (listedGates before operandList tables) base h
 unfolding betweenBits wantedGates wantedGate mixBits isOf
-between-pins before pins tables base h = refl
+between-listed before operandList tables base h = refl
 
 -- ---- the whole
 

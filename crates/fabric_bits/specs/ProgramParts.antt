@@ -13,9 +13,9 @@ use Rattle.fabric_universal.specs.Selector.{pinCount, selection}
 use Rattle.fabric_universal.specs.Universal.{Gates, universalTakes, wantedGates, mixBits, universalBits}
 use Rattle.fabric_universal.specs.Fabric.{gateLevel, planGates}
 use Rattle.fabric_sizes.specs.Parts.{maxPins}
-use Rattle.fabric_lists.specs.WantedLists.{gatesIn, inputsWanted}
+use Rattle.fabric_lists.specs.WantedLists.{listedGates, inputsWanted}
 
--- no plan's program has so many bits
+-- above the program bits of every plan: the fabric of 64, 256, 64 takes 32,257
 abbrev pub bitLimit : ℕ
 bitLimit = 65536
 
@@ -27,13 +27,13 @@ betweenBits G base h = selectionBits h (operands * h) (wantedGates G base h) ++ 
 
 -- S(u, 2K) and U(K)
 unfoldable pub gatesProgram : ℕ → ℕ → List ℕ → List ℕ → List ℕ
-gatesProgram u k pins tables =
-    selectionBits u (pinCount (gateLevel k)) (inputsWanted u pins (pinCount (gateLevel k)))
-    ++ universalBits selection (gatesIn u pins tables) (gateLevel k) 0
+gatesProgram u k operandList tables =
+    selectionBits u (pinCount (gateLevel k)) (inputsWanted u operandList (pinCount (gateLevel k)))
+    ++ universalBits selection (listedGates u operandList tables) (gateLevel k) 0
 
 -- ---- what fits
 
--- the bits between two halves of h gates each, in a program of so many bytes; `wanted` is room to work in
+-- the bits between two halves of h gates each, from bit `start` on, in a program of `room` bytes; a list of `wanted` entries is room to work in
 pub record BetweenRoom (h wanted start room : ℕ) : Type 0 where
   pub some : 1 ≤ h
   pub gates : 2 * h ≤ maxGates
@@ -41,8 +41,9 @@ pub record BetweenRoom (h wanted start room : ℕ) : Type 0 where
   pub few : start + selectionCount h (operands * h) + operands * h ≤ bitLimit
   pub fits : start + selectionCount h (operands * h) + operands * h ≤ 8 * room
 
--- U for so many gates, a power of two, from `base` on, in lists of so many entries
-pub record UniversalRoom (gates base tables wanted start room : ℕ) : Type 0 where
+-- the bits of U for `gates` gates, a power of two, from gate `base` on, whose tables stand in a list of `tables` entries; `wanted`, `start` and
+-- `room` as above
+pub record UniversalProgramRoom (gates base tables wanted start room : ℕ) : Type 0 where
   pub power : gates ≡ 2 ^ gateLevel gates
   pub all : base + gates ≤ maxGates
   pub tableRoom : tables ≡ maxGates
@@ -51,11 +52,11 @@ pub record UniversalRoom (gates base tables wanted start room : ℕ) : Type 0 wh
   pub fits : start + universalTakes selection (gateLevel gates) ≤ 8 * room
 
 -- S(u, 2K) and U(K) for the gates that lists give
-pub record GatesRoom (u k : ℕ) (pins tables : List ℕ) (wanted room : ℕ) : Type 0 where
-  pub inputs : SelectionPasses u (pinCount (gateLevel k)) (inputsWanted u pins (pinCount (gateLevel k))) 0 room
-  pub gates : UniversalRoom (2 ^ gateLevel k) 0 (length tables) wanted (selectionCount u (pinCount (gateLevel k))) room
+pub record GatesRoom (u k : ℕ) (operandList tables : List ℕ) (wanted room : ℕ) : Type 0 where
+  pub inputs : SelectionPasses u (pinCount (gateLevel k)) (inputsWanted u operandList (pinCount (gateLevel k))) 0 room
+  pub gates : UniversalProgramRoom (2 ^ gateLevel k) 0 (length tables) wanted (selectionCount u (pinCount (gateLevel k))) room
 
 -- the lists of a plan's gates, spare ones included
-pub record Loaded (p : Plan) (pins tables : List ℕ) : Type 0 where
-  pub operandsAre : pins ≡ listOf maxPins (planGates p .operand)
+pub record Loaded (p : Plan) (operandList tables : List ℕ) : Type 0 where
+  pub operandsAre : operandList ≡ listOf maxPins (planGates p .operand)
   pub tablesAre : tables ≡ listOf maxGates (planGates p .table)

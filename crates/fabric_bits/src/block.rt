@@ -8,8 +8,8 @@ ghost use Rattle.blocks.specs.Calls.{SelectionPasses};
 ghost use Rattle.fabric_universal.specs.Selector.{selection};
 ghost use Rattle.fabric_universal.specs.Universal.{universalTakes, universalBits};
 ghost use Rattle.fabric_universal.specs.Fabric.{gateLevel};
-ghost use Rattle.fabric_lists.specs.WantedLists.{gatesIn, pinsIn};
-ghost use Rattle.fabric_bits.specs.ProgramParts.{bitLimit, betweenBits, BetweenRoom, UniversalRoom};
+ghost use Rattle.fabric_lists.specs.WantedLists.{listedGates, listedOperands};
+ghost use Rattle.fabric_bits.specs.ProgramParts.{bitLimit, betweenBits, BetweenRoom, UniversalProgramRoom};
 use blocks::program_selection_at;
 use blocks::selection_count;
 use elements::GATE_BITS;
@@ -17,21 +17,21 @@ use fabric_lists::list_gates;
 use fabric_lists::store_choices;
 use fabric_lists::store_table;
 
-// The bits of U for so many gates, a power of two, from `base` on, stored from bit `start` on. The lists give the operands and tables of all gates,
-// whose wires follow `before` others; `wanted` is room to work in. Gives the bit behind them.
+// The bits of U for `gates` gates, a power of two, from gate `base` on, stored from bit `start` on. The lists give the operands and tables of all
+// gates, whose wires follow `before` others; `wanted` is room to work in. Gives the bit behind them.
 pub(crate) fn program_universal(
     gates: u32,
     base: u32,
     before: u32,
-    pins: &[u16],
+    operands: &[u16],
     tables: &[u16],
     wanted: &mut [u16],
     program: &mut [u8],
     start: u32,
 ) -> u32
-    requires { ⌜ UniversalRoom gates base (length (now tables)) (length (now wanted)) start (length (now program)) ⌝ }
+    requires { ⌜ UniversalProgramRoom gates base (length (now tables)) (length (now wanted)) start (length (now program)) ⌝ }
     ensures behind { λ r. ⌜ r ≡ start + universalTakes selection (gateLevel gates) ⌝ }
-    ensures stored { λ _. ⌜ now (program .exit) ≡ storeBits (now (program .entry)) start (universalBits selection (gatesIn before (now (pins .entry)) (now (tables .entry))) (gateLevel gates) base) ⌝ }
+    ensures stored { λ _. ⌜ now (program .exit) ≡ storeBits (now (program .entry)) start (universalBits selection (listedGates before (now (operands .entry)) (now (tables .entry))) (gateLevel gates) base) ⌝ }
 {
     if gates <= 1 {
         let place = base as usize;
@@ -39,13 +39,13 @@ pub(crate) fn program_universal(
         return start + GATE_BITS;
     }
     let half = gates / 2;
-    let between = program_universal(half, base, before, pins, tables, wanted, program, start);
-    let lower = program_between(before, base, half, pins, wanted, program, between);
+    let between = program_universal(half, base, before, operands, tables, wanted, program, start);
+    let lower = program_between(before, base, half, operands, wanted, program, between);
     program_universal(
         half,
         base + half,
         before,
-        pins,
+        operands,
         tables,
         wanted,
         program,
@@ -58,18 +58,18 @@ fn program_between(
     before: u32,
     base: u32,
     half: u32,
-    pins: &[u16],
+    operands: &[u16],
     wanted: &mut [u16],
     program: &mut [u8],
     start: u32,
 ) -> u32
     requires { ⌜ BetweenRoom half (length (now wanted)) start (length (now program)) ⌝ }
-    ensures behind { λ r. ⌜ r ≡ start + length (betweenBits (pinsIn before (now (pins .entry))) base half) ⌝ }
-    ensures stored { λ _. ⌜ now (program .exit) ≡ storeBits (now (program .entry)) start (betweenBits (pinsIn before (now (pins .entry))) base half) ⌝ }
+    ensures behind { λ r. ⌜ r ≡ start + length (betweenBits (listedOperands before (now (operands .entry))) base half) ⌝ }
+    ensures stored { λ _. ⌜ now (program .exit) ≡ storeBits (now (program .entry)) start (betweenBits (listedOperands before (now (operands .entry))) base half) ⌝ }
 {
-    list_gates(before, base, half, pins, wanted);
+    list_gates(before, base, half, operands, wanted);
     let choices = store_selection(half, 2 * half, wanted, program, start);
-    store_choices(before, base, half, pins, program, choices);
+    store_choices(before, base, half, operands, program, choices);
     choices + 2 * half
 }
 

@@ -21,7 +21,7 @@ use fabric_lists::list_inputs;
 use fabric_lists::list_outputs;
 use fabric_lists::load_gates;
 use fabric_sizes::MAX_PINS;
-use fabric_sizes::check_program;
+use fabric_sizes::check_plan_program;
 use fabric_sizes::gate_places;
 use fabric_sizes::program_length;
 use fault::Answer;
@@ -32,7 +32,7 @@ pub fn program_plan(plan: Plan, program: &mut [u8]) -> Answer
     ensures answered { λ r. ⌜ answerNumber r ≡ planProgramFault plan (length (now (program .entry))) ⌝ }
     ensures written { λ _. ⌜ now (program .exit) ≡ planProgramResult plan (now (program .entry)) ⌝ }
 {
-    match check_program(plan, program.len()) {
+    match check_plan_program(plan, program.len()) {
         Answer::Refused(f) => Answer::Refused(f),
         Answer::Done => {
             let length = program_length(plan.inputs, plan.gate_count, plan.output_count);
@@ -43,20 +43,20 @@ pub fn program_plan(plan: Plan, program: &mut [u8]) -> Answer
     }
 }
 
-// The plan's bits, stored from bit 0 on. A pin past the plan's gates is on input 1, and a gate past them has table 0.
+// The plan's bits, stored from bit 0 on. The operands of a gate past the plan's are input 1, and its table is 0.
 fn store_plan(plan: Plan, program: &mut [u8])
     requires { ⌜ Accepted plan ⌝ }
     requires { ⌜ fabricTakes (plan .inputs) (plan .«gate_count») (plan .«output_count») ≤ 8 * length (now program) ⌝ }
     ensures { λ _. ⌜ now (program .exit) ≡ storeBits (now (program .entry)) 0 (planBits plan) ⌝ }
 {
-    let mut pins = [1u16; MAX_PINS];
+    let mut operands = [1u16; MAX_PINS];
     let mut tables = [0u16; Plan::MAX_GATES];
     let mut wanted = [0u16; MAX_PINS];
-    load_gates(plan, &mut pins, &mut tables);
+    load_gates(plan, &mut operands, &mut tables);
     let next = store_gates(
         plan.inputs,
         plan.gate_count,
-        &pins,
+        &operands,
         &tables,
         &mut wanted,
         program,
@@ -68,22 +68,22 @@ fn store_plan(plan: Plan, program: &mut [u8])
 fn store_gates(
     inputs: u16,
     gates: u16,
-    pins: &[u16],
+    operands: &[u16],
     tables: &[u16],
     wanted: &mut [u16],
     program: &mut [u8],
 ) -> u32
-    requires { ⌜ GatesRoom inputs gates (now pins) (now tables) (length (now wanted)) (length (now program)) ⌝ }
-    ensures behind { λ r. ⌜ r ≡ length (gatesProgram inputs gates (now (pins .entry)) (now (tables .entry))) ⌝ }
-    ensures stored { λ _. ⌜ now (program .exit) ≡ storeBits (now (program .entry)) 0 (gatesProgram inputs gates (now (pins .entry)) (now (tables .entry))) ⌝ }
+    requires { ⌜ GatesRoom inputs gates (now operands) (now tables) (length (now wanted)) (length (now program)) ⌝ }
+    ensures behind { λ r. ⌜ r ≡ length (gatesProgram inputs gates (now (operands .entry)) (now (tables .entry))) ⌝ }
+    ensures stored { λ _. ⌜ now (program .exit) ≡ storeBits (now (program .entry)) 0 (gatesProgram inputs gates (now (operands .entry)) (now (tables .entry))) ⌝ }
 {
     let places = gate_places(gates);
-    let next = store_inputs(inputs, 2 * places, pins, wanted, program);
+    let next = store_inputs(inputs, 2 * places, operands, wanted, program);
     program_universal(
         places,
         0,
         inputs as u32,
-        pins,
+        operands,
         tables,
         wanted,
         program,
@@ -95,16 +95,16 @@ fn store_gates(
 fn store_inputs(
     inputs: u16,
     count: u32,
-    pins: &[u16],
+    operands: &[u16],
     wanted: &mut [u16],
     program: &mut [u8],
 ) -> u32
-    requires { ⌜ SelectionPasses inputs count (inputsWanted inputs (now pins) count) 0 (length (now program)) ⌝ }
+    requires { ⌜ SelectionPasses inputs count (inputsWanted inputs (now operands) count) 0 (length (now program)) ⌝ }
     requires { ⌜ (count ≤ length (now wanted)) × (selectionCount inputs count ≤ bitLimit) ⌝ }
     ensures behind { λ r. ⌜ r ≡ selectionCount inputs count ⌝ }
-    ensures stored { λ _. ⌜ now (program .exit) ≡ storeBits (now (program .entry)) 0 (selectionBits inputs count (inputsWanted inputs (now (pins .entry)) count)) ⌝ }
+    ensures stored { λ _. ⌜ now (program .exit) ≡ storeBits (now (program .entry)) 0 (selectionBits inputs count (inputsWanted inputs (now (operands .entry)) count)) ⌝ }
 {
-    list_inputs(inputs, count, pins, wanted);
+    list_inputs(inputs, count, operands, wanted);
     store_selection(inputs as u32, count, wanted, program, 0)
 }
 

@@ -15,9 +15,10 @@ use Rattle.fabric_universal.proofs.PlanValues.{padded-own, first-operand, secon
 use Rattle.fabric_lists.specs.GateLists.{loadedGates}
 
 -- where there are places for all, all are loaded
-pub all-loaded : (k pins tables : ℕ) → k ≤ maxGates → operands * k ≤ pins → k ≤ tables → loadedGates k pins tables ≡ k
+pub all-loaded : (k operandPlaces tablePlaces : ℕ) → k ≤ maxGates → operands * k ≤ operandPlaces → k ≤ tablePlaces
+    → loadedGates k operandPlaces tablePlaces ≡ k
 unfolding loadedGates
-all-loaded k pins tables few pinRoom tableRoom = omega arith
+all-loaded k operandPlaces tablePlaces few operandRoom tableRoom = omega arith
 
 module _ (p : Plan) where
   -- a gate's operands on its two pins

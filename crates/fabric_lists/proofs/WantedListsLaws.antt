@@ -42,10 +42,10 @@ front-is new old n places e all room =
 -- ---- what is wanted, where the lists have places for all
 
 module _ (old : List ℕ) {l : List ℕ} where
-  pub inputs-listed : (u : ℕ) (pins : List ℕ) (count : ℕ) → l ≡ over (take (length old) (inputsWanted u pins count)) old → count ≤ length old
-      → take count l ≡ inputsWanted u pins count
+  pub inputs-listed : (u : ℕ) (operandList : List ℕ) (count : ℕ) → l ≡ over (take (length old) (inputsWanted u operandList count)) old → count ≤ length old
+      → take count l ≡ inputsWanted u operandList count
   unfolding inputsWanted
-  inputs-listed u pins count e room = front-is _ old count (length old) e (length-listOf count _) room
+  inputs-listed u operandList count e room = front-is _ old count (length old) e (length-listOf count _) room
 
   pub gates-listed : (G : Gates) (base h : ℕ) → l ≡ over (take (length old) (wantedGates G base h)) old → operands * h ≤ length old
       → take (operands * h) l ≡ wantedGates G base h
@@ -57,7 +57,7 @@ module _ (old : List ℕ) {l : List ℕ} where
   unfolding wantedOutputs
   outputs-listed p e few room = front-is _ old (p .«output_count») (min maxOutputs (length old)) e (length-listOf (p .«output_count») _) (omega arith)
 
--- ---- gates behind so many wires
+-- ---- the h gates behind `before` wires
 
 pub among-gates : (G : Gates) (base h w : ℕ) → isAmong (G .before + base) h w ≡ isOf G base h w
 unfolding isAmong isOf

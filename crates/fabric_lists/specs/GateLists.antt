@@ -10,21 +10,21 @@ use Rattle.plan.specs.Record.{maxGates}
 use Rattle.blocks.specs.Elements.{operands}
 use Rattle.fabric_universal.specs.Fabric.{planGates}
 
--- how many of k gates the record and lists of so many pins and tables have places for
+-- how many of k gates the record, a list with `operandPlaces` places for operands and one with `tablePlaces` for tables have places for
 unfoldable pub loadedGates : ℕ → ℕ → ℕ → ℕ
-loadedGates k pins tables = min k (min maxGates (min (pins / operands) tables))
+loadedGates k operandPlaces tablePlaces = min k (min maxGates (min (operandPlaces / operands) tablePlaces))
 
 -- their count, with its bounds
-pub record LoadedCount (k pins tables count : ℕ) : Type 0 where
-  pub isCount : count ≡ loadedGates k pins tables
+pub record LoadedCount (k operandPlaces tablePlaces count : ℕ) : Type 0 where
+  pub isCount : count ≡ loadedGates k operandPlaces tablePlaces
   pub own : count ≤ k
   pub recordRoom : count ≤ maxGates
-  pub pinRoom : operands * count ≤ pins
-  pub tableRoom : count ≤ tables
+  pub operandRoom : operands * count ≤ operandPlaces
+  pub tableRoom : count ≤ tablePlaces
 
 -- the lists after loading
-abbrev pub loadedPins : Plan → List ℕ → List ℕ → List ℕ
-loadedPins p pins tables = over (listOf (operands * loadedGates (p .«gate_count») (length pins) (length tables)) (planGates p .operand)) pins
+abbrev pub loadedOperands : Plan → List ℕ → List ℕ → List ℕ
+loadedOperands p operandList tables = over (listOf (operands * loadedGates (p .«gate_count») (length operandList) (length tables)) (planGates p .operand)) operandList
 
 abbrev pub loadedTables : Plan → List ℕ → List ℕ → List ℕ
-loadedTables p pins tables = over (listOf (loadedGates (p .«gate_count») (length pins) (length tables)) (planGates p .table)) tables
+loadedTables p operandList tables = over (listOf (loadedGates (p .«gate_count») (length operandList) (length tables)) (planGates p .table)) tables

@@ -1,6 +1,5 @@
--- The lists that a plan's gates are loaded into.
--- what the calls give
+-- A plan's gates as lists, and what is read off them.
+-- the lists that a plan's gates are loaded into
 pub mod GateLists
--- What the pins and the outputs want of a selection block.
--- what the calls give
+-- what the pins want of a selection block
 pub mod WantedLists

@@ -8,21 +8,21 @@ use Rattle.lists.specs.Lists.{listOf}
 use Rattle.fabric_universal.specs.Universal.{Gates}
 use Rattle.fabric_universal.specs.Fabric.{wantedInput}
 
--- the gates of which the lists have the operands, pin by pin, and the tables; their wires follow `before` others
-abbrev pub gatesIn : ℕ → List ℕ → List ℕ → Gates
-gatesIn before pins tables = record { before = before; operand = λ q. getD pins q 0; table = λ g. getD tables g 0 }
+-- the gates of which one list has the operands, pin by pin, and the other the tables; their wires follow `before` others
+abbrev pub listedGates : ℕ → List ℕ → List ℕ → Gates
+listedGates before operandList tables = record { before = before; operand = λ q. getD operandList q 0; table = λ g. getD tables g 0 }
 
--- the same where the tables do not matter
-abbrev pub pinsIn : ℕ → List ℕ → Gates
-pinsIn before pins = gatesIn before pins []
+-- gates of which the operands alone are listed: their tables do not matter
+abbrev pub listedOperands : ℕ → List ℕ → Gates
+listedOperands before operandList = listedGates before operandList []
 
 -- ---- what is wanted
 
--- of the inputs, by the first pins
+-- of u inputs, by the first `count` pins
 unfoldable pub inputsWanted : ℕ → List ℕ → ℕ → List ℕ
-inputsWanted u pins count = listOf count (λ q. wantedInput u (getD pins q 0))
+inputsWanted u operandList count = listOf count (λ q. wantedInput u (getD operandList q 0))
 
--- the wire w is one of h behind so many others
+-- the wire w is one of the h behind `before` others
 unfoldable pub isAmong : ℕ → ℕ → ℕ → Bool
 isAmong before h w = ltb before w && leb w (before + h)
 

@@ -2,36 +2,36 @@
 ghost use mathlib.Core.Path.{_≡_};
 ghost use Rattle.blocks.specs.Elements.{storeBits};
 ghost use Rattle.fabric_universal.specs.Universal.{tableProgram};
-ghost use Rattle.fabric_lists.specs.GateLists.{LoadedCount, loadedPins, loadedTables};
+ghost use Rattle.fabric_lists.specs.GateLists.{LoadedCount, loadedOperands, loadedTables};
 use blocks::smaller;
 use blocks::store_bit;
 use elements::GATE_BITS;
 use plan::Plan;
 
-// The operands of the plan's gates, and their tables, from the front of two lists, as far as the record and the lists have places. What stands
-// behind them stays.
-pub fn load_gates(plan: Plan, pins: &mut [u16], tables: &mut [u16])
-    ensures operands { λ _. ⌜ now (pins .exit) ≡ loadedPins plan (now (pins .entry)) (now (tables .entry)) ⌝ }
-    ensures tables { λ _. ⌜ now (tables .exit) ≡ loadedTables plan (now (pins .entry)) (now (tables .entry)) ⌝ }
+// The operands of the plan's gates to the front of `operands`, their tables to the front of `tables`, as far as the record and the lists have
+// places. What stands behind them stays.
+pub fn load_gates(plan: Plan, operands: &mut [u16], tables: &mut [u16])
+    ensures operands { λ _. ⌜ now (operands .exit) ≡ loadedOperands plan (now (operands .entry)) (now (tables .entry)) ⌝ }
+    ensures tables { λ _. ⌜ now (tables .exit) ≡ loadedTables plan (now (operands .entry)) (now (tables .entry)) ⌝ }
 {
-    let count = loaded_gates(plan.gate_count, pins.len(), tables.len());
+    let count = loaded_gates(plan.gate_count, operands.len(), tables.len());
     let mut i: usize = 0;
     while i < count {
         let gate = plan.gates[i];
-        pins[2 * i] = gate.first.0;
-        pins[2 * i + 1] = gate.second.0;
+        operands[2 * i] = gate.first.0;
+        operands[2 * i + 1] = gate.second.0;
         tables[i] = gate.table;
         i += 1;
     }
 }
 
-// How many of so many gates the record and two lists of so many entries have places for.
-fn loaded_gates(gates: u16, pins: usize, tables: usize) -> usize
-    ensures { λ r. ⌜ LoadedCount gates pins tables r ⌝ }
+// How many of the gates the record, a list with `operand_places` places and one with `table_places` have places for.
+fn loaded_gates(gates: u16, operand_places: usize, table_places: usize) -> usize
+    ensures { λ r. ⌜ LoadedCount gates «operand_places» «table_places» r ⌝ }
 {
     smaller(
         gates as usize,
-        smaller(Plan::MAX_GATES, smaller(pins / 2, tables)),
+        smaller(Plan::MAX_GATES, smaller(operand_places / 2, table_places)),
     )
 }
 

@@ -1,5 +1,5 @@
 // What the pins and the outputs want of a selection block. Gates, pins and outputs count from 0, wanted inputs from 1. Every call takes all
-// inputs: an operand past the end of the pins is wire 0, and what the record or a list has no place for is not stored.
+// inputs: an operand past the end of the list is wire 0, and what the record or a list has no place for is not stored.
 ghost use mathlib.Core.Path.{_≡_};
 ghost use Prim.Native.Nat.{_-_, min};
 ghost use lib.ListN.{length, getD, take};
@@ -9,20 +9,20 @@ ghost use Rattle.blocks.specs.Elements.{storeBits};
 ghost use Rattle.lists.specs.Counting.{oneIf};
 ghost use Rattle.fabric_universal.specs.Universal.{wantedGates, mixBits};
 ghost use Rattle.fabric_universal.specs.Fabric.{wantedInput, wantedOutputs};
-ghost use Rattle.fabric_lists.specs.WantedLists.{pinsIn, isAmong, wantedAmong, inputsWanted};
+ghost use Rattle.fabric_lists.specs.WantedLists.{listedOperands, isAmong, wantedAmong, inputsWanted};
 use blocks::smaller;
 use blocks::store_bit;
 use plan::Plan;
 use plan::PlanWire;
 
-// The inputs that the first `count` pins want, at the front of `wanted`, as far as it has places.
-pub fn list_inputs(inputs: u16, count: u32, pins: &[u16], wanted: &mut [u16])
-    ensures { λ _. ⌜ now (wanted .exit) ≡ over (take (length (now (wanted .entry))) (inputsWanted inputs (now (pins .entry)) count)) (now (wanted .entry)) ⌝ }
+// The inputs that the first `count` pins, which have these operands, want, at the front of `wanted`, as far as it has places.
+pub fn list_inputs(inputs: u16, count: u32, operands: &[u16], wanted: &mut [u16])
+    ensures { λ _. ⌜ now (wanted .exit) ≡ over (take (length (now (wanted .entry))) (inputsWanted inputs (now (operands .entry)) count)) (now (wanted .entry)) ⌝ }
 {
     let end = smaller(count as usize, wanted.len());
     let mut q: usize = 0;
     while q < end {
-        wanted[q] = wanted_input(inputs, operand_at(pins, q));
+        wanted[q] = wanted_input(inputs, operand_at(operands, q));
         q += 1;
     }
 }
@@ -47,7 +47,7 @@ pub fn list_outputs(plan: Plan, wanted: &mut [u16])
     }
 }
 
-// Which gate behind so many inputs has the wire, counted from 1; 0 for an input.
+// Which gate behind `inputs` inputs has the wire, counted from 1; 0 for an input.
 fn gate_number(inputs: u16, wire: PlanWire) -> u16
     ensures { λ r. ⌜ r ≡ wire .0 - inputs ⌝ }
 {
@@ -59,8 +59,8 @@ fn gate_number(inputs: u16, wire: PlanWire) -> u16
 
 // The gates of an upper half that the pins of its lower half want, at the front of `wanted`, as far as it has places. The upper half has `half`
 // gates from `base` on, whose wires follow `before` others.
-pub fn list_gates(before: u32, base: u32, half: u32, pins: &[u16], wanted: &mut [u16])
-    ensures { λ _. ⌜ now (wanted .exit) ≡ over (take (length (now (wanted .entry))) (wantedGates (pinsIn before (now (pins .entry))) base half)) (now (wanted .entry)) ⌝ }
+pub fn list_gates(before: u32, base: u32, half: u32, operands: &[u16], wanted: &mut [u16])
+    ensures { λ _. ⌜ now (wanted .exit) ≡ over (take (length (now (wanted .entry))) (wantedGates (listedOperands before (now (operands .entry))) base half)) (now (wanted .entry)) ⌝ }
 {
     let first = before as usize + base as usize;
     let half = half as usize;
@@ -68,12 +68,12 @@ pub fn list_gates(before: u32, base: u32, half: u32, pins: &[u16], wanted: &mut 
     let end = smaller(2 * half, wanted.len());
     let mut j: usize = 0;
     while j < end {
-        wanted[j] = wanted_gate(first, half, operand_at(pins, place + j));
+        wanted[j] = wanted_gate(first, half, operand_at(operands, place + j));
         j += 1;
     }
 }
 
-// Of the `half` gates behind so many wires the operand, counted from 1, if it is one of them, otherwise the first.
+// Of the `half` gates behind `before` wires the operand, counted from 1, if it is one of them, otherwise the first.
 fn wanted_gate(before: usize, half: usize, operand: PlanWire) -> u16
     ensures { λ r. ⌜ r ≡ wantedAmong before half (operand .0) ⌝ }
 {
@@ -88,24 +88,24 @@ pub fn store_choices(
     before: u32,
     base: u32,
     half: u32,
-    pins: &[u16],
+    operands: &[u16],
     program: &mut [u8],
     start: u32,
 )
-    ensures { λ _. ⌜ now (program .exit) ≡ storeBits (now (program .entry)) start (mixBits (pinsIn before (now (pins .entry))) base half) ⌝ }
+    ensures { λ _. ⌜ now (program .exit) ≡ storeBits (now (program .entry)) start (mixBits (listedOperands before (now (operands .entry))) base half) ⌝ }
 {
     let first = before as usize + base as usize;
     let half = half as usize;
     let place = 2 * (base as usize + half);
     let mut j: usize = 0;
     while j < 2 * half {
-        let bit = choice_bit(first, half, operand_at(pins, place + j));
+        let bit = choice_bit(first, half, operand_at(operands, place + j));
         store_bit(program, start as usize + j, bit);
         j += 1;
     }
 }
 
-// The bit of a Y row: 1 if the operand is one of the `half` gates behind so many wires.
+// The bit of a Y row: 1 if the operand is one of the `half` gates behind `before` wires.
 fn choice_bit(before: usize, half: usize, operand: PlanWire) -> u8
     ensures { λ r. ⌜ r ≡ oneIf (isAmong before half (operand .0)) ⌝ }
 {
@@ -115,7 +115,7 @@ fn choice_bit(before: usize, half: usize, operand: PlanWire) -> u8
     0
 }
 
-// Whether the operand is one of the `half` gates behind so many wires.
+// Whether the operand is one of the `half` gates behind `before` wires.
 fn is_among(before: usize, half: usize, operand: PlanWire) -> bool
     ensures { λ r. ⌜ r ≡ isAmong before half (operand .0) ⌝ }
 {
@@ -129,12 +129,12 @@ fn is_among(before: usize, half: usize, operand: PlanWire) -> bool
     true
 }
 
-// The operand of a pin, wire 0 past the end of the list.
-fn operand_at(pins: &[u16], q: usize) -> PlanWire
-    ensures { λ r. ⌜ r .0 ≡ getD (now (pins .entry)) q 0 ⌝ }
+// The operand of pin q, wire 0 past the end of the list.
+fn operand_at(operands: &[u16], q: usize) -> PlanWire
+    ensures { λ r. ⌜ r .0 ≡ getD (now (operands .entry)) q 0 ⌝ }
 {
-    if q < pins.len() {
-        return PlanWire(pins[q]);
+    if q < operands.len() {
+        return PlanWire(operands[q]);
     }
     PlanWire(0)
 }

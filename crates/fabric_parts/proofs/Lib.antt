@@ -1,5 +1,4 @@
--- The elements of U besides its selection block.
--- Laws of the definitions that the calls cite.
+-- G's row and the Y rows
 pub mod ElementLaws
--- Laws of what the calls store.
+-- what the calls for the selection blocks store
 pub mod PutLaws

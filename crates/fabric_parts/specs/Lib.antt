@@ -1,3 +1,3 @@
 -- The fabric's selection blocks in lent buffers.
--- wires from a place of the table on
+-- output wires from a place of the table on
 pub mod Copied

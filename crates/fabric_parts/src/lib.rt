@@ -4,6 +4,6 @@ mod selections;
 mod universal;
 
 pub use selections::put_outputs;
-pub use selections::put_selection;
+pub use selections::write_selection_on;
 pub use universal::write_gate;
 pub use universal::write_mix;

@@ -11,7 +11,7 @@ use elements::FabricWire;
 use plan::Plan;
 
 // S(m, n) on the first m wires of a list: its rows to the front of the table's part, its output wires to the front of `to`.
-pub fn put_selection(
+pub fn write_selection_on(
     m: u16,
     n: u16,
     from: &[u16],
@@ -33,6 +33,6 @@ pub fn put_outputs(gates: u16, v: u16, end: usize, next: FabricWire, rows: &mut 
     let mut outputs = [0u16; Plan::MAX_OUTPUTS];
     let count = smaller(v as usize, Plan::MAX_OUTPUTS);
     let place = smaller(end, rows.len());
-    put_selection(gates, v, outs, next, rows, &mut outputs);
+    write_selection_on(gates, v, outs, next, rows, &mut outputs);
     copy_wires(&outputs[..count], &mut rows[place..]);
 }

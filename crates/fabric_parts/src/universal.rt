@@ -24,7 +24,7 @@ pub fn write_gate(next: FabricWire, rows: &mut [u16], pins: &[u16], outs: &mut [
     put_wires(outs, 1, next, 1);
 }
 
-// The Y rows on so many pins and on what was selected, which stands before them. Their output wires go over these pins.
+// The Y rows on `count` pins and on what was selected, which stands before them. Their output wires go over these pins.
 pub fn write_mix(count: u16, next: FabricWire, rows: &mut [u16], pins: &mut [u16])
     ensures rows { λ _. ⌜ now (rows .exit) ≡ rowsPut (pairRows Kind.Y count (drop count (now (pins .entry))) (now (pins .entry)) 1) (now (rows .entry)) ⌝ }
     ensures pins { λ _. ⌜ now (pins .exit) ≡ take count (now (pins .entry)) ++ wiresPut count (next .0) 1 (drop count (now (pins .entry))) ⌝ }
@@ -34,7 +34,7 @@ pub fn write_mix(count: u16, next: FabricWire, rows: &mut [u16], pins: &mut [u16
     put_wires(&mut pins[middle..], count as usize, next, 1);
 }
 
-// The Y rows alone: on the pins from a place on, and on those from the first on.
+// The Y rows alone: on the pins from the place `middle` on, and on those from the first on.
 fn put_mix(count: u16, middle: usize, rows: &mut [u16], pins: &[u16])
     requires { ⌜ middle ≤ length (now pins) ⌝ }
     ensures { λ _. ⌜ now (rows .exit) ≡ rowsPut (pairRows Kind.Y count (partOf middle (now (pins .entry))) (now (pins .entry)) 1) (now (rows .entry)) ⌝ }

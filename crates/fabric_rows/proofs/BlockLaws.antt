@@ -24,8 +24,8 @@ use Rattle.fabric_universal.specs.Fabric.{gateLevel}
 use Rattle.elements.specs.declared.Counts.{Counts}
 use Rattle.fabric_sizes.specs.Parts.{SelectionIs, UniversalIs}
 use Rattle.fabric_sizes.proofs.PartsLaws.{Halved}
-use Rattle.fabric_rows.specs.declared.block.Parts.{Parts}
-use Rattle.fabric_rows.specs.Block.{middleRows, middlePins, MiddleRoom, UniversalWires, PartsAt}
+use Rattle.fabric_rows.specs.declared.block.UniversalParts.{UniversalParts}
+use Rattle.fabric_rows.specs.Block.{middleRows, middlePins, MiddleRoom, UniversalWires, UniversalPartsAt}
 
 -- ---- the parts of U
 
@@ -62,7 +62,7 @@ module _ {gates half next : ℕ} {upper select : Counts} (w : UniversalWires gat
   part-wire k x l e = e ∙ wire-after next k (omega (arith, wires-fit))
 
 -- what the code computes from the counts of the upper half and of the selection block
-pub record Placed (gates next : ℕ) (upper select : Counts) (p : Parts) : Type 0 where
+pub record UniversalPlaced (gates next : ℕ) (upper select : Counts) (p : UniversalParts) : Type 0 where
   pub pinsAre : p .pins ≡ gates
   pub selectAt : p .select ≡ stride * upper .rows
   pub mixAt : p .mix ≡ stride * select .rows
@@ -71,9 +71,9 @@ pub record Placed (gates next : ℕ) (upper select : Counts) (p : Parts) : Type 
   pub mixFrom : p .«mix_next» .0 ≡ next + (upper .wires + select .wires)
   pub lowerFrom : p .«lower_next» .0 ≡ next + (upper .wires + select .wires + gates)
 
-pub parts-at : {gates next : ℕ} {upper select : Counts} {p : Parts} → UniversalWires gates next → Halved gates (p .half)
+pub parts-at : {gates next : ℕ} {upper select : Counts} {p : UniversalParts} → UniversalWires gates next → Halved gates (p .half)
     → UniversalIs (gateLevel (p .half)) upper → SelectionIs (p .half) (pinCount (gateLevel (p .half))) select
-    → Placed gates next upper select p → PartsAt gates next p
+    → UniversalPlaced gates next upper select p → UniversalPartsAt gates next p
 parts-at w h u s at =
     let pins = pins-are w h u s in
     let count = count-is w h u s in
@@ -148,7 +148,7 @@ mix-rows count P R room =
 
 -- ---- between the halves: R and P are the table's part and the pins after the block, F the stretch of the Y rows
 
-module _ (p : Parts) (O R₀ P₀ : List ℕ) {R P : List ℕ} (room : MiddleRoom p O (length R₀) (length P₀))
+module _ (p : UniversalParts) (O R₀ P₀ : List ℕ) {R P : List ℕ} (room : MiddleRoom p O (length R₀) (length P₀))
     (written : (R ≡ selectionWrittenRows (p .half) (p .pins) (take (p .half) O) (p .«select_next» .0) R₀ P₀)
     × (P ≡ selectionWrittenOutputs (p .half) (p .pins) (take (p .half) O) (p .«select_next» .0) R₀ P₀)) where
   abbrev ins : List ℕ

@@ -1,8 +1,8 @@
--- Laws of the definitions.
--- writing U
+-- the rows and wires that the parts of U write
 pub mod BlockLaws
--- what the call writes is the fabric's table
-pub mod FabricWriteLaws
+-- writing U, in the code's order
 pub mod UniversalWriteLaws
--- writing the fabric
+-- writing the fabric, in the code's order
 pub mod WritingLaws
+-- after success the lent table begins with the fabric's
+pub mod FabricWriteLaws

@@ -18,13 +18,13 @@ use Rattle.blocks.specs.Networks.{selectionRows, selectionOuts, selectionCount,
 use Rattle.blocks.proofs.NetworksLaws.{length-selectionOuts}
 use Rattle.fabric_universal.specs.Selector.{pinCount, selection}
 use Rattle.fabric_universal.proofs.SelectorLaws.{double, selection-shape}
-use Rattle.fabric_universal.specs.Universal.{mixRows, wiresFrom, universalCount, universalWires, selectNext, lowerNext, universalOuts, selectedOuts}
+use Rattle.fabric_universal.specs.Universal.{mixRows, wiresFrom, universalCount, universalWires, selectNext, lowerHalfNext, universalOuts, selectedOuts}
 use Rattle.fabric_universal.specs.Universal.{lowerPins, universalRows}
 use Rattle.fabric_universal.proofs.UniversalLaws.{length-universalOuts, universal-below, length-universalRows, universal-totals}
 use Rattle.fabric_universal.specs.Fabric.{gateLevel}
 use Rattle.fabric_sizes.proofs.PartsLaws.{one-gate}
-use Rattle.fabric_rows.specs.declared.block.Parts.{Parts}
-use Rattle.fabric_rows.specs.Block.{middleRows, middlePins, MiddleRoom, UniversalRoom, PartsAt}
+use Rattle.fabric_rows.specs.declared.block.UniversalParts.{UniversalParts}
+use Rattle.fabric_rows.specs.Block.{middleRows, middlePins, MiddleRoom, UniversalWriteRoom, UniversalPartsAt}
 use Rattle.fabric_rows.proofs.BlockLaws.{gate-rows, gate-outs, length-selection, length-mix}
 
 -- three entries a row
@@ -33,7 +33,7 @@ length-universal n pins next =
     length-flat (universal-totals selection selection-shape n pins next .family)
     ∙ ap (λ k. stride * k) (length-universalRows selection selection-shape n pins next)
 
--- what U of so many gates writes, and that no list changes its length
+-- what U of `gates` gates writes, and that no list changes its length
 pub record UniversalWritten (gates next : ℕ) (R₀ P₀ O₀ R P O : List ℕ) : Type 0 where
   pub rows : R ≡ over (flat (universalRows selection (gateLevel gates) (take (pinCount (gateLevel gates)) P₀) next)) R₀
   pub pins : drop (2 * gates) P ≡ drop (2 * gates) P₀
@@ -44,35 +44,35 @@ pub record UniversalWritten (gates next : ℕ) (R₀ P₀ O₀ R P O : List ℕ)
 -- The steps. R, P and O are the table's part, the pins and the output wires, with a number for each step; F, G and H what a callee was lent of them
 
 -- the parts are found
-pub record Begun (gates next : ℕ) (p : Parts) (R₀ P₀ O₀ : List ℕ) : Type 0 where
-  pub room : UniversalRoom gates next (length R₀) (length P₀) (length O₀)
-  pub at : PartsAt gates next p
+pub record UniversalBegun (gates next : ℕ) (p : UniversalParts) (R₀ P₀ O₀ : List ℕ) : Type 0 where
+  pub room : UniversalWriteRoom gates next (length R₀) (length P₀) (length O₀)
+  pub at : UniversalPartsAt gates next p
 
 -- the upper half is written on the first pins
-pub record UpperDone (next : ℕ) (p : Parts) (R₀ P₀ O₀ R₁ P₁ O₁ : List ℕ) : Type 0 where
+pub record UpperDone (next : ℕ) (p : UniversalParts) (R₀ P₀ O₀ R₁ P₁ O₁ : List ℕ) : Type 0 where
   pub kept : length P₁ ≡ length P₀
   pub rows : R₁ ≡ over (flat (universalRows selection (gateLevel (p .half)) (take (pinCount (gateLevel (p .half))) P₀) next)) R₀
   pub pins : drop (2 * p .half) P₁ ≡ drop (2 * p .half) P₀
   pub outs : O₁ ≡ over (universalOuts selection (gateLevel (p .half)) next) O₀
 
 -- the rows between the halves are written
-pub record MiddleDone (p : Parts) (R₁ P₁ O₁ F₂ P₂ : List ℕ) : Type 0 where
+pub record MiddleDone (p : UniversalParts) (R₁ P₁ O₁ F₂ P₂ : List ℕ) : Type 0 where
   pub rows : F₂ ≡ over (flat (middleRows p O₁ P₁)) (partOf (p .select) R₁)
   pub pins : P₂ ≡ over (middlePins p O₁) P₁
 
 -- the lower half is written on the pins behind
-pub record LowerDone (gates : ℕ) (p : Parts) (R₂ P₂ O₁ F₃ G₃ H₃ : List ℕ) : Type 0 where
+pub record LowerDone (gates : ℕ) (p : UniversalParts) (R₂ P₂ O₁ F₃ G₃ H₃ : List ℕ) : Type 0 where
   pub rows :
       F₃ ≡ over (flat (universalRows selection (gateLevel (p .half)) (take (pinCount (gateLevel (p .half))) (partOf gates P₂)) (p .«lower_next» .0)))
       (partOf (p .lower) R₂)
   pub pins : drop (2 * p .half) G₃ ≡ drop (2 * p .half) (partOf gates P₂)
   pub outs : H₃ ≡ over (universalOuts selection (gateLevel (p .half)) (p .«lower_next» .0)) (partOf (p .half) O₁)
 
-module _ {gates next : ℕ} {p : Parts} {R₀ P₀ O₀ : List ℕ} (begun : Begun gates next p R₀ P₀ O₀) where
-  room : UniversalRoom gates next (length R₀) (length P₀) (length O₀)
+module _ {gates next : ℕ} {p : UniversalParts} {R₀ P₀ O₀ : List ℕ} (begun : UniversalBegun gates next p R₀ P₀ O₀) where
+  room : UniversalWriteRoom gates next (length R₀) (length P₀) (length O₀)
   room = begun .room
 
-  at : PartsAt gates next p
+  at : UniversalPartsAt gates next p
   at = begun .at
 
   -- the levels of the halves and of the whole
@@ -97,8 +97,8 @@ module _ {gates next : ℕ} {p : Parts} {R₀ P₀ O₀ : List ℕ} (begun : Beg
   wires-are : selectionWires (p .half) (p .pins) ≡ selection n .wires
   wires-are = ap₂ selectionWires (at .halfIs) pins-are
 
-  pub upper-room : UniversalRoom (p .half) next (length R₀) (length P₀) (length O₀)
-  upper-room =
+  pub upper-write-room : UniversalWriteRoom (p .half) next (length R₀) (length P₀) (length O₀)
+  upper-write-room =
       let double = at .double in
       let pins = at .pinsAre in
       record {
@@ -279,8 +279,8 @@ module _ {gates next : ℕ} {p : Parts} {R₀ P₀ O₀ : List ℕ} (begun : Beg
           ∙ take-at W rest (pinCount n) (length-listOf (p .pins) (λ j. p .«mix_next» .0 + j) ∙ pins-are)
           ∙ ap₂ wiresFrom pins-are (at .mixFrom)
 
-      pub lower-room : UniversalRoom (p .half) (p .«lower_next» .0) (length (partOf (p .lower) R₂)) (length (partOf gates P₂)) (length (partOf (p .half) O₁))
-      lower-room =
+      pub lower-write-room : UniversalWriteRoom (p .half) (p .«lower_next» .0) (length (partOf (p .lower) R₂)) (length (partOf gates P₂)) (length (partOf (p .half) O₁))
+      lower-write-room =
           let double = at .double in
           let pins = at .pinsAre in
           record {
@@ -295,7 +295,7 @@ module _ {gates next : ℕ} {p : Parts} {R₀ P₀ O₀ : List ℕ} (begun : Beg
       -- after the lower half
       module _ {F₃ G₃ H₃ : List ℕ} (lower : LowerDone gates p R₂ P₂ O₁ F₃ G₃ H₃) where
         abbrev D : List ℕ
-        D = flat (universalRows selection n (lowerPins selection n next) (lowerNext selection n next))
+        D = flat (universalRows selection n (lowerPins selection n next) (lowerHalfNext selection n next))
 
         lower-rows : F₃ ≡ over D (partOf (p .lower) R₂)
         lower-rows =
@@ -310,20 +310,20 @@ module _ {gates next : ℕ} {p : Parts} {R₀ P₀ O₀ : List ℕ} (begun : Beg
             let whole = at .whole in
             let rows = room .rowRoom in
             over-part (A ++ M) R₀ R₂ (p .lower) length-both (omega arith) both-rows D F₃
-            (omega (arith, length-universal n (lowerPins selection n next) (lowerNext selection n next))) lower-rows
+            (omega (arith, length-universal n (lowerPins selection n next) (lowerHalfNext selection n next))) lower-rows
             ∙ ap (λ l. over l R₀) (sym flat-parts ∙ ap (λ m. flat (universalRows selection m pins next)) (sym (at .level)))
 
-        outs-parts : universalOuts selection (suc n) next ≡ universalOuts selection n next ++ universalOuts selection n (lowerNext selection n next)
+        outs-parts : universalOuts selection (suc n) next ≡ universalOuts selection n next ++ universalOuts selection n (lowerHalfNext selection n next)
         unfolding universalOuts
         outs-parts = refl
 
         outs-written : withPart (p .half) O₁ H₃ ≡ over (universalOuts selection level next) O₀
         outs-written =
-            let outs = universalOuts selection n (lowerNext selection n next) in
+            let outs = universalOuts selection n (lowerHalfNext selection n next) in
             let double = at .double in
             let pins = at .pinsAre in
             over-part (universalOuts selection n next) O₀ O₁ (p .half) length-outs (omega (arith, room .outRoom)) (upper .outs) outs H₃
-            (omega (arith, length-universalOuts selection n (lowerNext selection n next), at .halfIs, room .outRoom))
+            (omega (arith, length-universalOuts selection n (lowerHalfNext selection n next), at .halfIs, room .outRoom))
             (lower .outs ∙ ap (λ k. over (universalOuts selection n k) (partOf (p .half) O₁)) (at .lowerFrom))
             ∙ ap (λ l. over l O₀) (sym outs-parts ∙ ap (λ m. universalOuts selection m next) (sym (at .level)))
 
@@ -364,7 +364,7 @@ module _ {gates next : ℕ} {p : Parts} {R₀ P₀ O₀ : List ℕ} (begun : Beg
         }
 
 -- U(1)
-pub gate-written : {gates next : ℕ} (R₀ P O₀ : List ℕ) {R O : List ℕ} → gates ≤ 1 → UniversalRoom gates next (length R₀) (length P) (length O₀)
+pub gate-written : {gates next : ℕ} (R₀ P O₀ : List ℕ) {R O : List ℕ} → gates ≤ 1 → UniversalWriteRoom gates next (length R₀) (length P) (length O₀)
     → (R ≡ rowsPut (Gate (getD P 0 0 ∷ getD P 1 0 ∷ []) ∷ []) R₀) × (O ≡ wiresPut 1 next 1 O₀)
     → (R ≡ over (flat (universalRows selection (gateLevel gates) (take (pinCount (gateLevel gates)) P) next)) R₀)
     × (O ≡ over (universalOuts selection (gateLevel gates) next) O₀)

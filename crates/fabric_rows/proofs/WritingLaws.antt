@@ -23,18 +23,18 @@ use Rattle.fabric_parts.specs.Copied.{copiedAt}
 use Rattle.fabric_universal.specs.Selector.{pinCount, selection}
 use Rattle.fabric_universal.specs.Universal.{universalCount, universalWires, universalOuts, universalRows}
 use Rattle.fabric_universal.proofs.UniversalLaws.{length-universalOuts}
-use Rattle.fabric_universal.specs.Fabric.{gateLevel, inputWires, fabricPins, universalNext, outputNext, gateOuts, fabricRows, fabricOuts}
+use Rattle.fabric_universal.specs.Fabric.{gateLevel, inputWires, fabricPins, universalNext, fabricOutputNext, gateOuts, fabricRows, fabricOuts}
 use Rattle.fabric_universal.specs.Fabric.{fabricCount, fabricWires, fabricTable}
 use Rattle.fabric_universal.proofs.FabricLaws.{length-inputWires, inputs-below, gates-below, fabric-within}
-use Rattle.fabric_sizes.specs.Layout.{header}
+use Rattle.fabric_sizes.specs.Layout.{header, rowStart}
 use Rattle.elements.specs.declared.Counts.{Counts}
 use Rattle.fabric_sizes.specs.Counting.{tableLength}
 use Rattle.fabric_sizes.specs.Parts.{maxPins, PlacesAre, SelectionIs, UniversalIs}
 use Rattle.fabric_sizes.proofs.PartsLaws.{few-places, same-level}
 use Rattle.fabric_rows.specs.declared.writing.Layout.{Layout}
 use Rattle.fabric_sizes.specs.FabricChecks.{FabricPasses}
-use Rattle.fabric_rows.specs.Writing.{LayoutIs, PinRoom, outputEntries, OutputRoom}
-use Rattle.fabric_rows.specs.Block.{UniversalRoom}
+use Rattle.fabric_rows.specs.Writing.{LayoutIs, PinRoom, outputEntries, FabricOutputRoom}
+use Rattle.fabric_rows.specs.Block.{UniversalWriteRoom}
 use Rattle.fabric_rows.proofs.BlockLaws.{selection-put, length-selection, over-behind}
 use Rattle.fabric_rows.proofs.UniversalWriteLaws.{length-universal}
 
@@ -43,8 +43,8 @@ use Rattle.fabric_rows.proofs.UniversalWriteLaws.{length-universal}
 -- what the code computes from the parts' counts
 pub record LaidOut (u : ℕ) (pins universal outputs : Counts) (l : Layout) : Type 0 where
   pub isRows : l .rows ≡ pins .rows + universal .rows + outputs .rows
-  pub universalAt : l .universal ≡ header + stride * pins .rows
-  pub outputsAt : l .outputs ≡ header + stride * (pins .rows + universal .rows)
+  pub universalAt : l .universal ≡ rowStart (pins .rows)
+  pub outputsAt : l .outputs ≡ rowStart (pins .rows + universal .rows)
   pub endAt : l .end ≡ stride * outputs .rows
   pub universalFrom : l .«universal_next» .0 ≡ 1 + u + pins .wires
   pub outputFrom : l .«output_next» .0 ≡ 1 + u + pins .wires + universal .wires
@@ -107,7 +107,7 @@ module _ {u gates : ℕ} {A : List ℕ} (I R₀ P₀ : List ℕ) (room : PinRoom
 abbrev noOutputs : List ℕ
 noOutputs = replicate maxOutputs 0
 
-outputs-put : {gates v end next : ℕ} {outs : List ℕ} (R₀ : List ℕ) {F : List ℕ} → OutputRoom gates v end next outs (length R₀)
+outputs-put : {gates v end next : ℕ} {outs : List ℕ} (R₀ : List ℕ) {F : List ℕ} → FabricOutputRoom gates v end next outs (length R₀)
     → F ≡ copiedAt end (take v (selectionWrittenOutputs gates v (take gates outs) next R₀ noOutputs))
     (selectionWrittenRows gates v (take gates outs) next R₀ noOutputs)
     → F ≡ over (outputEntries gates v outs next) R₀
@@ -128,21 +128,24 @@ outputs-put {gates} {v} {end} {next} {outs} R₀ room e =
 
 -- ---- the steps. T is the table, with a number for each step, F what a callee was lent of it; P and O the lists of pins and of the gates' wires
 
-pub record Begun (u k v : ℕ) (l : Layout) (T₀ T₁ : List ℕ) : Type 0 where
+-- the checks passed, the layout is found, the header stands
+pub record FabricBegun (u k v : ℕ) (l : Layout) (T₀ T₁ : List ℕ) : Type 0 where
   pub passes : FabricPasses u k v (length T₀)
   pub layout : LayoutIs u k v l
   pub headed : T₁ ≡ over (u ∷ v ∷ l .rows ∷ []) T₀
 
+-- S(u, 2K) is written
 pub record PinsDone (u : ℕ) (l : Layout) (T₁ P₀ F₂ P₂ : List ℕ) : Type 0 where
   pub rows : F₂ ≡ over (flat (selectionRows u (2 * l .gates) (inputWires u) (suc u))) (partOf header T₁)
   pub pins : P₂ ≡ over (selectionOuts u (2 * l .gates) (inputWires u) (suc u)) P₀
 
+-- U(K) is written
 pub record GatesDone (l : Layout) (T₂ P₂ O₀ F₃ O₃ : List ℕ) : Type 0 where
   pub rows :
       F₃ ≡ over (flat (universalRows selection (gateLevel (l .gates)) (take (pinCount (gateLevel (l .gates))) P₂) (l .«universal_next» .0))) (partOf (l .universal) T₂)
   pub outs : O₃ ≡ over (universalOuts selection (gateLevel (l .gates)) (l .«universal_next» .0)) O₀
 
-module _ {u k v : ℕ} {l : Layout} {T₀ T₁ : List ℕ} (begun : Begun u k v l T₀ T₁) where
+module _ {u k v : ℕ} {l : Layout} {T₀ T₁ : List ℕ} (begun : FabricBegun u k v l T₀ T₁) where
   abbrev n : ℕ
   n = gateLevel k
 
@@ -226,8 +229,8 @@ module _ {u k v : ℕ} {l : Layout} {T₀ T₁ : List ℕ} (begun : Begun u k v 
     rows-at : universalCount selection (gateLevel (l .gates)) ≡ universalCount selection n
     rows-at = ap (universalCount selection) level-is
 
-    pub gates-room : UniversalRoom (l .gates) (l .«universal_next» .0) (length (partOf (l .universal) T₂)) maxPins maxGates
-    gates-room =
+    pub universal-write-room : UniversalWriteRoom (l .gates) (l .«universal_next» .0) (length (partOf (l .universal) T₂)) maxPins maxGates
+    universal-write-room =
         let few = at .fewGates in
         record {
           power = at .areGates ∙ ap (λ m. 2 ^ m) (sym level-is);
@@ -274,7 +277,7 @@ module _ {u k v : ℕ} {l : Layout} {T₀ T₁ : List ℕ} (begun : Begun u k v 
           rw (gated .outs) (take-at outs (drop (length outs) O₀) (l .gates) long)
           ∙ ap₂ (universalOuts selection) level-is (at .universalFrom)
 
-      output-room : OutputRoom (l .gates) v (l .end) (l .«output_next» .0) O₃ (length (partOf (l .outputs) T₃))
+      output-room : FabricOutputRoom (l .gates) v (l .end) (l .«output_next» .0) O₃ (length (partOf (l .outputs) T₃))
       output-room =
           let counts = begun .passes .counts in
           let endIs : l .end ≡ stride * selectionCount (l .gates) v =
@@ -304,7 +307,7 @@ module _ {u k v : ℕ} {l : Layout} {T₀ T₁ : List ℕ} (begun : Begun u k v 
           (take v (selectionWrittenOutputs (l .gates) v (take (l .gates) O₃) (l .«output_next» .0) (partOf (l .outputs) T₃) noOutputs))
           (selectionWrittenRows (l .gates) v (take (l .gates) O₃) (l .«output_next» .0) (partOf (l .outputs) T₃) noOutputs)) where
         abbrev C : List ℕ
-        C = flat (selectionRows (2 ^ n) v (gateOuts u k) (outputNext u k)) ++ fabricOuts u k v
+        C = flat (selectionRows (2 ^ n) v (gateOuts u k) (fabricOutputNext u k)) ++ fabricOuts u k v
 
         output-rows : F₄ ≡ over C (partOf (l .outputs) T₃)
         unfolding fabricOuts outputEntries
@@ -318,11 +321,11 @@ module _ {u k v : ℕ} {l : Layout} {T₀ T₁ : List ℕ} (begun : Begun u k v 
         length-C : length C ≡ l .end + v
         unfolding fabricOuts
         length-C =
-            length-append (flat (selectionRows (2 ^ n) v (gateOuts u k) (outputNext u k))) (fabricOuts u k v)
+            length-append (flat (selectionRows (2 ^ n) v (gateOuts u k) (fabricOutputNext u k))) (fabricOuts u k v)
             ∙ omega (
               arith,
-              length-selection (2 ^ n) v (gateOuts u k) (outputNext u k),
-              length-selectionOuts (2 ^ n) v (gateOuts u k) (outputNext u k),
+              length-selection (2 ^ n) v (gateOuts u k) (fabricOutputNext u k),
+              length-selectionOuts (2 ^ n) v (gateOuts u k) (fabricOutputNext u k),
               at .endAt,
             )
 

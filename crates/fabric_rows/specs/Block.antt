@@ -9,31 +9,31 @@ use Rattle.blocks.specs.Networks.{selectionRows, selectionOuts, selectionCount}
 use Rattle.blocks.specs.Calls.{SelectionWritePasses}
 use Rattle.elements.specs.Elements.{maxWires}
 use Rattle.fabric_universal.specs.Selector.{selection}
-use Rattle.fabric_universal.specs.Universal.{mixRows, wiresFrom, universalCount, universalWires, selectNext, mixNext, lowerNext}
+use Rattle.fabric_universal.specs.Universal.{mixRows, wiresFrom, universalCount, universalWires, selectNext, mixNext, lowerHalfNext}
 use Rattle.fabric_universal.specs.Fabric.{gateLevel}
-use Rattle.fabric_rows.specs.declared.block.Parts.{Parts}
+use Rattle.fabric_rows.specs.declared.block.UniversalParts.{UniversalParts}
 
 -- the rows between the halves: the selection block on the first of the wires `outs`, then a Y row for each of the lower half's pins
-unfoldable pub middleRows : Parts → List ℕ → List ℕ → List Row
+unfoldable pub middleRows : UniversalParts → List ℕ → List ℕ → List Row
 middleRows p outs pins =
     selectionRows (p .half) (p .pins) (take (p .half) outs) (p .«select_next» .0)
     ++ mixRows (p .pins) pins (selectionOuts (p .half) (p .pins) (take (p .half) outs) (p .«select_next» .0))
 
 -- what stands in the pins' places then: the output wires of the selection block, and those of the Y rows
-unfoldable pub middlePins : Parts → List ℕ → List ℕ
+unfoldable pub middlePins : UniversalParts → List ℕ → List ℕ
 middlePins p outs = selectionOuts (p .half) (p .pins) (take (p .half) outs) (p .«select_next» .0) ++ wiresFrom (p .pins) (p .«mix_next» .0)
 
 -- ---- what fits
 
--- the wires of U of so many gates, a power of two above 1
+-- the wires of U of `gates` gates, a power of two above 1
 pub record UniversalWires (gates next : ℕ) : Type 0 where
   pub some : 1 < gates
   pub power : gates ≡ 2 ^ gateLevel gates
   pub few : gates ≤ maxGates
   pub wires : next + universalWires selection (gateLevel gates) ≤ maxWires
 
--- U of so many gates, a power of two, with so many entries for its rows, its pins and its output wires
-pub record UniversalRoom (gates next rows pins outs : ℕ) : Type 0 where
+-- U of `gates` gates, a power of two, with places for `rows`, `pins` and `outs` entries of its rows, its pins and its output wires
+pub record UniversalWriteRoom (gates next rows pins outs : ℕ) : Type 0 where
   pub power : gates ≡ 2 ^ gateLevel gates
   pub few : gates ≤ maxGates
   pub wires : next + universalWires selection (gateLevel gates) ≤ maxWires
@@ -42,16 +42,15 @@ pub record UniversalRoom (gates next rows pins outs : ℕ) : Type 0 where
   pub outRoom : gates ≤ outs
 
 -- what stands between the halves
-pub record MiddleRoom (p : Parts) (outs : List ℕ) (rows pins : ℕ) : Type 0 where
+pub record MiddleRoom (p : UniversalParts) (outs : List ℕ) (rows pins : ℕ) : Type 0 where
   pub select : SelectionWritePasses (p .half) (p .pins) (take (p .half) outs) (p .«select_next» .0) rows pins
   pub mixAt : p .mix ≡ stride * selectionCount (p .half) (p .pins)
   pub rowRoom : p .mix + stride * p .pins ≤ rows
   pub pinRoom : 2 * p .pins ≤ pins
   pub wires : p .«mix_next» .0 + p .pins ≤ maxWires
 
--- ---- where the parts of U begin; the Y rows' place is counted from the selection block's
-
-pub record PartsAt (gates next : ℕ) (p : Parts) : Type 0 where
+-- where the parts of U begin; the Y rows' place is counted from the selection block's
+pub record UniversalPartsAt (gates next : ℕ) (p : UniversalParts) : Type 0 where
   pub halfIs : p .half ≡ 2 ^ gateLevel (p .half)
   pub pinsAre : p .pins ≡ 2 * p .half
   pub double : gates ≡ p .pins
@@ -64,5 +63,5 @@ pub record PartsAt (gates next : ℕ) (p : Parts) : Type 0 where
   pub whole : stride * universalCount selection (gateLevel gates) ≡ p .lower + stride * universalCount selection (gateLevel (p .half))
   pub selectFrom : p .«select_next» .0 ≡ selectNext selection (gateLevel (p .half)) next
   pub mixFrom : p .«mix_next» .0 ≡ mixNext selection (gateLevel (p .half)) next
-  pub lowerFrom : p .«lower_next» .0 ≡ lowerNext selection (gateLevel (p .half)) next
+  pub lowerFrom : p .«lower_next» .0 ≡ lowerHalfNext selection (gateLevel (p .half)) next
   pub made : p .«lower_next» .0 + universalWires selection (gateLevel (p .half)) ≤ maxWires

@@ -1,6 +1,7 @@
--- Document 01, "Counting and fabric": the definitions of the call that writes the fabric's table.
--- the lent table after it
+-- Document 01, "Fabric": its table in a lent buffer.
+-- what the call leaves in the lent table
 pub mod FabricCalls
--- what the functions under the call need
+-- what the writer of U requires of its parts
 pub mod Block
+-- what the functions under the call require of theirs
 pub mod Writing

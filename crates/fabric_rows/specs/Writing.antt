@@ -10,8 +10,8 @@ use Rattle.elements.specs.Elements.{maxWires}
 use Rattle.blocks.specs.Calls.{SelectionWritePasses}
 use Rattle.fabric_universal.specs.Selector.{pinCount, selection}
 use Rattle.fabric_universal.specs.Universal.{universalCount}
-use Rattle.fabric_universal.specs.Fabric.{gateLevel, inputWires, universalNext, outputNext, fabricCount}
-use Rattle.fabric_sizes.specs.Layout.{header}
+use Rattle.fabric_universal.specs.Fabric.{gateLevel, inputWires, universalNext, fabricOutputNext, fabricCount}
+use Rattle.fabric_sizes.specs.Layout.{header, rowStart}
 use Rattle.fabric_sizes.specs.Counting.{tableLength}
 use Rattle.fabric_rows.specs.declared.writing.Layout.{Layout}
 
@@ -22,13 +22,13 @@ pub record LayoutIs (u k v : ℕ) (l : Layout) : Type 0 where
   pub areGates : l .gates ≡ 2 ^ gateLevel k
   pub someGates : 1 ≤ l .gates
   pub fewGates : l .gates ≤ maxGates
-  pub universalAt : l .universal ≡ header + stride * selectionCount u (pinCount (gateLevel k))
+  pub universalAt : l .universal ≡ rowStart (selectionCount u (pinCount (gateLevel k)))
   pub outputsAt : l .outputs ≡ l .universal + stride * universalCount selection (gateLevel k)
   pub endAt : l .end ≡ stride * selectionCount (2 ^ gateLevel k) v
   pub whole : tableLength u k v ≡ l .outputs + (l .end + v)
   pub universalFrom : l .«universal_next» .0 ≡ universalNext u k
-  pub outputFrom : l .«output_next» .0 ≡ outputNext u k
-  pub wires : outputNext u k + selectionWires (2 ^ gateLevel k) v ≤ maxWires
+  pub outputFrom : l .«output_next» .0 ≡ fabricOutputNext u k
+  pub wires : fabricOutputNext u k + selectionWires (2 ^ gateLevel k) v ≤ maxWires
 
 -- the number of rows is of 16 bits
 pub record HeaderRoom (rows room : ℕ) : Type 0 where
@@ -45,7 +45,8 @@ pub record PinRoom (u gates rows pins : ℕ) : Type 0 where
 unfoldable pub outputEntries : ℕ → ℕ → List ℕ → ℕ → List ℕ
 outputEntries gates v outs next = flat (selectionRows gates v (take gates outs) next) ++ selectionOuts gates v (take gates outs) next
 
-pub record OutputRoom (gates v end next : ℕ) (outs : List ℕ) (rows : ℕ) : Type 0 where
+-- room for them: the output wires from the entry `end` on, in a part of the table of `rows` entries
+pub record FabricOutputRoom (gates v end next : ℕ) (outs : List ℕ) (rows : ℕ) : Type 0 where
   pub passes : SelectionWritePasses gates v (take gates outs) next rows maxOutputs
   pub endAt : end ≡ stride * selectionCount gates v
   pub enough : end + v ≤ rows

@@ -8,10 +8,10 @@ ghost use Rattle.blocks.specs.Elements.{flat};
 ghost use Rattle.fabric_universal.specs.Selector.{pinCount, selection};
 ghost use Rattle.fabric_universal.specs.Universal.{universalOuts, universalRows};
 ghost use Rattle.fabric_universal.specs.Fabric.{gateLevel};
-ghost use Rattle.fabric_rows.specs.Block.{middleRows, middlePins, MiddleRoom, UniversalWires, UniversalRoom, PartsAt};
+ghost use Rattle.fabric_rows.specs.Block.{middleRows, middlePins, MiddleRoom, UniversalWires, UniversalWriteRoom, UniversalPartsAt};
 use blocks::row_place;
 use elements::FabricWire;
-use fabric_parts::put_selection;
+use fabric_parts::write_selection_on;
 use fabric_parts::write_gate;
 use fabric_parts::write_mix;
 use fabric_sizes::pin_counts;
@@ -19,7 +19,7 @@ use fabric_sizes::universal_counts;
 
 // The gates and the pins of a half; where the parts of U begin in its stretch of the table, the Y rows counted from the selection block's
 // place; and the first wires that they make.
-struct Parts {
+struct UniversalParts {
     half: u16,
     pins: u16,
     select: usize,
@@ -30,7 +30,7 @@ struct Parts {
     lower_next: FabricWire,
 }
 
-// U of so many gates, a power of two, on the first pins of the list: its rows to the front of the table's part, its output wires to the front
+// U of `gates` gates, a power of two, on the first pins of the list: its rows to the front of the table's part, its output wires to the front
 // of `outs`. These pins are used up; those behind them stay.
 pub(crate) fn write_universal(
     gates: u16,
@@ -39,13 +39,13 @@ pub(crate) fn write_universal(
     pins: &mut [u16],
     outs: &mut [u16],
 )
-    requires { ⌜ UniversalRoom gates (next .0) (length (now rows)) (length (now pins)) (length (now outs)) ⌝ }
+    requires { ⌜ UniversalWriteRoom gates (next .0) (length (now rows)) (length (now pins)) (length (now outs)) ⌝ }
     ensures rows { λ _. ⌜ now (rows .exit) ≡ over (flat (universalRows selection (gateLevel gates) (take (pinCount (gateLevel gates)) (now (pins .entry))) (next .0))) (now (rows .entry)) ⌝ }
     ensures pins { λ _. ⌜ drop (2 * gates) (now (pins .exit)) ≡ drop (2 * gates) (now (pins .entry)) ⌝ }
     ensures outs { λ _. ⌜ now (outs .exit) ≡ over (universalOuts selection (gateLevel gates) (next .0)) (now (outs .entry)) ⌝ }
 {
     if 1 < gates {
-        let parts = parts_of(gates, next);
+        let parts = universal_parts(gates, next);
         let half = parts.half;
         let select = parts.select;
         let lower = parts.lower;
@@ -65,10 +65,10 @@ pub(crate) fn write_universal(
     }
 }
 
-// The parts of U of more than one gate.
-fn parts_of(gates: u16, next: FabricWire) -> Parts
+// The parts of U of `gates` gates, more than one.
+fn universal_parts(gates: u16, next: FabricWire) -> UniversalParts
     requires { ⌜ UniversalWires gates (next .0) ⌝ }
-    ensures { λ r. ⌜ PartsAt gates (next .0) r ⌝ }
+    ensures { λ r. ⌜ UniversalPartsAt gates (next .0) r ⌝ }
 {
     let half = gates / 2;
     let upper = universal_counts(half);
@@ -76,7 +76,7 @@ fn parts_of(gates: u16, next: FabricWire) -> Parts
     let mixed = gates as u32;
     let count = upper.rows + select.rows;
     let made = upper.wires + select.wires;
-    Parts {
+    UniversalParts {
         half,
         pins: gates,
         select: row_place(upper.rows),
@@ -90,12 +90,12 @@ fn parts_of(gates: u16, next: FabricWire) -> Parts
 
 // Between the halves: the selection block, whose output wires go over the upper half's pins, and the Y rows, whose output wires go over the
 // lower half's.
-fn write_middle(parts: Parts, rows: &mut [u16], pins: &mut [u16], outs: &[u16])
+fn write_middle(parts: UniversalParts, rows: &mut [u16], pins: &mut [u16], outs: &[u16])
     requires { ⌜ MiddleRoom parts (now outs) (length (now rows)) (length (now pins)) ⌝ }
     ensures rows { λ _. ⌜ now (rows .exit) ≡ over (flat (middleRows parts (now (outs .entry)) (now (pins .entry)))) (now (rows .entry)) ⌝ }
     ensures pins { λ _. ⌜ now (pins .exit) ≡ over (middlePins parts (now (outs .entry))) (now (pins .entry)) ⌝ }
 {
     let mix = parts.mix;
-    put_selection(parts.half, parts.pins, outs, parts.select_next, rows, pins);
+    write_selection_on(parts.half, parts.pins, outs, parts.select_next, rows, pins);
     write_mix(parts.pins, parts.mix_next, &mut rows[mix..], pins);
 }

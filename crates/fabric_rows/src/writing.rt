@@ -18,9 +18,12 @@ use blocks::put_wires;
 use blocks::row_place;
 use elements::FabricWire;
 use fabric_parts::put_outputs;
-use fabric_parts::put_selection;
+use fabric_parts::write_selection_on;
 use fabric_sizes::HEADER;
+use fabric_sizes::INPUTS;
 use fabric_sizes::MAX_PINS;
+use fabric_sizes::OUTPUTS;
+use fabric_sizes::ROWS;
 use fabric_sizes::check_fabric;
 use fabric_sizes::gate_places;
 use fabric_sizes::output_counts;
@@ -111,9 +114,9 @@ fn put_header(u: u16, v: u16, rows: u32, table: &mut [u16])
     requires { ⌜ HeaderRoom rows (length (now table)) ⌝ }
     ensures { λ _. ⌜ now (table .exit) ≡ over (u ∷ v ∷ rows ∷ []) (now (table .entry)) ⌝ }
 {
-    table[0] = u;
-    table[1] = v;
-    table[2] = rows as u16;
+    table[INPUTS] = u;
+    table[OUTPUTS] = v;
+    table[ROWS] = rows as u16;
 }
 
 // S(u, 2K) on the inputs: its rows to the front of the table's part, its output wires, which are the pins, to the front of their list.
@@ -125,5 +128,5 @@ fn put_pins(u: u16, gates: u16, rows: &mut [u16], pins: &mut [u16])
     let mut inputs = [0u16; Plan::MAX_INPUTS];
     put_wires(&mut inputs, u as usize, FabricWire(1), 1);
     let next = FabricWire(u as u32 + 1);
-    put_selection(u, 2 * gates, &inputs, next, rows, pins);
+    write_selection_on(u, 2 * gates, &inputs, next, rows, pins);
 }

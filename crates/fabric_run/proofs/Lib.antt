@@ -1,6 +1,10 @@
-pub mod RowLaws
--- where no check fails
-pub mod RunCallsLaws
-pub mod RunLaws
+-- a run of bits gives bits, one for each wire
 pub mod RunningLaws
+-- the start of a run on the work buffer
 pub mod WorkLaws
+-- what a row chooses and makes
+pub mod RowLaws
+-- the run on the work buffer, row by row
+pub mod RunLaws
+-- where no check fails: what the calls need, and what the outputs are
+pub mod RunCallsLaws

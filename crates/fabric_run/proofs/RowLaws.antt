@@ -11,7 +11,7 @@ use Rattle.lists.specs.Lists.{listOf}
 use Rattle.lists.proofs.ListsLaws.{getD-listOf}
 use Rattle.blocks.specs.Elements.{X, Y, Gate, gateBits, takes, rowOf, choose, State, outputs, lineOf, gateOnBits, bitAt, unpack}
 use Rattle.blocks.proofs.ElementsLaws.{unpack-at}
-use Rattle.fabric_run.specs.RunRows.{seen, rowDone, leftOf, rightOf, RowRoom}
+use Rattle.fabric_run.specs.RunRows.{rowState, rowDone, leftOf, rightOf, RowRoom}
 
 -- ---- the wire that a bit chooses
 
@@ -52,17 +52,17 @@ module _ (program : List ℕ) (p : ℕ) (work : List ℕ) where
   seen-bit i h = getD-listOf gateBits (λ j. bitAt program (p + j)) i 0 h
 
   pub x-makes : (l r : ℕ) → let b = bitAt program p in
-      outputs 0 gateOnBits (X l r) (seen program p work)
+      outputs 0 gateOnBits (X l r) (rowState program p work)
       ≡ choose b (getD work l 0) (getD work r 0) ∷ choose b (getD work r 0) (getD work l 0) ∷ []
   unfolding outputs
   x-makes l r = rw (seen-bit 0 (omega arith), add-zero p)
 
-  pub y-makes : (l r : ℕ) → outputs 0 gateOnBits (Y l r) (seen program p work) ≡ choose (bitAt program p) (getD work l 0) (getD work r 0) ∷ []
+  pub y-makes : (l r : ℕ) → outputs 0 gateOnBits (Y l r) (rowState program p work) ≡ choose (bitAt program p) (getD work l 0) (getD work r 0) ∷ []
   unfolding outputs
   y-makes l r = rw (seen-bit 0 (omega arith), add-zero p)
 
   pub g-makes : (l r : ℕ) → getD work l 0 ≤ 1 → getD work r 0 ≤ 1
-      → outputs 0 gateOnBits (Gate (l ∷ r ∷ [])) (seen program p work) ≡ bitAt program (p + (2 * getD work l 0 + getD work r 0)) ∷ []
+      → outputs 0 gateOnBits (Gate (l ∷ r ∷ [])) (rowState program p work) ≡ bitAt program (p + (2 * getD work l 0 + getD work r 0)) ∷ []
   unfolding outputs gateOnBits
   g-makes l r a b =
       let line = 2 * getD work l 0 + getD work r 0 in
@@ -82,20 +82,20 @@ module _ (program : List ℕ) (n p : ℕ) (work : List ℕ) (s : State ℕ) (lef
 
   module _ (l r : ℕ) (el : getD (s .wires) l 0 ≡ getD work l 0) (er : getD (s .wires) r 0 ≡ getD work r 0)
       (a : getD work l 0 ≤ 1) (b : getD work r 0 ≤ 1) where
-    sees-x : p + 1 ≤ n → outputs 0 gateOnBits (X l r) s ≡ outputs 0 gateOnBits (X l r) (seen program p work)
+    sees-x : p + 1 ≤ n → outputs 0 gateOnBits (X l r) s ≡ outputs 0 gateOnBits (X l r) (rowState program p work)
     unfolding outputs
     sees-x h = rw (x-makes program p work l r) (rw (el, er, left-bit 0 (omega arith), add-zero p))
 
-    sees-y : p + 1 ≤ n → outputs 0 gateOnBits (Y l r) s ≡ outputs 0 gateOnBits (Y l r) (seen program p work)
+    sees-y : p + 1 ≤ n → outputs 0 gateOnBits (Y l r) s ≡ outputs 0 gateOnBits (Y l r) (rowState program p work)
     unfolding outputs
     sees-y h = rw (y-makes program p work l r) (rw (el, er, left-bit 0 (omega arith), add-zero p))
 
-    sees-g : p + gateBits ≤ n → outputs 0 gateOnBits (Gate (l ∷ r ∷ [])) s ≡ outputs 0 gateOnBits (Gate (l ∷ r ∷ [])) (seen program p work)
+    sees-g : p + gateBits ≤ n → outputs 0 gateOnBits (Gate (l ∷ r ∷ [])) s ≡ outputs 0 gateOnBits (Gate (l ∷ r ∷ [])) (rowState program p work)
     unfolding outputs gateOnBits
     sees-g h = rw (g-makes program p work l r a b) (rw (el, er, left-table h (getD work l 0) (getD work r 0) a b))
 
     pub sees-row : (kind : ℕ) → p + takes (rowOf kind l r) ≤ n
-        → outputs 0 gateOnBits (rowOf kind l r) s ≡ outputs 0 gateOnBits (rowOf kind l r) (seen program p work)
+        → outputs 0 gateOnBits (rowOf kind l r) s ≡ outputs 0 gateOnBits (rowOf kind l r) (rowState program p work)
     unfolding rowOf takes
     sees-row zero h = sees-g h
     sees-row (suc zero) h = sees-x h

@@ -16,7 +16,7 @@ use Rattle.fabric_table_checks.specs.TableFault.{WellFormed}
 use Rattle.fabric_table_checks.proofs.TableFaultLaws.{table-faultless}
 use Rattle.fabric_run.proofs.RunningLaws.{length-runWires}
 use Rattle.fabric_run_checks.specs.RunFault.{runFault}
-use Rattle.fabric_run.specs.RunRows.{Runnable, OutputRoom, outputsOn}
+use Rattle.fabric_run.specs.RunRows.{Runnable, ResultRoom, outputsOn}
 
 -- the outputs' bits, read from the work buffer
 pub outputs-read : (table program row work : List ℕ) {after : List ℕ} → WellFormed table → length row ≡ inputsIn table
@@ -30,7 +30,7 @@ outputs-read table program row work w contacts e =
 -- what the checks give where none fails
 pub record RunPasses (table row : List ℕ) (work result : ℕ) : Type 0 where
   pub runnable : Runnable table row work
-  pub outputs : OutputRoom table work result
+  pub outputs : ResultRoom table work result
 
 pub run-passes : (table program row : List ℕ) (work result : ℕ) → runFault table program row work result ≡ 0 → RunPasses table row work result
 unfolding runFault roomFault

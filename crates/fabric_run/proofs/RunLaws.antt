@@ -1,24 +1,24 @@
 -- The run on the work buffer, row by row: it stands before the first row, then before each next one, and behind the last it has every wire.
 use mathlib.Core.Path.{_≡_, refl, sym, ap, _∙_}
 use mathlib.Core.List.{List, [], _∷_, _++_}
-use Prim.Native.Nat.{ℕ, zero, suc, _+_, _*_, _≤_, _<_}
+use Prim.Native.Nat.{ℕ, zero, suc, _+_, _≤_, _<_}
 use native.Mathlib.Numerals.{add-one}
 use native.Mathlib.Omega.{arith}
 use lib.ListN.{length, getD, drop, length-append, List·getD-append}
 use lib.Seq.{sets, length-sets}
 use Rattle.lists.specs.Lists.{listOf}
 use Rattle.fault.specs.Buffers.{over}
-use Rattle.blocks.specs.Elements.{stride, makes, total, rowOf, outputs, step, run, gateOnBits, unpack, AreBits}
+use Rattle.blocks.specs.Elements.{makes, total, rowOf, outputs, step, run, gateOnBits, unpack, AreBits}
 use Rattle.blocks.proofs.ElementsLaws.{run-append, run-wires, run-bits, unpack-bits}
-use Rattle.fabric_sizes.specs.Layout.{header, inputsIn, rowsIn, kindAt, leftAt, rightAt, rowAt, rowsTo, wiresBefore, bitsBefore, wiresIn, bitsIn}
+use Rattle.fabric_sizes.specs.Layout.{inputsIn, rowsIn, kindAt, leftAt, rightAt, rowAt, rowsTo, wiresBefore, bitsBefore, wiresIn, bitsIn, rowStart}
 use Rattle.elements.specs.Elements.{maxWires}
 use Rattle.fabric_run.specs.Running.{runStart, runWires}
 use Rattle.fabric_sizes.proofs.LayoutLaws.{wires-more, bits-more}
 use Rattle.fabric_run.proofs.RunningLaws.{run-areBits}
 use Rattle.fabric_table_checks.specs.declared.table.RowCounts.{RowCounts}
-use Rattle.fabric_table_checks.specs.Counting.{kindWires, CountsOf, Counted}
-use Rattle.fabric_table_checks.proofs.CountingLaws.{of-kind, wires-mono, bits-mono, counted-few, counted-more}
-use Rattle.fabric_run.specs.RunRows.{seen, rowDone, leftOf, rightOf, RowRoom, Runnable, stateTo, Stands}
+use Rattle.fabric_table_checks.specs.Counting.{kindWires, CountsOf, CountedBefore}
+use Rattle.fabric_table_checks.proofs.CountingLaws.{of-kind, wires-mono, bits-mono, counted-few, counted-one-more}
+use Rattle.fabric_run.specs.RunRows.{rowState, rowDone, leftOf, rightOf, RowRoom, Runnable, stateTo, RunStands}
 use Rattle.fabric_run.proofs.RowLaws.{sees-row}
 use Rattle.fabric_run.proofs.WorkLaws.{sets-over, over-longer}
 
@@ -45,7 +45,7 @@ module _ (table program row : List ℕ) where
           each zero = omega arith
           each (suc j) = h .each j
 
-module _ {table program row old : List ℕ} {i bit made : ℕ} {work : List ℕ} (now : Stands table program row old i bit made work) where
+module _ {table program row old : List ℕ} {i bit made : ℕ} {work : List ℕ} (now : RunStands table program row old i bit made work) where
   abbrev ready : Runnable table row (length old)
   ready = now .ready
 
@@ -63,7 +63,7 @@ module _ {table program row old : List ℕ} {i bit made : ℕ} {work : List ℕ}
 
   module _ (h : i < rowsIn table) where
     -- the row's wires are made, with a bit on each, and those that it makes have room
-    row-room : rowsIn table ≤ maxWires → RowRoom (kindWires (kindAt table i)) table (header + stride * i) bit made work
+    row-room : rowsIn table ≤ maxWires → RowRoom (kindWires (kindAt table i)) table (rowStart i) bit made work
     unfolding rowAt
     row-room few =
         let r = ready .wellFormed .row i h in
@@ -80,13 +80,13 @@ module _ {table program row old : List ℕ} {i bit made : ℕ} {work : List ℕ}
           bits = counted-few (start .inputs) (omega arith) at .bits;
         }
 
-    -- the same for what is read
-    pub row-ready : {at kind : ℕ} → rowsIn table ≤ maxWires → at ≡ header + stride * i → kind ≡ kindAt table i
+    -- row i has room where its place and its kind are read from the table
+    pub row-ready : {at kind : ℕ} → rowsIn table ≤ maxWires → at ≡ rowStart i → kind ≡ kindAt table i
         → RowRoom (kindWires kind) table at bit made work
     row-ready few ea ek = rw (ek, ea) (row-room few)
 
     -- it makes what the run makes of it
-    row-made : outputs 0 gateOnBits (rowAt table i) (stateTo table program row i) ≡ outputs 0 gateOnBits (rowAt table i) (seen program bit work)
+    row-made : outputs 0 gateOnBits (rowAt table i) (stateTo table program row i) ≡ outputs 0 gateOnBits (rowAt table i) (rowState program bit work)
     unfolding rowAt
     row-made =
         let r = ready .wellFormed .row i h in
@@ -110,17 +110,17 @@ module _ {table program row old : List ℕ} {i bit made : ℕ} {work : List ℕ}
         ∙ sets-over ws old new room ∙ ap (λ xs. over xs old) more
 
     -- behind it the run stands before the next row
-    pub stands-more : {at kind : ℕ} (c : RowCounts) (after : List ℕ) → at ≡ header + stride * i → kind ≡ kindAt table i → CountsOf kind c
+    pub stands-more : {at kind : ℕ} (c : RowCounts) (after : List ℕ) → at ≡ rowStart i → kind ≡ kindAt table i → CountsOf kind c
         → after ≡ rowDone (rowOf kind (leftOf table at) (rightOf table at)) program bit made work
-        → Stands table program row old (i + 1) (bit + c .bits) (made + c .wires) after
+        → RunStands table program row old (i + 1) (bit + c .bits) (made + c .wires) after
     unfolding rowAt
     stands-more c after ea ek own e =
         let done : after ≡ rowDone (rowAt table i) program bit made work = rw (ek, ea) at e in
         record {
           ready = ready;
           within = omega arith;
-          counted = counted-more (now .counted) (rw ek at own);
-          size = ap length done ∙ length-sets work made (outputs 0 gateOnBits (rowAt table i) (seen program bit work)) ∙ now .size;
+          counted = counted-one-more (now .counted) (rw ek at own);
+          size = ap length done ∙ length-sets work made (outputs 0 gateOnBits (rowAt table i) (rowState program bit work)) ∙ now .size;
           held = done ∙ row-more;
         }
 
@@ -134,8 +134,8 @@ pub start-room : {table row : List ℕ} {n : ℕ} → Runnable table row n → l
 start-room {table} ready = omega (arith, start-wires table, ready .contacts, ready .room)
 
 -- with wire 0 and the inputs on the work buffer the run stands before the first row
-pub stands-first : (table program row old work : List ℕ) (made : ℕ) → Runnable table row (length work) → Counted table 0 made 0
-    → work ≡ over (0 ∷ row) old → Stands table program row work 0 0 made work
+pub stands-first : (table program row old work : List ℕ) (made : ℕ) → Runnable table row (length work) → CountedBefore table 0 made 0
+    → work ≡ over (0 ∷ row) old → RunStands table program row work 0 0 made work
 unfolding listOf run
 stands-first table program row old work made ready counted e = record {
   ready = ready;
@@ -146,7 +146,7 @@ stands-first table program row old work made ready counted e = record {
 }
 
 -- behind the last row it has every wire
-pub stands-last : {table program row start work : List ℕ} {i bit made : ℕ} (old : List ℕ) → Stands table program row start i bit made work
+pub stands-last : {table program row start work : List ℕ} {i bit made : ℕ} (old : List ℕ) → RunStands table program row start i bit made work
     → i ≡ rowsIn table → start ≡ over (0 ∷ row) old → work ≡ over (runWires table program row) old
 unfolding runWires
 stands-last {table} {program} {row} {start} old now all e =

@@ -27,11 +27,11 @@ over-longer a b old h =
 
 -- ---- wire 0 and the inputs
 
-pub start-first : (old : List ℕ) → 0 < length old → set old 0 0 ≡ over (0 ∷ []) old
-start-first old h = over-more [] old 0 h
+pub start-zero : (old : List ℕ) → 0 < length old → set old 0 0 ≡ over (0 ∷ []) old
+start-zero old h = over-more [] old 0 h
 
 pub start-held : (old : List ℕ) → 0 < length old → set old 0 0 ≡ over (0 ∷ []) (set old 0 0)
-start-held old h = rw (start-first old h) (sym (over-longer (0 ∷ []) (0 ∷ []) old (omega arith)))
+start-held old h = rw (start-zero old h) (sym (over-longer (0 ∷ []) (0 ∷ []) old (omega arith)))
 
 pub start-more : (row old : List ℕ) (i : ℕ) → i < length row → i + 1 < length old
     → set (over (0 ∷ take i row) old) (i + 1) (getD row i 0) ≡ over (0 ∷ take (i + 1) row) old

@@ -1,7 +1,7 @@
--- Document 01, the run.
--- the call: the lent buffers after it
+-- Document 01, "Run".
+-- every wire's bit, and the outputs'
+pub mod Running
+-- what the call leaves in the lent buffers
 pub mod RunCalls
 -- one row on the work buffer, and all of them
 pub mod RunRows
--- "Run": every wire's bit, and the outputs'
-pub mod Running

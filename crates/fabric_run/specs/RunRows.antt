@@ -7,29 +7,29 @@ use lib.Seq.{sets}
 use Rattle.lists.specs.Lists.{listOf}
 use Rattle.fault.specs.Buffers.{over}
 use Rattle.blocks.specs.Elements.{Row, gateBits, State, outputs, run, gateOnBits, bitAt, AreBits}
-use Rattle.fabric_sizes.specs.Layout.{inputsIn, outputsIn, rowsIn, outputWireAt, rowsTo, wiresIn}
+use Rattle.fabric_sizes.specs.Layout.{leftPlace, rightPlace, inputsIn, outputsIn, rowsIn, outputWireAt, rowsTo, wiresIn}
 use Rattle.fabric_run.specs.Running.{runStart}
 use Rattle.fabric_table_checks.specs.TableFault.{WellFormed}
-use Rattle.fabric_table_checks.specs.Counting.{maxBits, Counted}
+use Rattle.fabric_table_checks.specs.Counting.{maxBits, CountedBefore}
 
 -- what a row sees: the wires' bits, and the program from its first bit on
-abbrev pub seen : List ℕ → ℕ → List ℕ → State ℕ
-seen program bit wires = record { wires = wires; bits = listOf gateBits (λ i. bitAt program (bit + i)); gates = 0 }
+abbrev pub rowState : List ℕ → ℕ → List ℕ → State ℕ
+rowState program bit wires = record { wires = wires; bits = listOf gateBits (λ i. bitAt program (bit + i)); gates = 0 }
 
--- the work buffer after a row behind so many made wires
+-- the work buffer after a row whose program begins at `bit`, behind `made` wires
 abbrev pub rowDone : Row → List ℕ → ℕ → ℕ → List ℕ → List ℕ
-rowDone row program bit made work = sets work made (outputs 0 gateOnBits row (seen program bit work))
+rowDone row program bit made work = sets work made (outputs 0 gateOnBits row (rowState program bit work))
 
--- the wires of the row at a place of the table
+-- the left and the right wire of the row at the place `at` of the table
 abbrev pub leftOf : List ℕ → ℕ → ℕ
-leftOf table at = getD table (at + 1) 0
+leftOf table at = getD table (at + leftPlace) 0
 
 abbrev pub rightOf : List ℕ → ℕ → ℕ
-rightOf table at = getD table (at + 2) 0
+rightOf table at = getD table (at + rightPlace) 0
 
--- the row at a place of the table: its two wires are made, both with a bit, and so many that it makes have room in the work buffer
+-- the row at the place `at` of the table: its two wires are made, both with a bit, and the `new` wires that it makes have room in the work buffer
 pub record RowRoom (new : ℕ) (table : List ℕ) (at bit made : ℕ) (work : List ℕ) : Type 0 where
-  pub entries : at + 2 < length table
+  pub entries : at + rightPlace < length table
   pub left : leftOf table at < made
   pub right : rightOf table at < made
   pub leftBit : getD work (leftOf table at) 0 ≤ 1
@@ -49,7 +49,7 @@ abbrev pub outputsOn : List ℕ → List ℕ → List ℕ
 outputsOn table work = listOf (outputsIn table) (λ j. getD work (outputWireAt table j) 0)
 
 -- every output wire is on the work buffer, and the result has a place for each
-pub record OutputRoom (table : List ℕ) (work result : ℕ) : Type 0 where
+pub record ResultRoom (table : List ℕ) (work result : ℕ) : Type 0 where
   pub wellFormed : WellFormed table
   pub wires : wiresIn table ≤ work
   pub room : outputsIn table ≤ result
@@ -59,9 +59,9 @@ abbrev pub stateTo : List ℕ → List ℕ → List ℕ → ℕ → State ℕ
 stateTo table program row i = run 0 gateOnBits (rowsTo table i) (runStart table program row)
 
 -- before row i: wires and bits are counted, and the work buffer holds the run so far, followed by what stood there
-pub record Stands (table program row old : List ℕ) (i bit made : ℕ) (work : List ℕ) : Type 0 where
+pub record RunStands (table program row old : List ℕ) (i bit made : ℕ) (work : List ℕ) : Type 0 where
   pub ready : Runnable table row (length old)
   pub within : i ≤ rowsIn table
-  pub counted : Counted table i made bit
+  pub counted : CountedBefore table i made bit
   pub size : length work ≡ length old
   pub held : work ≡ over (stateTo table program row i .wires) old

@@ -10,18 +10,20 @@ ghost use Rattle.fabric_run.specs.Running.{runWires};
 ghost use Rattle.fabric_run_checks.specs.RunFault.{runFault};
 ghost use Rattle.fabric_run.specs.RunCalls.{runWork, runResult};
 ghost use Rattle.fabric_table_checks.specs.Counting.{kindWires};
-ghost use Rattle.fabric_run.specs.RunRows.{Runnable, RowRoom, OutputRoom, outputsOn, leftOf, rightOf, rowDone};
+ghost use Rattle.fabric_run.specs.RunRows.{Runnable, RowRoom, ResultRoom, outputsOn, leftOf, rightOf, rowDone};
 use blocks::read_bit;
 use blocks::wide;
 use elements::FabricWire;
 use elements::KIND_X;
 use elements::KIND_Y;
 use fabric_run_checks::check_run;
-use fabric_table_checks::INPUTS;
-use fabric_table_checks::OUTPUTS;
-use fabric_table_checks::ROWS;
+use fabric_sizes::INPUTS;
+use fabric_sizes::LEFT;
+use fabric_sizes::OUTPUTS;
+use fabric_sizes::RIGHT;
+use fabric_sizes::ROWS;
 use fabric_table_checks::counts_of;
-use fabric_table_checks::row_place;
+use fabric_table_checks::row_start;
 use fabric_table_checks::wire_of;
 use fault::Answer;
 
@@ -35,7 +37,7 @@ pub fn run(table: &[u16], program: &[u8], row: &[u8], work: &mut [u8], result: &
         Answer::Refused(f) => Answer::Refused(f),
         Answer::Done => {
             run_rows(table, program, row, work);
-            write_outputs(table, work, result);
+            write_result(table, work, result);
             Answer::Done
         }
     }
@@ -52,7 +54,7 @@ fn run_rows(table: &[u16], program: &[u8], row: &[u8], work: &mut [u8])
     let mut bit: usize = 0;
     let mut i: u16 = 0;
     while i < rows {
-        let at = row_place(i);
+        let at = row_start(i);
         let kind = table[at];
         run_row(table, at, kind, program, bit, made, work);
         let own = counts_of(kind);
@@ -75,7 +77,7 @@ fn start_wires(row: &[u8], work: &mut [u8])
     }
 }
 
-// The row of a kind at a place of the table, with the program from a bit on: its outputs' bits behind the wires that are made.
+// The row of a kind at the place `at` of the table, with the program from `bit` on: its outputs' bits behind the `made` wires.
 fn run_row(
     table: &[u16],
     at: usize,
@@ -125,26 +127,26 @@ fn run_g(table: &[u16], at: usize, program: &[u8], bit: usize, made: usize, work
     requires { ⌜ RowRoom 1 (now table) at bit made (now work) ⌝ }
     ensures { λ _. ⌜ now (work .exit) ≡ rowDone (Gate (leftOf (now (table .entry)) at ∷ rightOf (now (table .entry)) at ∷ [])) (now (program .entry)) bit made (now (work .entry)) ⌝ }
 {
-    let a = work[wire_of(table[at + 1]).0 as usize];
-    let b = work[wire_of(table[at + 2]).0 as usize];
+    let a = work[wire_of(table[at + LEFT]).0 as usize];
+    let b = work[wire_of(table[at + RIGHT]).0 as usize];
     work[made] = read_bit(program, bit + (2 * a + b) as usize);
 }
 
-// The wire that a bit chooses of the row at a place: the left one for 0, the right one for 1. An index and no branch: which bits
+// The wire that bit b chooses of the row at the place `at`: the left one for 0, the right one for 1. An index and no branch: which bits
 // a program has cannot be foretold.
 fn chosen(table: &[u16], at: usize, b: u8) -> FabricWire
     requires { ⌜ (at + 2 < length (now table)) × (b ≤ 1) ⌝ }
     ensures { λ r. ⌜ r .0 ≡ choose b (leftOf (now (table .entry)) at) (rightOf (now (table .entry)) at) ⌝ }
 {
-    wire_of(table[at + 1 + b as usize])
+    wire_of(table[at + LEFT + b as usize])
 }
 
 // The bits on the output wires, into the first entries of the result.
-fn write_outputs(table: &[u16], work: &[u8], result: &mut [u8])
-    requires { ⌜ OutputRoom (now table) (length (now work)) (length (now result)) ⌝ }
+fn write_result(table: &[u16], work: &[u8], result: &mut [u8])
+    requires { ⌜ ResultRoom (now table) (length (now work)) (length (now result)) ⌝ }
     ensures { λ _. ⌜ now (result .exit) ≡ over (outputsOn (now (table .entry)) (now (work .entry))) (now (result .entry)) ⌝ }
 {
-    let first = row_place(table[ROWS]);
+    let first = row_start(table[ROWS]);
     let count = wide(table[OUTPUTS]);
     let mut j: usize = 0;
     while j < count {

@@ -1,1 +1,2 @@
+-- packed bits are an exact program
 pub mod RunFaultLaws

@@ -1,2 +1,3 @@
--- Document 01, the checks of the run, in their order.
+-- Document 01, "Run: 13, 14, 12, 11".
+-- the checks in their order
 pub mod RunFault

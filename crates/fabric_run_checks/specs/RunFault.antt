@@ -10,7 +10,7 @@ use lib.ListN.{length}
 use Rattle.fault.specs.declared.Fault.{Fault}
 use Rattle.blocks.specs.Elements.{bytesFor, bitAt}
 
--- 11: a work buffer and a result of so many entries, where there are so many wires and outputs
+-- 11: a work buffer of `work` entries is shorter than the number of wires, or a result of `result` entries than that of outputs
 abbrev pub roomsFault : ℕ → ℕ → ℕ → ℕ → ℕ
 roomsFault wires outputs work result = andThen (roomFault wires work) (roomFault outputs result)
 
@@ -18,7 +18,7 @@ roomsFault wires outputs work result = andThen (roomFault wires work) (roomFault
 abbrev pub spareBits : ℕ → ℕ
 spareBits n = 8 * bytesFor n - n
 
--- another length than that of n bits; a spare bit set
+-- 14: another length than that of n bits; a spare bit set
 unfoldable pub givenProgramFault : ℕ → List ℕ → ℕ
 givenProgramFault n program =
     andThen (unless (eqb (length program) (bytesFor n)) Fault.Program)

@@ -7,36 +7,37 @@ ghost use Rattle.fabric_run_checks.specs.RunFault.{givenProgramFault, ro
 ghost use Rattle.fabric_table_checks.specs.Counting.{maxBits};
 use blocks::read_bit;
 use blocks::wide;
-use fabric_table_checks::INPUTS;
-use fabric_table_checks::OUTPUTS;
+use fabric_sizes::INPUTS;
+use fabric_sizes::OUTPUTS;
+use fabric_sizes::bytes_for;
 use fabric_table_checks::TableCheck;
 use fabric_table_checks::check_table;
 use fault::Answer;
 use fault::Fault;
 use plan_evaluation_checks::contact_fault;
 
-// The checks of the run, for a work buffer and a result of so many entries.
+// The checks of the run, for a work buffer of `work` entries and a result of `result` entries.
 pub fn check_run(table: &[u16], program: &[u8], row: &[u8], work: usize, result: usize) -> Answer
     ensures { λ r. ⌜ answerNumber r ≡ runFault (now (table .entry)) (now (program .entry)) (now (row .entry)) work result ⌝ }
 {
     match check_table(table) {
         TableCheck::Refused(f) => Answer::Refused(f),
-        TableCheck::Counted(c) => match check_program(c.bits, program) {
+        TableCheck::Counted(c) => match check_given_program(c.bits, program) {
             Answer::Refused(f) => Answer::Refused(f),
             Answer::Done => match contact_fault(wide(table[INPUTS]), row) {
                 Answer::Refused(f) => Answer::Refused(f),
-                Answer::Done => check_rooms(c.wires, wide(table[OUTPUTS]), work, result),
+                Answer::Done => check_run_rooms(c.wires, wide(table[OUTPUTS]), work, result),
             },
         },
     }
 }
 
-// 14: a program of another length than that of so many bits; a spare bit set.
-fn check_program(bits: usize, program: &[u8]) -> Answer
+// 14: a program of another length than that of `bits` program bits; a spare bit set.
+fn check_given_program(bits: usize, program: &[u8]) -> Answer
     requires { ⌜ bits ≤ maxBits ⌝ }
     ensures { λ r. ⌜ answerNumber r ≡ givenProgramFault bits (now (program .entry)) ⌝ }
 {
-    let bytes = (bits + 7) / 8;
+    let bytes = bytes_for(bits);
     if program.len() != bytes {
         return Answer::Refused(Fault::Program);
     }
@@ -52,7 +53,7 @@ fn check_program(bits: usize, program: &[u8]) -> Answer
 }
 
 // 11: the work buffer has less than one byte per wire, or the result less than one per output.
-fn check_rooms(wires: usize, outputs: usize, work: usize, result: usize) -> Answer
+fn check_run_rooms(wires: usize, outputs: usize, work: usize, result: usize) -> Answer
     ensures { λ r. ⌜ answerNumber r ≡ roomsFault wires outputs work result ⌝ }
 {
     if work < wires {

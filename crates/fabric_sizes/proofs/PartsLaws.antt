@@ -13,7 +13,7 @@ use Rattle.fabric_universal.proofs.SelectorLaws.{double}
 use Rattle.fabric_universal.specs.Universal.{universalCount, universalWires, universalTakes}
 use Rattle.fabric_universal.proofs.UniversalLaws.{universal-takes, universal-count, universal-made}
 use Rattle.fabric_universal.specs.Fabric.{gateLevel}
-use Rattle.fabric_sizes.specs.Parts.{topLevel, blockLimit, PlacesAre, SidesWithin, UniversalIs}
+use Rattle.fabric_sizes.specs.Parts.{topLevel, blockLimit, PlacesAre, SelectionWithin, UniversalIs}
 
 -- ---- K
 
@@ -35,6 +35,7 @@ same-level k = ceilLog-power (gateLevel k)
 pub one-gate : {gates : ℕ} → gates ≤ 1 → gateLevel gates ≡ 0
 one-gate {gates} h = omega (arith, ceilLog-least gates 0 h)
 
+-- a number of gates, a power of two above 1, and its half
 pub record Halved (gates half : ℕ) : Type 0 where
   pub twice : gates ≡ 2 * half
   pub level : gateLevel gates ≡ suc (gateLevel half)
@@ -58,11 +59,12 @@ halved {gates} e l = halved-at gates (gateLevel gates) refl e l
 
 -- ---- S
 
+-- S(m, n) is small
 pub record FewSelected (m n : ℕ) : Type 0 where
   pub rows : selectionCount m n ≤ blockLimit
   pub wires : selectionWires m n ≤ blockLimit
 
-pub few-selected : {m n : ℕ} → SidesWithin m n → FewSelected m n
+pub few-selected : {m n : ℕ} → SelectionWithin m n → FewSelected m n
 few-selected {m} {n} s =
     let level : ℕ = selectionLevel m n in
     let low : level ≤ suc topLevel = level-least m n (suc topLevel) (s .inputs) (s .outputs) in
@@ -71,6 +73,7 @@ few-selected {m} {n} s =
 
 -- ---- U: what the closed forms are computed from
 
+-- the products stay in 32 bits, and the closed forms are the counts
 pub record Products (n gates : ℕ) : Type 0 where
   pub low : n ≤ topLevel
   pub square : n * n ≤ topLevel * topLevel

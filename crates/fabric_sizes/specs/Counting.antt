@@ -1,9 +1,8 @@
 -- Document 01, "Counting: 2, 3, 4": what counting answers; and the length of the fabric's table.
-use Prim.Native.Nat.{ℕ, _+_, _*_}
+use Prim.Native.Nat.{ℕ, _+_}
 use Rattle.plan.specs.Faults.{countsFault}
-use Rattle.blocks.specs.Elements.{stride}
 use Rattle.fabric_universal.specs.Fabric.{fabricCount, fabricWires, fabricTakes}
-use Rattle.fabric_sizes.specs.Layout.{header}
+use Rattle.fabric_sizes.specs.Layout.{rowStart}
 use Rattle.elements.specs.declared.Counts.{Counts}
 use Rattle.elements.specs.Elements.{CountOutcome, countsUnless, CountsAre}
 
@@ -17,4 +16,4 @@ FabricCounts u k v c = CountsAre (fabricCount u k v) (fabricWires u k v) (fabric
 
 -- the table's length
 abbrev pub tableLength : ℕ → ℕ → ℕ → ℕ
-tableLength u k v = header + stride * fabricCount u k v + v
+tableLength u k v = rowStart (fabricCount u k v) + v

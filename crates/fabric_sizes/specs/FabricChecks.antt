@@ -7,7 +7,7 @@ use Rattle.blocks.specs.Elements.{bytesFor}
 use Rattle.fabric_universal.specs.Fabric.{fabricTakes}
 use Rattle.fabric_sizes.specs.Counting.{tableLength}
 
--- the checks of writing the fabric of three counts into a table of so many entries: 2, 3, 4, 11
+-- the checks of writing the fabric of three counts into a table of `room` entries: 2, 3, 4, 11
 unfoldable pub fabricFault : ℕ → ℕ → ℕ → ℕ → ℕ
 fabricFault u k v room = andThen (countsFault u k v) (roomFault (tableLength u k v) room)
 
@@ -15,11 +15,11 @@ fabricFault u k v room = andThen (countsFault u k v) (roomFault (tableLength u k
 abbrev pub programLength : Plan → ℕ
 programLength p = bytesFor (fabricTakes (p .inputs) (p .«gate_count») (p .«output_count»))
 
--- the checks of programming a plan into so many bytes: plan faults, 11
+-- the checks of programming a plan into `room` bytes: plan faults, 11
 unfoldable pub planProgramFault : Plan → ℕ → ℕ
 planProgramFault p room = andThen (planFault p) (roomFault (programLength p) room)
 
--- what holds where no check fails
+-- what holds where no check of writing the fabric fails
 pub record FabricPasses (u k v room : ℕ) : Type 0 where
   pub counts : CountsWithin u k v
   pub enough : tableLength u k v ≤ room

@@ -6,35 +6,60 @@ use lib.ListN.{getD}
 use Rattle.lists.specs.Lists.{listOf}
 use Rattle.blocks.specs.Elements.{Row, stride, makes, takes, total, rowOf}
 
+-- ---- where the entries stand
+
 -- the entries before the rows
 abbrev pub header : ℕ
 header = 3
 
+-- which of them are u, v and the number of rows
+abbrev pub inputsPlace : ℕ
+inputsPlace = 0
+
+abbrev pub outputsPlace : ℕ
+outputsPlace = 1
+
+abbrev pub rowsPlace : ℕ
+rowsPlace = 2
+
+-- which entries of a row are its left and its right wire; its kind is the first, with the number 0
+abbrev pub leftPlace : ℕ
+leftPlace = 1
+
+abbrev pub rightPlace : ℕ
+rightPlace = 2
+
+-- where row i begins; behind the last row stand the output wires
+abbrev pub rowStart : ℕ → ℕ
+rowStart i = header + stride * i
+
+-- ---- what stands there
+
 abbrev pub inputsIn : List ℕ → ℕ
-inputsIn table = getD table 0 0
+inputsIn table = getD table inputsPlace 0
 
 abbrev pub outputsIn : List ℕ → ℕ
-outputsIn table = getD table 1 0
+outputsIn table = getD table outputsPlace 0
 
 abbrev pub rowsIn : List ℕ → ℕ
-rowsIn table = getD table 2 0
+rowsIn table = getD table rowsPlace 0
 
 -- row i: its kind, its left and its right wire
 abbrev pub kindAt : List ℕ → ℕ → ℕ
-kindAt table i = getD table (header + stride * i) 0
+kindAt table i = getD table (rowStart i) 0
 
 abbrev pub leftAt : List ℕ → ℕ → ℕ
-leftAt table i = getD table (header + stride * i + 1) 0
+leftAt table i = getD table (rowStart i + leftPlace) 0
 
 abbrev pub rightAt : List ℕ → ℕ → ℕ
-rightAt table i = getD table (header + stride * i + 2) 0
+rightAt table i = getD table (rowStart i + rightPlace) 0
 
 unfoldable pub rowAt : List ℕ → ℕ → Row
 rowAt table i = rowOf (kindAt table i) (leftAt table i) (rightAt table i)
 
 -- output wire j
 abbrev pub outputWireAt : List ℕ → ℕ → ℕ
-outputWireAt table j = getD table (header + stride * rowsIn table + j) 0
+outputWireAt table j = getD table (rowStart (rowsIn table) + j) 0
 
 -- the first n rows, and all of them
 abbrev pub rowsTo : List ℕ → ℕ → List Row

@@ -1,9 +1,9 @@
--- Document 01, "Counting": the counts of the fabric of three counts.
--- what counting answers, and the table's length
-pub mod Counting
--- the counts of the fabric's parts, and when a number of gates is halved
-pub mod Parts
+-- The sizes of fabrics, and what stands where in a table.
 -- "Elements and their table": what stands where in a table
 pub mod Layout
--- Document 01, "Counting and fabric: 2, 3, 4, and for the fabric 11" and "Program bits: plan faults, 11": the checks, and when they pass.
+-- the counts of the fabric's parts
+pub mod Parts
+-- "Counting: 2, 3, 4": what counting answers; and the table's length
+pub mod Counting
+-- "Counting and fabric: 2, 3, 4, and for the fabric 11" and "Program bits: plan faults, 11": the checks, and what holds where they pass
 pub mod FabricChecks

@@ -17,11 +17,11 @@ maxPins = operands * maxGates
 abbrev pub topLevel : ℕ
 topLevel = 16
 
--- then no part of a fabric has more rows, wires or bits
+-- no part of a fabric has more rows, wires or bits then
 abbrev pub blockLimit : ℕ
 blockLimit = 2 ^ 26
 
--- K
+-- K, with its bounds
 pub record PlacesAre (k places : ℕ) : Type 0 where
   pub isPlaces : places ≡ 2 ^ gateLevel k
   pub some : 1 ≤ places
@@ -36,14 +36,15 @@ pub record BlockIs (rows wires bits : ℕ) (c : Counts) : Type 0 where
   pub fewWires : c .wires ≤ blockLimit
   pub fewBits : c .bits ≤ blockLimit
 
--- of S(m, n), where neither side has more than the pins of the largest U
-pub record SidesWithin (m n : ℕ) : Type 0 where
+-- S(m, n) has at most as many inputs and outputs as the largest U has pins
+pub record SelectionWithin (m n : ℕ) : Type 0 where
   pub inputs : m ≤ 2 ^ suc topLevel
   pub outputs : n ≤ 2 ^ suc topLevel
 
+-- the counts of S(m, n)
 abbrev pub SelectionIs : ℕ → ℕ → Counts → Type 0
 SelectionIs m n c = BlockIs (selectionCount m n) (selectionWires m n) (selectionCount m n) c
 
--- of U at a level
+-- the counts of U at the level n
 abbrev pub UniversalIs : ℕ → Counts → Type 0
 UniversalIs n c = BlockIs (universalCount selection n) (universalWires selection n) (universalTakes selection n) c

@@ -4,6 +4,7 @@ ghost use Rattle.blocks.specs.Elements.{bytesFor};
 ghost use Rattle.fabric_universal.specs.Fabric.{fabricTakes};
 ghost use Rattle.elements.specs.Elements.{countOutcome};
 ghost use Rattle.fabric_sizes.specs.Counting.{counting, FabricCounts, tableLength};
+use crate::layout::HEADER;
 use crate::parts::output_counts;
 use crate::parts::pin_counts;
 use crate::parts::universal_counts;
@@ -12,9 +13,6 @@ use elements::CountAnswer;
 use elements::Counts;
 use fault::Answer;
 use plan::counts_fault;
-
-// The entries of a table before its rows: its numbers of inputs, outputs and rows.
-pub const HEADER: usize = 3;
 
 // The counts of the fabric of u inputs, k gates and v outputs.
 pub fn count_fabric(u: u32, k: u32, v: u32) -> CountAnswer
@@ -26,7 +24,7 @@ pub fn count_fabric(u: u32, k: u32, v: u32) -> CountAnswer
     }
 }
 
-// The same without the checks, for any three counts of 16 bits.
+// The counts without the checks, for any u, k and v of 16 bits.
 pub fn fabric_counts(u: u16, k: u16, v: u16) -> Counts
     ensures { λ r. ⌜ FabricCounts u k v r ⌝ }
 {
@@ -40,7 +38,7 @@ pub fn fabric_counts(u: u16, k: u16, v: u16) -> Counts
     }
 }
 
-// The entries of its table.
+// The entries of the table of the fabric of u inputs, k gates and v outputs.
 pub fn table_length(u: u16, k: u16, v: u16) -> usize
     ensures { λ r. ⌜ r ≡ tableLength u k v ⌝ }
 {
@@ -48,10 +46,17 @@ pub fn table_length(u: u16, k: u16, v: u16) -> usize
     HEADER + row_place(counts.rows) + v as usize
 }
 
-// The bytes of its programs.
+// The bytes of the programs of the fabric of u inputs, k gates and v outputs.
 pub fn program_length(u: u16, k: u16, v: u16) -> usize
     ensures { λ r. ⌜ r ≡ bytesFor (fabricTakes u k v) ⌝ }
 {
     let counts = fabric_counts(u, k, v);
-    (counts.bits as usize + 7) / 8
+    bytes_for(counts.bits as usize)
+}
+
+// The bytes that hold `bits` program bits: the bits divided by 8, rounded up.
+pub fn bytes_for(bits: usize) -> usize
+    ensures { λ r. ⌜ r ≡ bytesFor bits ⌝ }
+{
+    bits / 8 + (bits % 8 + 7) / 8
 }

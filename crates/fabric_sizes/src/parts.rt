@@ -3,10 +3,11 @@
 ghost use Prim.Native.Nat.{_^_};
 ghost use Rattle.fabric_universal.specs.Selector.{pinCount};
 ghost use Rattle.fabric_universal.specs.Fabric.{gateLevel};
-ghost use Rattle.fabric_sizes.specs.Parts.{PlacesAre, SidesWithin, SelectionIs, UniversalIs};
+ghost use Rattle.fabric_sizes.specs.Parts.{PlacesAre, SelectionWithin, SelectionIs, UniversalIs};
 use blocks::selection_count;
 use blocks::selection_wires;
 use elements::Counts;
+use elements::GATE_BITS;
 use plan::Plan;
 use powers::ceil_log;
 use powers::ceil_power;
@@ -14,7 +15,10 @@ use powers::ceil_power;
 // The pins of the largest U of a plan, two for each gate.
 pub const MAX_PINS: usize = 2 * Plan::MAX_GATES;
 
-// K.
+// The program bits that a gate takes above the one bit of another row.
+const MORE_GATE_BITS: u32 = GATE_BITS - 1;
+
+// K, the places for k gates: the smallest power of two not below k.
 pub fn gate_places(k: u16) -> u32
     ensures { λ r. ⌜ PlacesAre k r ⌝ }
 {
@@ -28,7 +32,8 @@ pub fn pin_counts(m: u16, k: u16) -> Counts
     selection_counts(m as u32, 2 * gate_places(k))
 }
 
-// U(K): K(n² + n) + 2K - 1 rows and K(2n² + 4) - 3 wires, n the logarithm of K. Each of the K gates takes three bits more than another row.
+// U(K): K(n² + n) + 2K - 1 rows and K(2n² + 4) - 3 wires, n the logarithm of K; and a bit for each row, and three more for each of the
+// K gates.
 pub fn universal_counts(k: u16) -> Counts
     ensures { λ r. ⌜ UniversalIs (gateLevel k) r ⌝ }
 {
@@ -38,7 +43,7 @@ pub fn universal_counts(k: u16) -> Counts
     Counts {
         rows,
         wires: 2 * (gates * (n * n)) + 4 * gates - 3,
-        bits: rows + 3 * gates,
+        bits: rows + MORE_GATE_BITS * gates,
     }
 }
 
@@ -51,7 +56,7 @@ pub fn output_counts(k: u16, v: u16) -> Counts
 
 // S(m, n). Each of its rows takes one bit.
 fn selection_counts(m: u32, n: u32) -> Counts
-    requires { ⌜ SidesWithin m n ⌝ }
+    requires { ⌜ SelectionWithin m n ⌝ }
     ensures { λ r. ⌜ SelectionIs m n r ⌝ }
 {
     let rows = selection_count(m, n) as u32;

@@ -8,8 +8,8 @@ use fault::Fault;
 use plan::Plan;
 use plan::plan_fault;
 
-// Plan faults; then 11 for a program of so many bytes.
-pub fn check_program(plan: Plan, room: usize) -> Answer
+// Plan faults; then 11 for a program of `room` bytes.
+pub fn check_plan_program(plan: Plan, room: usize) -> Answer
     ensures { λ r. ⌜ answerNumber r ≡ planProgramFault plan room ⌝ }
 {
     match plan_fault(plan) {

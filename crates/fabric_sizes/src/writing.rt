@@ -7,7 +7,7 @@ use fault::Answer;
 use fault::Fault;
 use plan::counts_fault;
 
-// 2, 3, 4; then 11 for a table of so many entries.
+// 2, 3, 4; then 11 for a table of `room` entries.
 pub fn check_fabric(u: u32, k: u32, v: u32, room: usize) -> Answer
     ensures { λ r. ⌜ answerNumber r ≡ fabricFault u k v room ⌝ }
 {

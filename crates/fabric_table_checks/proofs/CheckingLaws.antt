@@ -9,7 +9,7 @@ use Rattle.fault.proofs.ChecksLaws.{number-positive}
 use Rattle.fabric_sizes.specs.Layout.{rowsIn}
 use Rattle.fabric_table_checks.specs.declared.checking.TableCounts.{TableCounts}
 use Rattle.fabric_table_checks.specs.declared.checking.TableCheck.{TableCheck}
-use Rattle.fabric_table_checks.specs.Counting.{Counted}
+use Rattle.fabric_table_checks.specs.Counting.{CountedBefore}
 use Rattle.fabric_table_checks.specs.Checking.{checkOutcome, countedOr}
 
 -- a refusal
@@ -22,13 +22,14 @@ refused-by f zero table e = ap (λ o. o .number) e
 refused-by f (suc n) table e = ap (λ o. o .number) e
 
 -- the counts
-pub counted-table : (n : ℕ) (table : List ℕ) (c : TableCounts) → 0 ≡ n → Counted table (rowsIn table) (c .wires) (c .bits)
+pub counted-table : (n : ℕ) (table : List ℕ) (c : TableCounts) → 0 ≡ n → CountedBefore table (rowsIn table) (c .wires) (c .bits)
     → checkOutcome (TableCheck.Counted c) ≡ countedOr n table
 counted-table n table c z h = rw (← z) (cc (h .wires, h .bits))
 
+-- a check that answers with counts passed, and they are the table's
 pub record CountedBy (n : ℕ) (table : List ℕ) (c : TableCounts) : Type 0 where
   pub passes : 0 ≡ n
-  pub counted : Counted table (rowsIn table) (c .wires) (c .bits)
+  pub counted : CountedBefore table (rowsIn table) (c .wires) (c .bits)
 
 pub counted-by : (n : ℕ) (table : List ℕ) (c : TableCounts) → checkOutcome (TableCheck.Counted c) ≡ countedOr n table → CountedBy n table c
 counted-by zero table c e = record { passes = refl; counted = record { wires = ap (λ o. o .wires) e; bits = ap (λ o. o .bits) e } }

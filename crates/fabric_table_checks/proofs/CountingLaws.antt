@@ -12,7 +12,7 @@ use Rattle.fabric_sizes.specs.Layout.{inputsIn, kindAt, leftAt, rightAt, rowAt,
 use Rattle.elements.specs.Elements.{maxWires}
 use Rattle.fabric_sizes.proofs.LayoutLaws.{wires-more, bits-more}
 use Rattle.fabric_table_checks.specs.declared.table.RowCounts.{RowCounts}
-use Rattle.fabric_table_checks.specs.Counting.{kindWires, kindBits, CountsOf, Counted, Countable}
+use Rattle.fabric_table_checks.specs.Counting.{kindWires, kindBits, CountsOf, CountedBefore, Countable}
 
 -- ---- the row of a kind
 
@@ -57,13 +57,13 @@ unfolding rowAt
 more-bits table i = omega (arith, bits-more table i, of-kind (kindAt table i) (leftAt table i) (rightAt table i) .bits)
 
 -- before row 0 there are wire 0 and the inputs
-pub counted-first : (table : List ℕ) (w : ℕ) → w ≡ 1 + inputsIn table → Counted table 0 w 0
+pub counted-first : (table : List ℕ) (w : ℕ) → w ≡ 1 + inputsIn table → CountedBefore table 0 w 0
 unfolding wiresBefore bitsBefore total listOf
 counted-first table w e = record { wires = omega arith; bits = refl }
 
-pub counted-more : {table : List ℕ} {i w b : ℕ} {c : RowCounts} → Counted table i w b → CountsOf (kindAt table i) c
-    → Counted table (i + 1) (w + c .wires) (b + c .bits)
-counted-more {table} {i} h own =
+pub counted-one-more : {table : List ℕ} {i w b : ℕ} {c : RowCounts} → CountedBefore table i w b → CountsOf (kindAt table i) c
+    → CountedBefore table (i + 1) (w + c .wires) (b + c .bits)
+counted-one-more {table} {i} h own =
     rw (add-one i)
     (record { wires = omega (arith, more-wires table i); bits = omega (arith, more-bits table i) })
 
@@ -78,7 +78,7 @@ unfolding bitsBefore total listOf
 bits-most table zero = omega arith
 bits-most table (suc i) = omega (arith, bits-most table i, more-bits table i, of-kind (kindAt table i) 0 0 .fewBits)
 
-pub counted-few : {table : List ℕ} {i w b : ℕ} → inputsIn table ≤ maxInputs → i ≤ maxWires → Counted table i w b → Countable w b
+pub counted-few : {table : List ℕ} {i w b : ℕ} → inputsIn table ≤ maxInputs → i ≤ maxWires → CountedBefore table i w b → Countable w b
 counted-few {table} {i} u l h = record { wires = omega (arith, wires-most table i); bits = omega (arith, bits-most table i) }
 
 -- later rows begin no earlier

@@ -18,6 +18,7 @@ kindWires kind = makes (rowOf kind 0 0)
 abbrev pub kindBits : ℕ → ℕ
 kindBits kind = takes (rowOf kind 0 0)
 
+-- both, as the code counts them
 pub record CountsOf (kind : ℕ) (c : RowCounts) : Type 0 where
   pub wires : c .wires ≡ kindWires kind
   pub bits : c .bits ≡ kindBits kind
@@ -25,7 +26,7 @@ pub record CountsOf (kind : ℕ) (c : RowCounts) : Type 0 where
   pub fewBits : c .bits ≤ gateBits
 
 -- before row i of a table there are w wires and b bits
-pub record Counted (table : List ℕ) (i w b : ℕ) : Type 0 where
+pub record CountedBefore (table : List ℕ) (i w b : ℕ) : Type 0 where
   pub wires : w ≡ wiresBefore table i
   pub bits : b ≡ bitsBefore table i
 

@@ -1,7 +1,7 @@
--- Document 01, "Malformed", as the code finds it.
+-- Document 01, "Malformed": check 13 of a run.
+-- when a table is malformed
+pub mod TableFault
 -- wires and program bits, counted through the rows
 pub mod Counting
--- what the check of a table answers, and its parts
+-- what the check of a table answers, and what its parts need and answer
 pub mod Checking
--- 13: a malformed table
-pub mod TableFault

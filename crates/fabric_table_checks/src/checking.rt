@@ -7,18 +7,20 @@ ghost use Rattle.fabric_sizes.specs.Layout.{outputsIn, rowsIn, wiresIn};
 ghost use Rattle.fabric_table_checks.specs.TableFault.{kindAllowed, headerFault, rowFault, outputWireFault, HeaderWithin};
 ghost use Rattle.fabric_table_checks.specs.Counting.{maxBits};
 ghost use Rattle.fabric_table_checks.specs.Checking.{checkOutcome, countedOr, tableOutcome, RowToCheck, endFault};
-use crate::table::INPUTS;
-use crate::table::OUTPUTS;
-use crate::table::ROWS;
 use crate::table::counts_of;
-use crate::table::row_place;
-use crate::table::table_length;
+use crate::table::row_start;
+use crate::table::expected_length;
 use crate::table::wire_of;
 use blocks::wide;
 use elements::KIND_G;
 use elements::KIND_X;
 use elements::MAX_WIRES;
 use fabric_sizes::HEADER;
+use fabric_sizes::INPUTS;
+use fabric_sizes::LEFT;
+use fabric_sizes::OUTPUTS;
+use fabric_sizes::RIGHT;
+use fabric_sizes::ROWS;
 use fault::Answer;
 use fault::Fault;
 use plan::Plan;
@@ -66,7 +68,7 @@ fn check_header(table: &[u16]) -> Answer
     if !count_allowed(table[OUTPUTS] as u32, Plan::MAX_OUTPUTS) {
         return Answer::Refused(Fault::Fabric);
     }
-    if table.len() != table_length(table) {
+    if table.len() != expected_length(table) {
         return Answer::Refused(Fault::Fabric);
     }
     Answer::Done
@@ -89,7 +91,7 @@ fn check_rows(table: &[u16]) -> TableCheck
             }
             Answer::Done => {}
         }
-        let own = counts_of(table[row_place(i)]);
+        let own = counts_of(table[row_start(i)]);
         wires += own.wires;
         bits += own.bits;
         i += 1;
@@ -100,20 +102,20 @@ fn check_rows(table: &[u16]) -> TableCheck
     })
 }
 
-// Row i, before which so many wires are made.
+// Row i, before which `wires` wires are made: its kind, its left wire, its right wire.
 fn check_row(table: &[u16], i: u16, wires: usize) -> Answer
     requires { ⌜ RowToCheck (now table) i wires ⌝ }
     ensures { λ r. ⌜ answerNumber r ≡ rowFault (now (table .entry)) i ⌝ }
 {
-    let at = row_place(i);
+    let at = row_start(i);
     if !kind_allowed(table[at]) {
         return Answer::Refused(Fault::Fabric);
     }
-    let left = wire_of(table[at + 1]);
+    let left = wire_of(table[at + LEFT]);
     if wires <= left.0 as usize {
         return Answer::Refused(Fault::Fabric);
     }
-    let right = wire_of(table[at + 2]);
+    let right = wire_of(table[at + RIGHT]);
     if wires <= right.0 as usize {
         return Answer::Refused(Fault::Fabric);
     }
@@ -130,7 +132,7 @@ fn kind_allowed(kind: u16) -> bool
     kind <= KIND_G
 }
 
-// An output wire that is not made; more than 65,536 wires. So many wires are made in all.
+// An output wire that is not made; more than 65,536 wires. `wires` are made in all.
 fn check_end(table: &[u16], wires: usize) -> Answer
     requires { ⌜ HeaderWithin (now table) × (wires ≡ wiresIn (now table)) ⌝ }
     ensures { λ r. ⌜ answerNumber r ≡ endFault (now (table .entry)) ⌝ }
@@ -146,12 +148,12 @@ fn check_end(table: &[u16], wires: usize) -> Answer
     }
 }
 
-// An output wire that is not made.
+// An output wire that is not one of the first `wires`.
 fn check_outputs(table: &[u16], wires: usize) -> Answer
     requires { ⌜ HeaderWithin (now table) × (wires ≡ wiresIn (now table)) ⌝ }
     ensures { λ r. ⌜ answerNumber r ≡ firstOf (outputWireFault (now (table .entry))) (outputsIn (now (table .entry))) ⌝ }
 {
-    let first = row_place(table[ROWS]);
+    let first = row_start(table[ROWS]);
     let count = wide(table[OUTPUTS]);
     let mut j: usize = 0;
     while j < count {

@@ -1,9 +1,9 @@
-// Where a table's entries stand, and what a row of a kind makes and takes.
+// Where a table's rows stand, and what a row of a kind makes and takes.
 ghost use mathlib.Core.Path.{_≡_};
 ghost use Prim.Native.Nat.{_+_, _*_, _≤_};
 ghost use lib.ListN.{length};
 ghost use Rattle.blocks.specs.Elements.{stride};
-ghost use Rattle.fabric_sizes.specs.Layout.{header, outputsIn, rowsIn};
+ghost use Rattle.fabric_sizes.specs.Layout.{header, rowStart, outputsIn, rowsIn};
 ghost use Rattle.elements.specs.Elements.{maxWires};
 ghost use Rattle.fabric_table_checks.specs.Counting.{CountsOf};
 use blocks::wide;
@@ -12,13 +12,8 @@ use elements::GATE_BITS;
 use elements::KIND_X;
 use elements::KIND_Y;
 use fabric_sizes::HEADER;
-
-// Which of the entries before the rows are the numbers of inputs, outputs and rows.
-pub const INPUTS: usize = 0;
-
-pub const OUTPUTS: usize = 1;
-
-pub const ROWS: usize = 2;
+use fabric_sizes::OUTPUTS;
+use fabric_sizes::ROWS;
 
 // How many wires a row makes, and how many program bits it takes.
 pub struct RowCounts {
@@ -43,8 +38,8 @@ pub fn counts_of(kind: u16) -> RowCounts
 }
 
 // The place of row i in the table. Behind the last row stand the output wires.
-pub fn row_place(i: u16) -> usize
-    ensures { λ r. ⌜ (r ≡ header + stride * i) × (r ≤ stride * maxWires) ⌝ }
+pub fn row_start(i: u16) -> usize
+    ensures { λ r. ⌜ (r ≡ rowStart i) × (r ≤ stride * maxWires) ⌝ }
 {
     HEADER + blocks::row_place(i as u32)
 }
@@ -57,9 +52,9 @@ pub fn wire_of(entry: u16) -> FabricWire
 }
 
 // The length that a table with these counts has.
-pub(crate) fn table_length(table: &[u16]) -> usize
+pub(crate) fn expected_length(table: &[u16]) -> usize
     requires { ⌜ header ≤ length (now table) ⌝ }
-    ensures { λ r. ⌜ r ≡ header + stride * rowsIn (now (table .entry)) + outputsIn (now (table .entry)) ⌝ }
+    ensures { λ r. ⌜ r ≡ rowStart (rowsIn (now (table .entry))) + outputsIn (now (table .entry)) ⌝ }
 {
-    row_place(table[ROWS]) + wide(table[OUTPUTS])
+    row_start(table[ROWS]) + wide(table[OUTPUTS])
 }

@@ -29,7 +29,7 @@ use Rattle.fabric_universal.specs.Universal.{universalWires, Gates}
 use Rattle.fabric_universal.proofs.SelectorLaws.{double, selection-shape}
 use Rattle.fabric_universal.proofs.UniversalLaws.{length-universalRows, universal-totals, universal-below, length-universalBits, length-universalOuts}
 use Rattle.fabric_universal.proofs.UniversalLaws.{universalBits-bits, fed-below, Fed, universal-madeBefore, universal-takes, universal-count, universal-made}
-use Rattle.fabric_universal.specs.Fabric.{gateLevel, inputWires, fabricPins, universalNext, outputNext, gateOuts, fabricRows, fabricOuts, planProgram}
+use Rattle.fabric_universal.specs.Fabric.{gateLevel, inputWires, fabricPins, universalNext, fabricOutputNext, gateOuts, fabricRows, fabricOuts, planProgram}
 use Rattle.fabric_universal.specs.Fabric.{fabricCount, fabricWires, fabricTakes, fabricTable, spareGate, paddedGate, gatesOf, planGates}
 use Rattle.fabric_universal.specs.Fabric.{wantedInput, wantedInputs, wantedOutputs, planBits}
 use Rattle.blocks.proofs.PromisesLaws.{selection-block-shape}
@@ -93,13 +93,13 @@ module _ (u k v : ℕ) where
   pub pins-fed : Fed (gateLevel k) (universalNext u k) (fabricPins u k)
   pins-fed = fed-below (length-selectionOuts u (pinCount (gateLevel k)) (inputWires u) (suc u)) pins-below
 
-  pub gates-below : Below (outputNext u k) (gateOuts u k)
+  pub gates-below : Below (fabricOutputNext u k) (gateOuts u k)
   gates-below = universal-below selection (gateLevel k) (universalNext u k)
 
   -- every output wire is made
   pub fabric-below : Below (fabricWires u k v) (fabricOuts u k v)
   unfolding fabricWires fabricOuts
-  fabric-below = selection-block-shape (2 ^ gateLevel k) v .below (gateOuts u k) (outputNext u k) (omega arith) gates-below
+  fabric-below = selection-block-shape (2 ^ gateLevel k) v .below (gateOuts u k) (fabricOutputNext u k) (omega arith) gates-below
 
   pub fabric-madeBefore : MadeBefore (suc u) (fabricRows u k v)
   unfolding fabricRows
@@ -109,7 +109,7 @@ module _ (u k v : ℕ) where
       (ap (λ m. suc u + m) (selection-totals u (pinCount level) (inputWires u) (suc u) .wires))
       (madeBefore-append (universal-madeBefore selection selection-shape level (fabricPins u k) (universalNext u k) (omega arith) pins-fed)
       (ap (λ m. universalNext u k + m) (universal-totals selection selection-shape level (fabricPins u k) (universalNext u k) .wires))
-      (selection-block-shape (2 ^ level) v .madeBefore (gateOuts u k) (outputNext u k) (length-universalOuts selection level (universalNext u k)) (omega arith) gates-below))
+      (selection-block-shape (2 ^ level) v .madeBefore (gateOuts u k) (fabricOutputNext u k) (length-universalOuts selection level (universalNext u k)) (omega arith) gates-below))
 
   -- ---- closed forms
 

@@ -26,7 +26,7 @@ use Rattle.fabric_universal.specs.Selector.{pinCount, selection}
 use Rattle.fabric_universal.specs.Universal.{universalRows, universalWires, wireOf, universalBits}
 use Rattle.fabric_universal.proofs.SelectorLaws.{selection-shape, selection-keeps}
 use Rattle.fabric_universal.proofs.UniversalRun.{gateView, Starts, Computes, universal-computes}
-use Rattle.fabric_universal.specs.Fabric.{gateLevel, inputWires, fabricPins, universalNext, outputNext, gateOuts, fabricRows, fabricOuts, fabricWires}
+use Rattle.fabric_universal.specs.Fabric.{gateLevel, inputWires, fabricPins, universalNext, fabricOutputNext, gateOuts, fabricRows, fabricOuts, fabricWires}
 use Rattle.fabric_universal.specs.Fabric.{planGates, wantedInput, wantedInputs, wantedOutputs, planBits}
 use Rattle.fabric_universal.proofs.FabricLaws.{getD-inputWires, inputs-below, fabric-wires, pins-fed, gates-below, length-inputWires}
 use Rattle.fabric_universal.proofs.PlanValues.{operand-within, actOf, planValue, value-own, value-input, plan-values}
@@ -90,8 +90,8 @@ module _ (p : Plan) (accepted : Accepted p) where
 -- ---- the statement
 
 -- before the first row: the values on wire 0 and on the inputs, and the program bits
-abbrev pub startOf : {A : Type 0} → A → List A → List ℕ → State A
-startOf zeroValue row bits = record { wires = zeroValue ∷ row; bits = bits; gates = 0 }
+abbrev pub fabricStart : {A : Type 0} → A → List A → List ℕ → State A
+fabricStart zeroValue row bits = record { wires = zeroValue ∷ row; bits = bits; gates = 0 }
 
 -- a run of the fabric's rows from s to t, which sees these views, gives the plan's outputs: output wire j carries what plan output j names, the
 -- g-th gate row sees gate g of the plan, or a spare one, and the bits `rest` are left
@@ -129,7 +129,7 @@ module _ {A : Type 0} (none : A) (gate : ℕ → List ℕ → List A → A) (p :
     gateRows = universalRows selection n (fabricPins u k) (universalNext u k)
 
     abbrev outputRows : List Row
-    outputRows = selectionRows (2 ^ n) v (gateOuts u k) (outputNext u k)
+    outputRows = selectionRows (2 ^ n) v (gateOuts u k) (fabricOutputNext u k)
 
     -- the program of S(K, v), and what comes after that of S(u, 2K)
     abbrev outputProgram : List ℕ
@@ -140,7 +140,7 @@ module _ {A : Type 0} (none : A) (gate : ℕ → List ℕ → List A → A) (p :
 
     -- the states before and after the parts
     abbrev start : State A
-    start = startOf zeroValue row (planBits p ++ rest)
+    start = fabricStart zeroValue row (planBits p ++ rest)
 
     abbrev pinsDone : State A
     pinsDone = run none gate pinRows start
@@ -196,7 +196,7 @@ module _ {A : Type 0} (none : A) (gate : ℕ → List ℕ → List A → A) (p :
         universal-computes none gate selection selection-shape (selection-keeps none gate) (planGates p) (planValue none gate p row)
         (plan-values none gate p row size accepted) n 0 (fabricPins u k) (universalNext u k) pinsDone outputProgram gates-start
 
-    gates-made : length (gatesDone .wires) ≡ outputNext u k
+    gates-made : length (gatesDone .wires) ≡ fabricOutputNext u k
     gates-made = gates-computed .wires ∙ ap (λ w. w + universalWires selection n) pins-made
 
     -- S(K, v)
@@ -204,7 +204,7 @@ module _ {A : Type 0} (none : A) (gate : ℕ → List ℕ → List A → A) (p :
         (selectionWires (2 ^ n) v) rest
     unfolding fabricOuts
     outputs-brought =
-        selection-block-delivers none gate (2 ^ n) v .delivers (outputs-selected p accepted) (gateOuts u k) (outputNext u k) gatesDone rest
+        selection-block-delivers none gate (2 ^ n) v .delivers (outputs-selected p accepted) (gateOuts u k) (fabricOutputNext u k) gatesDone rest
         (length-universalOuts selection n (universalNext u k)) (omega arith) (gates-below u k v) gates-made (gates-computed .bits)
 
     output-carries : (j : ℕ) → j < v
@@ -222,7 +222,7 @@ module _ {A : Type 0} (none : A) (gate : ℕ → List ℕ → List A → A) (p :
         views-append none gate pinRows _ start
         ∙ rw (views-none none gate pinRows start (selection-totals u (pinCount n) (inputWires u) (suc u) .gates))
         (views-append none gate gateRows outputRows pinsDone
-        ∙ rw (views-none none gate outputRows gatesDone (selection-totals (2 ^ n) v (gateOuts u k) (outputNext u k) .gates))
+        ∙ rw (views-none none gate outputRows gatesDone (selection-totals (2 ^ n) v (gateOuts u k) (fabricOutputNext u k) .gates))
         (append-nil (views none gate gateRows pinsDone)))
 
     -- for every accepted plan the fabric of its counts computes the plan

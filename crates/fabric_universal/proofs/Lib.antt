@@ -1,9 +1,5 @@
--- the fabric's counts: rows, wires, bits
-pub mod FabricLaws
--- the fabric's promise, over values of any type: its outputs are the plan's
-pub mod FabricRun
--- a plan's values are as the gates of U say
-pub mod PlanValues
+-- what the gates of r ++ s see
+pub mod ViewsLaws
 -- document 01's S(K/2, K) keeps what the selection block must promise
 pub mod SelectorLaws
 -- U's counts: rows, wires, bits; its rows' wires are made before them
@@ -12,6 +8,9 @@ pub mod UniversalLaws
 pub mod UniversalProgram
 -- U's promise: its outputs are the gates' values
 pub mod UniversalRun
--- The laws of the definitions.
--- the views of r ++ s
-pub mod ViewsLaws
+-- the fabric's counts: rows, wires, bits; its rows' wires are made before them
+pub mod FabricLaws
+-- a plan's values are as the gates of U say
+pub mod PlanValues
+-- the fabric's promise, over values of any type: its outputs are the plan's
+pub mod FabricRun

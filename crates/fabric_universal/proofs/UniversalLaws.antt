@@ -15,7 +15,7 @@ use Rattle.lists.proofs.CountingLaws.{one-lt}
 use Rattle.fabric_universal.specs.Selector.{pinCount, Selector, SelectorShape, selection}
 use Rattle.fabric_universal.proofs.SelectorLaws.{double, selection-shape, half-count, half-made}
 use Rattle.fabric_universal.specs.Universal.{mixRows, wiresFrom}
-use Rattle.fabric_universal.specs.Universal.{universalCount, universalWires, universalTakes, selectNext, mixNext, lowerNext, universalOuts, selectedOuts}
+use Rattle.fabric_universal.specs.Universal.{universalCount, universalWires, universalTakes, selectNext, mixNext, lowerHalfNext, universalOuts, selectedOuts}
 use Rattle.fabric_universal.specs.Universal.{lowerPins, universalRows, Gates, tableProgram, isOf, mixBits, universalBits}
 use Rattle.fabric_universal.proofs.UniversalProgram.{wanted-selected}
 use lib.Pow.{pow-pos}
@@ -36,7 +36,7 @@ module _ (S : Selector) where
   length-universalOuts zero next = refl
   length-universalOuts (suc n) next =
       length-append (universalOuts S n next) _
-      ∙ omega (arith, double n, length-universalOuts n next, length-universalOuts n (lowerNext S n next))
+      ∙ omega (arith, double n, length-universalOuts n next, length-universalOuts n (lowerHalfNext S n next))
 
   -- every output wire is made
   pub universal-below : (n next : ℕ) → Below (next + universalWires S n) (universalOuts S n next)
@@ -47,7 +47,7 @@ module _ (S : Selector) where
       at zero l = omega arith
       at (suc i) l = absurd (omega arith)
   universal-below (suc n) next =
-      below-append (below-more _ (universal-below n next) (omega arith)) (below-more _ (universal-below n (lowerNext S n next)) (omega arith))
+      below-append (below-more _ (universal-below n next) (omega arith)) (below-more _ (universal-below n (lowerHalfNext S n next)) (omega arith))
 
   module _ (shape : SelectorShape S) where
     pub length-universalRows : (n : ℕ) (pins : List ℕ) (next : ℕ) → length (universalRows S n pins next) ≡ universalCount S n
@@ -56,7 +56,7 @@ module _ (S : Selector) where
     length-universalRows (suc n) pins next = simp (
       length-append,
       length-universalRows n (take (pinCount n) pins) next,
-      length-universalRows n (lowerPins S n next) (lowerNext S n next),
+      length-universalRows n (lowerPins S n next) (lowerHalfNext S n next),
       shape .at n .size,
       length-listOf,
     )
@@ -67,7 +67,7 @@ module _ (S : Selector) where
     universal-totals (suc n) pins next =
         let t = totals-append (universal-totals n (take (pinCount n) pins) next)
         (totals-append (shape .at n .totals (universalOuts S n next) (selectNext S n next))
-        (totals-append (y-list (pinCount n) _ _) (universal-totals n (lowerPins S n next) (lowerNext S n next)))) in
+        (totals-append (y-list (pinCount n) _ _) (universal-totals n (lowerPins S n next) (lowerHalfNext S n next)))) in
         record { wires = t .wires; bits = t .bits; gates = omega (arith, t .gates, double n); family = t .family }
 
 -- ---- its wires
@@ -79,8 +79,8 @@ pub record Fed (n next : ℕ) (pins : List ℕ) : Type 0 where
 pub fed-below : {n next : ℕ} {pins : List ℕ} → length pins ≡ pinCount n → Below next pins → Fed n next pins
 fed-below e b = record { each = λ i l. b .each i (rw e l) }
 
-pub upper-fed : {n next : ℕ} {pins : List ℕ} → Fed (suc n) next pins → Fed n next (take (pinCount n) pins)
-upper-fed {n} {next} {pins} F = record {
+pub upper-pins-fed : {n next : ℕ} {pins : List ℕ} → Fed (suc n) next pins → Fed n next (take (pinCount n) pins)
+upper-pins-fed {n} {next} {pins} F = record {
   each = λ i l. rw (getD-take (pinCount n) pins i 0 l) (F .each i (omega (arith, double n)));
 }
 
@@ -97,8 +97,8 @@ module _ (S : Selector) where
   unfolding wiresFrom
   getD-lowerPins n next j l = getD-listOf (pinCount n) _ j 0 l
 
-  pub lower-fed : (n next : ℕ) → Fed n (lowerNext S n next) (lowerPins S n next)
-  lower-fed n next = record { each = λ j l. rw (getD-lowerPins n next j l) (omega arith) }
+  pub lower-pins-fed : (n next : ℕ) → Fed n (lowerHalfNext S n next) (lowerPins S n next)
+  lower-pins-fed n next = record { each = λ j l. rw (getD-lowerPins n next j l) (omega arith) }
 
   module _ (shape : SelectorShape S) where
     pub selected-fed : (n next j : ℕ) → 0 < next → j < pinCount n → getD (selectedOuts S n next) j 0 < mixNext S n next
@@ -112,14 +112,14 @@ module _ (S : Selector) where
     universal-madeBefore (suc n) pins next z F =
         let outs = universalOuts S n next in
         let after = selectNext S n next in
-        madeBefore-append (universal-madeBefore n (take (pinCount n) pins) next z (upper-fed F))
+        madeBefore-append (universal-madeBefore n (take (pinCount n) pins) next z (upper-pins-fed F))
         (ap (λ k. next + k) (universal-totals S shape n (take (pinCount n) pins) next .wires))
         (madeBefore-append (shape .at n .madeBefore outs after (length-universalOuts S n next) (omega arith) (universal-below S n next))
         (ap (λ k. after + k) (shape .at n .totals outs after .wires))
         (madeBefore-append
         (y-madeBefore (mixNext S n next) (pinCount n) _ _ (λ j l. omega (arith, mixed-fed F j l)) (λ j l. omega (arith, selected-fed n next j z l)))
         (ap (λ k. mixNext S n next + k) (y-list (pinCount n) _ _ .wires))
-        (universal-madeBefore n (lowerPins S n next) (lowerNext S n next) (omega arith) (lower-fed n next))))
+        (universal-madeBefore n (lowerPins S n next) (lowerHalfNext S n next) (omega arith) (lower-pins-fed n next))))
 
     -- ---- its program bits
 

@@ -20,12 +20,12 @@ use Rattle.lists.specs.Counting.{oneIf}
 use Rattle.fabric_universal.specs.Views.{View, viewOf, views}
 use Rattle.fabric_universal.proofs.ViewsLaws.{views-append, views-none}
 use Rattle.fabric_universal.specs.Selector.{pinCount, Selector, SelectorShape, SelectorDelivers}
-use Rattle.fabric_universal.specs.Universal.{mixRows, universalWires, selectNext, mixNext, lowerNext, universalOuts, selectedOuts, lowerPins}
+use Rattle.fabric_universal.specs.Universal.{mixRows, universalWires, selectNext, mixNext, lowerHalfNext, universalOuts, selectedOuts, lowerPins}
 use Rattle.fabric_universal.specs.Universal.{universalRows, Gates, wireOf, tableProgram, isOf, wantedGates, mixBits, universalBits}
 use Rattle.fabric_universal.proofs.SelectorLaws.{double}
 use Rattle.fabric_universal.proofs.UniversalProgram.{not-of, wanted-selected, wants, mixBits-at, length-mixBits, program-parts, length-table}
 use Rattle.fabric_universal.proofs.UniversalLaws.{length-universalOuts, universal-below, universal-totals, length-universalBits}
-use Rattle.fabric_universal.proofs.UniversalLaws.{Fed, upper-fed, mixed-fed, getD-lowerPins, lower-fed, selected-fed}
+use Rattle.fabric_universal.proofs.UniversalLaws.{Fed, upper-pins-fed, mixed-fed, getD-lowerPins, lower-pins-fed, selected-fed}
 
 -- ---- the statement
 
@@ -94,7 +94,7 @@ module _ {A : Type 0} (none : A) (gate : ℕ → List ℕ → List A → A) (S :
     mixDone = run none gate (mixRows (pinCount n) pins (selectedOuts S n next)) selectDone
 
     abbrev lowerDone : State A
-    lowerDone = run none gate (universalRows S n (lowerPins S n next) (lowerNext S n next)) mixDone
+    lowerDone = run none gate (universalRows S n (lowerPins S n next) (lowerHalfNext S n next)) mixDone
 
     run-parts : run none gate (universalRows S (suc n) pins next) s ≡ lowerDone
     unfolding universalRows
@@ -110,7 +110,7 @@ module _ {A : Type 0} (none : A) (gate : ℕ → List ℕ → List A → A) (S :
     -- the gates are those of the halves
     views-parts : SelectorShape S → views none gate (universalRows S (suc n) pins next) s
         ≡ views none gate (universalRows S n (take (pinCount n) pins) next) s
-        ++ views none gate (universalRows S n (lowerPins S n next) (lowerNext S n next)) mixDone
+        ++ views none gate (universalRows S n (lowerPins S n next) (lowerHalfNext S n next)) mixDone
     unfolding universalRows mixRows
     views-parts shape =
         views-append none gate _ _ s
@@ -177,7 +177,7 @@ module _ {A : Type 0} (none : A) (gate : ℕ → List ℕ → List A → A) (S :
       upper-starts : Starts none gate S G value n base (take (pinCount n) pins) next s selectProgram
       upper-starts = record {
         some = H .some;
-        fed = upper-fed (H .fed);
+        fed = upper-pins-fed (H .fed);
         made = H .made;
         number = H .number;
         bits = H .bits ∙ program-parts S G n base rest;
@@ -234,7 +234,7 @@ module _ {A : Type 0} (none : A) (gate : ℕ → List ℕ → List A → A) (S :
                 let early = not-of G base (2 ^ n) w e′ (omega arith) in
                 rw e′ (H .carried (pinCount n + j) (omega (arith, double n)) (omega arith) ∙ ap value own)
 
-        lower-starts : Starts none gate S G value n (base + 2 ^ n) (lowerPins S n next) (lowerNext S n next) (mixDone none gate S n pins next s) rest
+        lower-starts : Starts none gate S G value n (base + 2 ^ n) (lowerPins S n next) (lowerHalfNext S n next) (mixDone none gate S n pins next s) rest
         unfolding mixRows
         lower-starts =
             let left : ℕ → ℕ = λ i. getD pins (pinCount n + i) 0 in
@@ -242,7 +242,7 @@ module _ {A : Type 0} (none : A) (gate : ℕ → List ℕ → List A → A) (S :
             let state = selectDone none gate S n pins next s in
             record {
               some = omega (arith, H .some);
-              fed = lower-fed S n next;
+              fed = lower-pins-fed S n next;
               made = runY-made none gate (pinCount n) left right state ∙ ap (λ w. w + pinCount n) made-selected;
               number = run-gates none gate _ state ∙ rw (y-list (pinCount n) left right .gates, add-zero) (selected .gates ∙ U .gates);
               bits = runY-left none gate (pinCount n) left right state
@@ -250,7 +250,7 @@ module _ {A : Type 0} (none : A) (gate : ℕ → List ℕ → List A → A) (S :
               carried = lower-carries;
             }
 
-        module _ (seenLower : List (View A)) (L : Computes none gate S G value n (base + 2 ^ n) (lowerNext S n next)
+        module _ (seenLower : List (View A)) (L : Computes none gate S G value n (base + 2 ^ n) (lowerHalfNext S n next)
             (mixDone none gate S n pins next s) (lowerDone none gate S n pins next s) seenLower rest) where
           both-carry : (i : ℕ) → i < 2 ^ suc n
               → on none (run none gate (universalRows S (suc n) pins next) s) (getD (universalOuts S (suc n) next) i 0) ≡ value (wireOf G (base + i))
@@ -264,7 +264,7 @@ module _ {A : Type 0} (none : A) (gate : ℕ → List ℕ → List A → A) (S :
               upper = universalOuts S n next
 
               lower : List ℕ
-              lower = universalOuts S n (lowerNext S n next)
+              lower = universalOuts S n (lowerHalfNext S n next)
 
               go : Dec (i < 2 ^ n) → on none t (getD (upper ++ lower) i 0) ≡ value (wireOf G (base + i))
               go (yes m) =
@@ -296,6 +296,6 @@ module _ {A : Type 0} (none : A) (gate : ℕ → List ℕ → List A → A) (S :
         let seenUpper : List (View A) = views none gate (universalRows S n (take (pinCount n) pins) next) s in
         let upper = universal-computes n base (take (pinCount n) pins) next s _ (upper-starts n base pins next s rest H) in
         let start = lower-starts n base pins next s rest H seenUpper upper in
-        let lower = universal-computes n (base + 2 ^ n) (lowerPins S n next) (lowerNext S n next) (mixDone none gate S n pins next s) rest start in
+        let lower = universal-computes n (base + 2 ^ n) (lowerPins S n next) (lowerHalfNext S n next) (mixDone none gate S n pins next s) rest start in
         finish H (both-carry n base pins next s rest H seenUpper upper _ lower)
         (views-parts none gate S n pins next s shape ∙ both-see n base pins next s rest H seenUpper upper _ lower)

@@ -32,21 +32,22 @@ fabricPins u k = selectionOuts u (pinCount (gateLevel k)) (inputWires u) (suc u)
 abbrev pub universalNext : ℕ → ℕ → ℕ
 universalNext u k = suc u + selectionWires u (pinCount (gateLevel k))
 
-abbrev pub outputNext : ℕ → ℕ → ℕ
-outputNext u k = universalNext u k + universalWires selection (gateLevel k)
+abbrev pub fabricOutputNext : ℕ → ℕ → ℕ
+fabricOutputNext u k = universalNext u k + universalWires selection (gateLevel k)
 
 -- the gates' wires: the outputs of U(K)
 abbrev pub gateOuts : ℕ → ℕ → List ℕ
 gateOuts u k = universalOuts selection (gateLevel k) (universalNext u k)
 
+-- the fabric's rows, and its output wires
 unfoldable pub fabricRows : ℕ → ℕ → ℕ → List Row
 fabricRows u k v =
     selectionRows u (pinCount (gateLevel k)) (inputWires u) (suc u)
     ++ (universalRows selection (gateLevel k) (fabricPins u k) (universalNext u k)
-    ++ selectionRows (2 ^ gateLevel k) v (gateOuts u k) (outputNext u k))
+    ++ selectionRows (2 ^ gateLevel k) v (gateOuts u k) (fabricOutputNext u k))
 
 unfoldable pub fabricOuts : ℕ → ℕ → ℕ → List ℕ
-fabricOuts u k v = selectionOuts (2 ^ gateLevel k) v (gateOuts u k) (outputNext u k)
+fabricOuts u k v = selectionOuts (2 ^ gateLevel k) v (gateOuts u k) (fabricOutputNext u k)
 
 -- ---- counts: rows, wires, program bits
 
@@ -55,7 +56,7 @@ fabricCount u k v =
     selectionCount u (pinCount (gateLevel k)) + (universalCount selection (gateLevel k) + selectionCount (2 ^ gateLevel k) v)
 
 unfoldable pub fabricWires : ℕ → ℕ → ℕ → ℕ
-fabricWires u k v = outputNext u k + selectionWires (2 ^ gateLevel k) v
+fabricWires u k v = fabricOutputNext u k + selectionWires (2 ^ gateLevel k) v
 
 unfoldable pub fabricTakes : ℕ → ℕ → ℕ → ℕ
 fabricTakes u k v =
@@ -72,6 +73,7 @@ fabricTable u k v = u ∷ v ∷ fabricCount u k v ∷ (flat (fabricRows u k v) +
 abbrev pub spareGate : Gate
 spareGate = record { first = wire 1; second = wire 1; table = 0 }
 
+-- gate g, or the spare one
 unfoldable pub paddedGate : Plan → ℕ → Gate
 paddedGate p g = cond (ltb g (p .«gate_count»)) (gateAt p g) spareGate
 
@@ -91,6 +93,7 @@ planGates p = gatesOf (p .inputs) (paddedGate p)
 unfoldable pub wantedInput : ℕ → ℕ → ℕ
 wantedInput u w = cond (leb w u) w 1
 
+-- the inputs that the pins want
 unfoldable pub wantedInputs : Plan → List ℕ
 wantedInputs p = listOf (pinCount (gateLevel (p .«gate_count»))) (λ q. wantedInput (p .inputs) (planGates p .operand q))
 
@@ -98,13 +101,14 @@ wantedInputs p = listOf (pinCount (gateLevel (p .«gate_count»))) (λ q. wanted
 unfoldable pub wantedOutputs : Plan → List ℕ
 wantedOutputs p = listOf (p .«output_count») (λ j. outputAt p j .0 - p .inputs)
 
+-- the bits of S(u, 2K), U(K), S(K, v)
 unfoldable pub planBits : Plan → List ℕ
 planBits p =
     let n : ℕ = gateLevel (p .«gate_count») in
     selectionBits (p .inputs) (pinCount n) (wantedInputs p)
     ++ (universalBits selection (planGates p) n 0 ++ selectionBits (2 ^ n) (p .«output_count») (wantedOutputs p))
 
--- packed
+-- packed into bytes
 unfoldable pub planProgram : Plan → List ℕ
 planProgram p = pack (planBits p)
 

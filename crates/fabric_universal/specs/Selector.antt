@@ -10,6 +10,7 @@ use Rattle.blocks.specs.Promises.{Block, BlockShape, BlockDelivers, selectionBl
 abbrev pub pinCount : ℕ → ℕ
 pinCount n = operands * 2 ^ n
 
+-- a selection block for each level
 abbrev pub Selector : Type 0
 Selector = (n : ℕ) → Block (2 ^ n) (pinCount n)
 

@@ -16,7 +16,7 @@ use Rattle.fabric_universal.specs.Selector.{pinCount, Selector}
 unfoldable pub mixRows : ℕ → List ℕ → List ℕ → List Row
 mixRows k pins selected = listOf k (λ j. Y (getD pins (k + j) 0) (getD selected j 0))
 
--- k wires from `next` on: the outputs of so many Y rows
+-- k wires from `next` on: the outputs of k Y rows
 unfoldable pub wiresFrom : ℕ → ℕ → List ℕ
 wiresFrom k next = listOf k (λ j. next + j)
 
@@ -41,13 +41,13 @@ module _ (S : Selector) where
   abbrev pub mixNext : ℕ → ℕ → ℕ
   mixNext n next = selectNext n next + S n .wires
 
-  abbrev pub lowerNext : ℕ → ℕ → ℕ
-  lowerNext n next = mixNext n next + pinCount n
+  abbrev pub lowerHalfNext : ℕ → ℕ → ℕ
+  lowerHalfNext n next = mixNext n next + pinCount n
 
   -- the output wires of U(2 ^ n), where `next` is the next unmade wire: upper's, then lower's. Each is a gate row's, whatever the pins
   unfoldable pub universalOuts : ℕ → ℕ → List ℕ
   universalOuts zero next = next ∷ []
-  universalOuts (suc n) next = universalOuts n next ++ universalOuts n (lowerNext n next)
+  universalOuts (suc n) next = universalOuts n next ++ universalOuts n (lowerHalfNext n next)
 
   -- what the selection block gives to the lower half of U(2 * 2 ^ n), and that half's pins
   abbrev pub selectedOuts : ℕ → ℕ → List ℕ
@@ -63,7 +63,7 @@ module _ (S : Selector) where
       universalRows n (take (pinCount n) pins) next
       ++ (S n .rows (universalOuts n next) (selectNext n next)
       ++ (mixRows (pinCount n) pins (selectedOuts n next)
-      ++ universalRows n (lowerPins n next) (lowerNext n next)))
+      ++ universalRows n (lowerPins n next) (lowerHalfNext n next)))
 
 -- ---- programming
 

@@ -1,15 +1,21 @@
 // A line of output, built in an array of bytes: each function puts something from a place on, as far as there is room, and answers the
 // next place.
 
-// Places for the longest line: three times 64 digits, two spaces and LF. Line one is shorter.
-const LENGTH: usize = 3 * 64 + 3;
+use plan::Plan;
 
+// Places for the longest line: a digit for each input, for each of the plan's outputs and for each of the fabric's, two spaces and LF. Line one is
+// shorter.
+const LENGTH: usize = Plan::MAX_INPUTS + 2 * Plan::MAX_OUTPUTS + 3;
+
+// The bytes of a line.
 pub(crate) type Line = [u8; LENGTH];
 
+// A line with nothing put.
 pub(crate) fn blank() -> Line {
     [0; LENGTH]
 }
 
+// One byte.
 pub(crate) fn put_byte(line: &mut Line, at: usize, byte: u8) -> usize {
     if at < LENGTH {
         line[at] = byte;
@@ -18,6 +24,7 @@ pub(crate) fn put_byte(line: &mut Line, at: usize, byte: u8) -> usize {
     at
 }
 
+// The bytes of a word.
 pub(crate) fn put_word(line: &mut Line, at: usize, word: &[u8]) -> usize {
     let mut next = at;
     let mut i: usize = 0;
@@ -28,13 +35,14 @@ pub(crate) fn put_word(line: &mut Line, at: usize, word: &[u8]) -> usize {
     next
 }
 
+// A number in decimal digits.
 pub(crate) fn put_number(line: &mut Line, at: usize, number: u64) -> usize {
     let mut digits = [0u8; 20];
     let n = io::decimal(number, &mut digits);
     put_word(line, at, &digits[..n])
 }
 
-// The first entries of a row, each as its digit.
+// The first `count` entries of a row, each as its digit.
 pub(crate) fn put_entries(line: &mut Line, at: usize, row: &[u8], count: usize) -> usize {
     let mut next = at;
     let mut i: usize = 0;
@@ -45,23 +53,26 @@ pub(crate) fn put_entries(line: &mut Line, at: usize, row: &[u8], count: usize) 
     next
 }
 
+// Entry i of a row as its digit; nothing past its end.
 fn put_entry(line: &mut Line, at: usize, row: &[u8], i: usize) -> usize {
     if i < row.len() {
-        return put_number(line, at, wide(row[i]));
+        return put_number(line, at, entry_number(row[i]));
     }
     at
 }
 
-fn wide(entry: u8) -> u64 {
+// An entry as a number.
+fn entry_number(entry: u8) -> u64 {
     entry as u64
 }
 
-// Ends the line at a place and writes it.
+// Ends the line at the place `at` and writes it.
 pub(crate) fn print(line: &mut Line, at: usize) {
     let n = put_byte(line, at, b'\n');
     print_first(line, n);
 }
 
+// The first n bytes of a line to standard output.
 fn print_first(line: &[u8], n: usize) {
     if n <= line.len() {
         io::write_all(1, &line[..n]);

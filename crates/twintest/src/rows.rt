@@ -5,19 +5,22 @@ use crate::line::put_byte;
 use crate::line::put_entries;
 use crate::print_refusal;
 use equivalence::run_both;
+use fabric::HEADER;
 use fault::Answer;
 use fault::Fault;
 use plan::Plan;
 
-// The stated lengths for u, k and v of 64, whose fabric has 5,185 rows, 9,476 wires and 5,377 bits.
-const TABLE: usize = 3 + 3 * 5185 + 64;
+// The entries of the table for u, k and v of 64, whose fabric has 5,185 rows of three entries.
+const TABLE: usize = HEADER + 3 * 5185 + Plan::MAX_OUTPUTS;
 
+// The bytes of its programs, of 5,377 bits.
 const PROGRAM: usize = (5377 + 7) / 8;
 
+// The bytes of its run's work buffer, one for each of 9,476 wires.
 const WORK: usize = 9476;
 
-// Entries of a row of inputs or outputs.
-const ROW: usize = 64;
+// The entries of the longest row of inputs, and of the longest row of outputs.
+const ROW: usize = Plan::MAX_INPUTS;
 
 // The inputs that a row's number sets; those past them are 0.
 const COUNTED: u16 = 6;
@@ -30,7 +33,7 @@ pub(crate) fn print_rows(plan: Plan) {
     let mut inputs = [0u8; ROW];
     let mut evaluated = [0u8; ROW];
     let mut ran = [0u8; ROW];
-    let rows = row_count(plan.inputs);
+    let rows = input_row_count(plan.inputs);
     let mut r: u8 = 0;
     while r < rows
         && print_row(
@@ -49,7 +52,7 @@ pub(crate) fn print_rows(plan: Plan) {
 }
 
 // 2 to the power min(u, 6).
-fn row_count(inputs: u16) -> u8 {
+fn input_row_count(inputs: u16) -> u8 {
     if inputs < COUNTED {
         return 1u8 << inputs;
     }
@@ -68,7 +71,7 @@ fn print_row(
     ran: &mut [u8; ROW],
 ) -> bool {
     set_inputs(inputs, r);
-    match run_row(plan, inputs, table, program, work, evaluated, ran) {
+    match run_input_row(plan, inputs, table, program, work, evaluated, ran) {
         Answer::Refused(f) => {
             print_refusal(f, 0);
             false
@@ -83,7 +86,7 @@ fn print_row(
 }
 
 // The library's call on the first u entries. A plan that was read has at most 64 inputs.
-fn run_row(
+fn run_input_row(
     plan: Plan,
     inputs: &[u8],
     table: &mut [u16; TABLE],
@@ -103,12 +106,13 @@ fn run_row(
 fn set_inputs(inputs: &mut [u8; ROW], r: u8) {
     let mut i: usize = 0;
     while i < ROW {
-        inputs[i] = input_of(r, i);
+        inputs[i] = input_bit(r, i);
         i += 1;
     }
 }
 
-fn input_of(r: u8, i: usize) -> u8 {
+// Bit i of r; 0 past the inputs that r sets.
+fn input_bit(r: u8, i: usize) -> u8 {
     if i < COUNTED as usize {
         return (r >> i) & 1;
     }

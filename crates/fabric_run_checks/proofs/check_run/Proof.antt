@@ -36,10 +36,10 @@ module _ (c : tie.After-c) where
   few = subst (λ r. checkOutcome r .bits ≤ maxBits) (c .c .given .1) (c .before .before .check-table .ensures .1)
 
 -- what 14 and 12 answer, and where they pass
-module _ (c : tie.After-check-program) where
-  program-asked : answerNumber (c .check-program .result) ≡ givenProgramFault (bitsIn (table (c .before .before))) (start (c .before .before) .args .program .now)
+module _ (c : tie.After-check-given-program) where
+  program-asked : answerNumber (c .check-given-program .result) ≡ givenProgramFault (bitsIn (table (c .before .before))) (start (c .before .before) .args .program .now)
   program-asked =
-      c .check-program .ensures
+      c .check-given-program .ensures
       ∙ ap (λ n. givenProgramFault n (start (c .before .before) .args .program .now)) (counted (c .before .before) .counted .bits)
 
 program-passes : (c : tie.After-enum-told) → (
@@ -95,7 +95,7 @@ rooms c =
     second-answers _ _ _ (counted (passed asked) .passes)
     (second-answers _ _ _ (program-passes (asked .before .before .before))
     (second-answers _ _ _ (ap answerNumber (sym (told .enum-told2 .given .1)) ∙ contact-asked asked)
-    (c .check-rooms .ensures
+    (c .check-run-rooms .ensures
     ∙ ap₂ (λ w v. roomsFault w v (a .work) (a .result)) (counted (passed asked) .counted .wires) (c .before .wide2 .ensures .0))))
 
 pub check-run-spec : {M : Type 1} → statement M

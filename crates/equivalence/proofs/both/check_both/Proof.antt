@@ -33,7 +33,7 @@ rooms : tie.Need-returns-3
 unfolding bothFault
 rooms c =
     let told = c .before in
-    second-answers _ _ _ (planned (told .before .before .before .before)) (second-answers _ _ _ (contacted told) (c .check-rooms .ensures))
+    second-answers _ _ _ (planned (told .before .before .before .before)) (second-answers _ _ _ (contacted told) (c .check-both-rooms .ensures))
 
 pub check-both-spec : {M : Type 1} → statement M
 check-both-spec =

@@ -1,4 +1,4 @@
--- `equivalence::both::run_written` meets its contract: so many entries and bytes are lent. Assumes nothing.
+-- `equivalence::both::run_written` meets its contract: the first entries and bytes are lent. Assumes nothing.
 use mathlib.Core.Path.{sym}
 use borrow.Author.Needs.{needs}
 use lib.Seq.{length-take-le}

@@ -12,8 +12,8 @@ use lib.Pow.{pow-pos}
 use Rattle.blocks.specs.Elements.{storeBits}
 use Rattle.fabric_universal.specs.Fabric.{gateLevel}
 use Rattle.fabric_sizes.proofs.PartsLaws.{halved}
-use Rattle.fabric_lists.specs.WantedLists.{gatesIn, pinsIn}
-use Rattle.fabric_bits.proofs.UniversalBitsLaws.{takes-half, upper-room, between-room, lower-room, length-between, between-pins, gate-takes, gate-stored, halves-stored}
+use Rattle.fabric_lists.specs.WantedLists.{listedGates, listedOperands}
+use Rattle.fabric_bits.proofs.UniversalBitsLaws.{takes-half, upper-program-room, between-room, lower-program-room, length-between, between-listed, gate-takes, gate-stored, halves-stored}
 use Rattle.fabric_bits.proofs.block.program_universal.Reads as program-universal
 use Rattle.fabric_bits.proofs.block.program_universal.Kinds as program-universal-kinds
 use Rattle.fabric_bits.proofs.block.+program_universal.Lts-program_universal as program-universal-lts
@@ -59,7 +59,7 @@ table t c =
     let a = if1 .before .before .before .before .before .args in (
       omega (arith, gate-takes (if1 .if1 .taken)),
       c .before .before .store-table .ensures
-          ∙ gate-stored (gatesIn (a .before) (a .pins .now) (a .tables .now)) (a .gates) (a .base) (a .start) (a .program .now) (if1 .if1 .taken),
+          ∙ gate-stored (listedGates (a .before) (a .operands .now) (a .tables .now)) (a .gates) (a .base) (a .start) (a .program .now) (if1 .if1 .taken),
     )
 
 for-upper : (t : ℕ) → program-universal-lts.Need-program-universal-requires (calls t) (universal-at t) program-universal.Post
@@ -67,7 +67,7 @@ for-upper t c κs =
     let if1 = c .before .before in
     let s = if1 .before .before .before .before .before in
     let h = halved (s .pre .1 .power) (if1 .if1 .left) in
-    (omega (arith, s .pre .0), upper-room (s .pre .1) h)
+    (omega (arith, s .pre .0), upper-program-room (s .pre .1) h)
 
 for-between : (t : ℕ) → program-universal-lts.Need-program-between-requires (calls t) (universal-at t) program-universal.Post
 for-between t c κs =
@@ -91,9 +91,9 @@ for-lower t c κs =
     let s = if1 .before .before .before .before .before in
     let a = s .args in
     let h = halved (s .pre .1 .power) (if1 .if1 .left) in
-    let size = length-between (pinsIn (a .before) (a .pins .now)) (a .base) (a .gates / 2) in (
+    let size = length-between (listedOperands (a .before) (a .operands .now)) (a .base) (a .gates / 2) in (
       omega (arith, s .pre .0),
-      lower-room (s .pre .1) h (omega (arith, between .program-between .ensures .0, upper .program-universal .ensures .0, size))
+      lower-program-room (s .pre .1) h (omega (arith, between .program-between .ensures .0, upper .program-universal .ensures .0, size))
           (between .program-between .kept .1 .1 .1 .1 .0 ∙ upper .program-universal .kept .1 .1 .1 .1 .1 .0)
           (between .program-between .kept .1 .1 .1 .1 .1 .0 ∙ upper .program-universal .kept .1 .1 .1 .1 .1 .1 .0),
     )
@@ -106,11 +106,11 @@ stored t c =
     let if1 = upper .before .before .before in
     let s = if1 .before .before .before .before .before in
     let a = s .args in
-    let pins = a .pins .now in
-    let G = gatesIn (a .before) pins (a .tables .now) in
+    let operandList = a .operands .now in
+    let G = listedGates (a .before) operandList (a .tables .now) in
     let h = halved (s .pre .1 .power) (if1 .if1 .left) in
-    let same = between-pins (a .before) pins (a .tables .now) (a .base) (a .gates / 2) in
-    let size = length-between (pinsIn (a .before) pins) (a .base) (a .gates / 2) in (
+    let same = between-listed (a .before) operandList (a .tables .now) (a .base) (a .gates / 2) in
+    let size = length-between (listedOperands (a .before) operandList) (a .base) (a .gates / 2) in (
       omega (
         arith,
         lower .program-universal2 .ensures .0,

@@ -19,7 +19,7 @@ use Rattle.fabric_bits.proofs.programming.program_plan.Tie as tie
 -- where the checks are done, none fails
 module _ (c : tie.After-enum-told) where
   none : let a = c .before .before .before .before .args in 0 ≡ planProgramFault (a .plan) (length (a .program .now))
-  none = ap answerNumber (sym (c .enum-told .given .1)) ∙ c .before .before .check-program .ensures
+  none = ap answerNumber (sym (c .enum-told .given .1)) ∙ c .before .before .check-plan-program .ensures
 
   passes : let a = c .before .before .before .before .args in PlanProgramPasses (a .plan) (length (a .program .now))
   passes = plan-program-passes _ _ (sym none)
@@ -33,7 +33,7 @@ for-bits c κs =
 refused : tie.Need-returns
 refused c =
     let f = c .before .f .given in
-    let e = ap answerNumber (sym (f .1)) ∙ c .before .before .before .check-program .ensures in
+    let e = ap answerNumber (sym (f .1)) ∙ c .before .before .before .check-plan-program .ensures in
     (e, filled-refused (f .0 .0) _ _ _ e)
 
 done : tie.Need-returns-2

@@ -13,22 +13,22 @@ use Rattle.fabric_bits.proofs.programming.store_gates.Statement.{statem
 use Rattle.fabric_bits.proofs.programming.store_gates.Tie as tie
 
 -- 2K
-pins : (c : tie.After-gate-places) → 2 * c .gate-places .result ≡ pinCount (gateLevel (c .before .before .before .before .before .args .gates))
-pins c = ap (λ n. 2 * n) (c .gate-places .ensures .isPlaces)
+pins-are : (c : tie.After-gate-places) → 2 * c .gate-places .result ≡ pinCount (gateLevel (c .before .before .before .before .before .args .gates))
+pins-are c = ap (λ n. 2 * n) (c .gate-places .ensures .isPlaces)
 
 for-inputs : tie.Need-store-inputs-requires
 for-inputs c κs =
     let placed = c .before .before in
     let s = placed .before .before .before .before .before in
     let R = s .pre .gates in
-    let e = pins placed in
+    let e = pins-are placed in
     (rw e (s .pre .inputs), (omega (arith, R .wantedRoom, R .all), rw e (omega (arith, R .few))))
 
 -- where U(K)'s bits begin
 next : (c : tie.After-store-inputs) → let a = c .before .before .before .before .before .before .before .before .args in
     c .store-inputs .result ≡ selectionCount (a .inputs) (pinCount (gateLevel (a .gates)))
 next c =
-    c .store-inputs .ensures .0 ∙ ap (selectionCount (c .before .before .before .before .before .before .before .before .args .inputs)) (pins (c .before .before .before))
+    c .store-inputs .ensures .0 ∙ ap (selectionCount (c .before .before .before .before .before .before .before .before .args .inputs)) (pins-are (c .before .before .before))
 
 for-universal : tie.Need-program-universal-requires
 for-universal c κs =
@@ -45,8 +45,8 @@ stored c =
     let a = placed .before .before .before .before .before .args in
     let e = placed .gate-places .ensures .isPlaces in
     let takes = ap (universalTakes selection) (ap gateLevel e ∙ same-level (a .gates)) in (
-      omega (arith, next first, universal .program-universal .ensures .0, takes, length-gates (a .inputs) (a .gates) (a .pins .now) (a .tables .now)),
-      gates-stored (a .inputs) (a .gates) (a .pins .now) (a .tables .now) (a .program .now) e refl
+      omega (arith, next first, universal .program-universal .ensures .0, takes, length-gates (a .inputs) (a .gates) (a .operands .now) (a .tables .now)),
+      gates-stored (a .inputs) (a .gates) (a .operands .now) (a .tables .now) (a .program .now) e refl
           (first .store-inputs .ensures .1) (first .store-inputs .ensures .0) (universal .program-universal .ensures .1),
     )
 

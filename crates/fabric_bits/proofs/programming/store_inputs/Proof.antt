@@ -11,10 +11,10 @@ use Rattle.fabric_bits.proofs.programming.store_inputs.Statement.{state
 use Rattle.fabric_bits.proofs.programming.store_inputs.Tie as tie
 
 listed : (c : tie.After-list-inputs) → let a = c .before .before .before .before .before .args in
-    take (a .count) (c .list-inputs .last .1 .1 .1 .0) ≡ inputsWanted (a .inputs) (a .pins .now) (a .count)
+    take (a .count) (c .list-inputs .last .1 .1 .1 .0) ≡ inputsWanted (a .inputs) (a .operands .now) (a .count)
 listed c =
     let s = c .before .before .before .before .before in
-    inputs-listed (s .args .wanted .now) (s .args .inputs) (s .args .pins .now) (s .args .count) (c .list-inputs .ensures) (s .pre .1 .0)
+    inputs-listed (s .args .wanted .now) (s .args .inputs) (s .args .operands .now) (s .args .count) (c .list-inputs .ensures) (s .pre .1 .0)
 
 for-selection : tie.Need-store-selection-requires
 for-selection c κs =

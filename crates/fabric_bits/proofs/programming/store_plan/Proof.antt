@@ -5,7 +5,7 @@ use borrow.Author.Needs.{needs}
 use lib.ListN.{length}
 use Rattle.fabric_bits.specs.ProgramParts.{Loaded}
 use Rattle.fabric_bits.proofs.LoadedLaws.{loaded}
-use Rattle.fabric_bits.proofs.PlanBitsLaws.{gates-room, plan-stored, outputs-fit}
+use Rattle.fabric_bits.proofs.PlanBitsLaws.{gates-program-room, plan-stored, output-bits-fit}
 use Rattle.fabric_bits.proofs.programming.store_plan.Statement.{statement}
 use Rattle.fabric_bits.proofs.programming.store_plan.Tie as tie
 
@@ -16,7 +16,7 @@ for-gates : tie.Need-store-gates-requires
 for-gates c κs =
     let load = c .before .before .before .before .before .before in
     let s = load .before .before .before .before in
-    gates-room (s .args .plan) (lists load) (s .pre .0) refl (s .pre .1)
+    gates-program-room (s .args .plan) (lists load) (s .pre .0) refl (s .pre .1)
 
 for-outputs : tie.Need-store-outputs-requires
 for-outputs c κs =
@@ -25,7 +25,7 @@ for-outputs c κs =
     let s = gates .before .before .before .before .before .before .before .before .before .before .before in
     let kept = gates .store-gates .kept .1 .1 .1 .1 .1 .0 in
     let room = length (s .args .program .now) in
-    let fit = outputs-fit (s .args .plan) (s .pre .0) (load .last .1 .0) (load .last .1 .1 .0) room (s .pre .1) (gates .store-gates .ensures .0) in
+    let fit = output-bits-fit (s .args .plan) (s .pre .0) (load .last .1 .0) (load .last .1 .1 .0) room (s .pre .1) (gates .store-gates .ensures .0) in
     (s .pre .0, (gates .store-gates .kept .1 .1 .1 .1 .0, (rw kept (fit .0), fit .1)))
 
 stored : tie.Need-returns

@@ -14,18 +14,18 @@ use Rattle.fabric_lists.proofs.gates.load_gates.Statement.{statement}
 use Rattle.fabric_lists.proofs.gates.load_gates.Tie as tie
 
 abbrev Inv-loop : tie.InvT-loop
-Inv-loop pins₀ tables₀ plan count i₀ pins tables i =
-    (i ≤ count) × (length pins ≡ length pins₀) × (length tables ≡ length tables₀)
-    × (pins ≡ over (listOf (operands * i) (planGates plan .operand)) pins₀) × (tables ≡ over (listOf i (planGates plan .table)) tables₀)
+Inv-loop operandList₀ tables₀ plan count i₀ operandList tables i =
+    (i ≤ count) × (length operandList ≡ length operandList₀) × (length tables ≡ length tables₀)
+    × (operandList ≡ over (listOf (operands * i) (planGates plan .operand)) operandList₀) × (tables ≡ over (listOf i (planGates plan .table)) tables₀)
 
 abbrev μ-loop : tie.MeasureT-loop
-μ-loop pins₀ tables₀ plan count i₀ pins tables i = count - i
+μ-loop operandList₀ tables₀ plan count i₀ operandList tables i = count - i
 
 holds : tie.Need-loop-holds Inv-loop μ-loop
 unfolding listOf
 holds c = (omega arith, refl, refl, refl, refl)
 
-second-fits : tie.Need-slice-write-pins-2 Inv-loop μ-loop
+second-fits : tie.Need-slice-write-operands-2 Inv-loop μ-loop
 second-fits c = simp length-set (omega arith)
 
 again : tie.Need-loop-again Inv-loop μ-loop
@@ -35,7 +35,7 @@ again c =
       omega arith,
       simp length-set (loop .inv .1),
       simp length-set (loop .inv .2),
-      gate-step (a .t1) (a .pins .now) (loop .i) (omega arith) (omega arith) (loop .inv .3),
+      gate-step (a .t1) (a .operands .now) (loop .i) (omega arith) (omega arith) (loop .inv .3),
       table-step (a .t1) (a .tables .now) (loop .i) (omega arith) (omega arith) (loop .inv .4),
     )
 
@@ -43,8 +43,8 @@ all : tie.Need-returns Inv-loop μ-loop
 all c =
     let loop = c .before .loop in
     let a = c .before .before .before .before .before .args in
-    let e : loop .i ≡ loadedGates (a .t1 .«gate_count») (length (a .pins .now)) (length (a .tables .now)) = omega arith in (
-      loop .inv .3 ∙ ap (λ n. over (listOf (operands * n) (planGates (a .t1) .operand)) (a .pins .now)) e,
+    let e : loop .i ≡ loadedGates (a .t1 .«gate_count») (length (a .operands .now)) (length (a .tables .now)) = omega arith in (
+      loop .inv .3 ∙ ap (λ n. over (listOf (operands * n) (planGates (a .t1) .operand)) (a .operands .now)) e,
       loop .inv .4 ∙ ap (λ n. over (listOf n (planGates (a .t1) .table)) (a .tables .now)) e,
     )
 

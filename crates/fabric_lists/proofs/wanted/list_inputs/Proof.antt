@@ -16,14 +16,14 @@ use Rattle.fabric_lists.proofs.wanted.list_inputs.Tie as tie
 
 -- what pin q wants
 abbrev wants : ℕ → List ℕ → ℕ → ℕ
-wants inputs pins q = wantedInput inputs (getD pins q 0)
+wants inputs operandList q = wantedInput inputs (getD operandList q 0)
 
 abbrev Inv-loop : tie.InvT-loop
-Inv-loop inputs count pins wanted₀ end q₀ wanted q =
-    (q ≤ end) × (length wanted ≡ length wanted₀) × (wanted ≡ over (listOf q (wants inputs pins)) wanted₀)
+Inv-loop inputs count operandList wanted₀ end q₀ wanted q =
+    (q ≤ end) × (length wanted ≡ length wanted₀) × (wanted ≡ over (listOf q (wants inputs operandList)) wanted₀)
 
 abbrev μ-loop : tie.MeasureT-loop
-μ-loop inputs count pins wanted₀ end q₀ wanted q = end - q
+μ-loop inputs count operandList wanted₀ end q₀ wanted q = end - q
 
 holds : tie.Need-loop-holds Inv-loop μ-loop
 unfolding listOf
@@ -41,7 +41,7 @@ unfolding inputsWanted
 all c =
     let a = c .before .before .before .before .before .args in
     let loop = c .before .loop in
-    list-ended (a .count) (length (a .wanted .now)) (loop .q) (wants (a .inputs) (a .pins .now)) (a .wanted .now) (loop .inv .2) (omega arith)
+    list-ended (a .count) (length (a .wanted .now)) (loop .q) (wants (a .inputs) (a .operands .now)) (a .wanted .now) (loop .inv .2) (omega arith)
 
 pub list-inputs-spec : {M : Type 1} → statement M
 list-inputs-spec =

@@ -13,8 +13,8 @@ wires-part : tie.Need-slice-aggregate-copy-wires
 wires-part c =
     let done = c .before .before .before .before in
     let count = done .before .before .before .before in
-    let all = done .put-selection .kept .1 .1 .1 .1 .1 .0 in
-    sym (length-take-le (count .smaller .result) (done .put-selection .last .1 .1 .1 .1 .1 .0) (omega (arith, count .smaller .ensures)))
+    let all = done .write-selection-on .kept .1 .1 .1 .1 .1 .0 in
+    sym (length-take-le (count .smaller .result) (done .write-selection-on .last .1 .1 .1 .1 .1 .0) (omega (arith, count .smaller .ensures)))
 
 written : tie.Need-returns
 written c =
@@ -23,8 +23,8 @@ written c =
     let place = done .before .before .before in
     let count = place .before in
     let a = count .before .before .before .args in
-    let kept = done .put-selection .kept .1 .1 .1 .1 in
-    let put = done .put-selection .ensures in
+    let kept = done .write-selection-on .kept .1 .1 .1 .1 in
+    let put = done .write-selection-on .ensures in
     outputs-copied (a .gates) (a .v) (a .end) (a .next .0) (a .outs .now) (a .rows .now) (replicate maxOutputs 0) (place .smaller2 .ensures) (kept .0)
     (count .smaller .ensures) (kept .1 .0) (put .0) (put .1) (copied .copy-wires .ensures)
 

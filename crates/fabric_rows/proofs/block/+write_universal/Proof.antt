@@ -10,13 +10,13 @@ use borrow.Fn.PlainCycle.{Measures, is, falls, and}
 use lib.ListN.{length}
 use Rattle.fault.specs.Buffers.{withPart}
 use Rattle.fault.proofs.PartsLaws.{length-with}
-use Rattle.fabric_rows.specs.declared.block.Parts.{Parts}
-use Rattle.fabric_rows.proofs.UniversalWriteLaws.{UniversalWritten, Begun, UpperDone, MiddleDone, LowerDone}
-use Rattle.fabric_rows.proofs.UniversalWriteLaws.{upper-room, middle-room, select-start, outs-start, lower-start, pins-start, lower-room, universal-written, gate-written}
+use Rattle.fabric_rows.specs.declared.block.UniversalParts.{UniversalParts}
+use Rattle.fabric_rows.proofs.UniversalWriteLaws.{UniversalWritten, UniversalBegun, UpperDone, MiddleDone, LowerDone}
+use Rattle.fabric_rows.proofs.UniversalWriteLaws.{upper-write-room, middle-room, select-start, outs-start, lower-start, pins-start, lower-write-room, universal-written, gate-written}
 use Rattle.fabric_rows.proofs.block.write_universal.Reads as write-universal
 use Rattle.fabric_rows.proofs.block.write_universal.Kinds as write-universal-kinds
 use Rattle.fabric_rows.proofs.block.+write_universal.Lts-write_universal as write-universal-lts
-use Rattle.fabric_rows.proofs.block.parts_of.Reads as parts-of-reads
+use Rattle.fabric_rows.proofs.block.universal_parts.Reads as universal-parts-reads
 use Rattle.fabric_parts.proofs.write_gate.Reads as write-gate-reads
 use Rattle.fabric_rows.proofs.block.write_middle.Reads as write-middle-reads
 use Rattle.fabric_rows.proofs.block.+write_universal.{statement}
@@ -34,8 +34,8 @@ write-universal-below t = and 3 write-universal-kinds.ps (falls 3 write-universa
 -- what is known of the functions that it calls, itself among them
 abbrev claims : ℕ → write-universal-lts.Claims
 claims t = (
-  parts-of-reads.Asked,
-  parts-of-reads.Learnt,
+  universal-parts-reads.Asked,
+  universal-parts-reads.Learnt,
   write-universal-below t,
   write-universal.Post,
   write-middle-reads.Asked,
@@ -50,7 +50,7 @@ module _ (t : ℕ) where
   Start = write-universal-lts.Start (claims t) (write-universal-at t) write-universal.Post
 
   abbrev Parted : Type 0
-  Parted = write-universal-lts.After-parts-of (claims t) (write-universal-at t) write-universal.Post
+  Parted = write-universal-lts.After-universal-parts (claims t) (write-universal-at t) write-universal.Post
 
   abbrev Upper : Type 0
   Upper = write-universal-lts.After-write-universal (claims t) (write-universal-at t) write-universal.Post
@@ -91,8 +91,8 @@ module _ (t : ℕ) where
   abbrev lower : Ended → Lower
   lower c = c .before .before .before .before .before .before
 
-  abbrev parts : Upper → Parts
-  parts c = parted c .parts-of .result
+  abbrev parts : Upper → UniversalParts
+  parts c = parted c .universal-parts .result
 
   -- the table's part once the rows between the halves are written
   abbrev middleRows : Middle → List ℕ
@@ -101,8 +101,8 @@ module _ (t : ℕ) where
   -- the steps
   begun : (c : Parted) → (
       let a = started c .args in
-      Begun (a .gates) (a .next .0) (c .parts-of .result) (a .rows .now) (a .pins .now) (a .outs .now))
-  begun c = record { room = started c .pre .1; at = c .parts-of .ensures }
+      UniversalBegun (a .gates) (a .next .0) (c .universal-parts .result) (a .rows .now) (a .pins .now) (a .outs .now))
+  begun c = record { room = started c .pre .1; at = c .universal-parts .ensures }
 
   upper-done : (c : Upper) → (
       let a = started (parted c) .args in
@@ -177,7 +177,7 @@ pub +write-universal-spec : {M : Type 1} → statement M
     (λ c κs.
     let p = c .before .before .before in
     let b = begun t p in
-    (omega (arith, started t p .pre .0), upper-room b))
+    (omega (arith, started t p .pre .0), upper-write-room b))
     -- the rows between the halves and their stretch
     (λ c. search needs)
     (λ c. select-fits t (fed t c))
@@ -201,7 +201,7 @@ pub +write-universal-spec : {M : Type 1} → statement M
     let m = mixed t (c .before .before .before) in
     let p = parted t (upper t m) in
     let b = begun t p in
-    (omega (arith, started t p .pre .0), lower-room b (upper-done t (upper t m)) (middle-done t m)))
+    (omega (arith, started t p .pre .0), lower-write-room b (upper-done t (upper t m)) (middle-done t m)))
     -- U(1)
     (λ c κs. search needs)
     -- what is written

@@ -8,7 +8,7 @@ use Rattle.plan.specs.Record.{maxGates}
 use Rattle.fabric_sizes.specs.Layout.{header}
 use Rattle.fabric_sizes.specs.Parts.{maxPins}
 use Rattle.fabric_rows.specs.declared.writing.Layout.{Layout}
-use Rattle.fabric_rows.proofs.WritingLaws.{Begun, PinsDone, GatesDone, pin-room, gates-room, table-written}
+use Rattle.fabric_rows.proofs.WritingLaws.{FabricBegun, PinsDone, GatesDone, pin-room, universal-write-room, table-written}
 use Rattle.fabric_rows.proofs.writing.put_fabric.Statement.{statement}
 use Rattle.fabric_rows.proofs.writing.put_fabric.Tie as tie
 
@@ -31,7 +31,7 @@ layout c = laid c .layout-of .result
 -- the steps
 begun : (c : tie.After-put-header) → (
     let a = laid c .before .before .args in
-    Begun (a .u) (a .k) (a .v) (layout c) (a .table .now) (c .put-header .last .1 .1 .1 .0))
+    FabricBegun (a .u) (a .k) (a .v) (layout c) (a .table .now) (c .put-header .last .1 .1 .1 .0))
 begun c = record { passes = laid c .before .before .pre; layout = laid c .layout-of .ensures; headed = c .put-header .ensures }
 
 abbrev pinRows : tie.After-put-pins → List ℕ
@@ -59,7 +59,7 @@ for-gates : tie.Need-write-universal-requires
 for-gates c κs =
     let p = c .before .before .before .before .before .before in
     let kept = p .put-pins .kept .1 .1 .1 .0 in
-    rw kept (gates-room (begun (headed p)) (pins-done p))
+    rw kept (universal-write-room (begun (headed p)) (pins-done p))
 
 written : tie.Need-returns
 written c =

@@ -7,7 +7,7 @@ use Rattle.fault.specs.Number.{answerNumber}
 use Rattle.fault.specs.Buffers.{over}
 use Rattle.fault.proofs.BuffersLaws.{filled-refused, filled-done}
 use Rattle.fabric_run_checks.specs.RunFault.{runFault}
-use Rattle.fabric_run.specs.RunRows.{OutputRoom}
+use Rattle.fabric_run.specs.RunRows.{ResultRoom}
 use Rattle.fabric_run.proofs.RunCallsLaws.{RunPasses, run-passes, outputs-read}
 use Rattle.fabric_run.proofs.running.run.Statement.{statement}
 use Rattle.fabric_run.proofs.running.run.Tie as tie
@@ -25,11 +25,11 @@ module _ (c : tie.After-enum-told) where
 for-rows : tie.Need-run-rows-requires
 for-rows c κs = passes (c .before) .runnable
 
-for-outputs : tie.Need-write-outputs-requires
+for-outputs : tie.Need-write-result-requires
 for-outputs c κs =
     let ran = c .before .before .before .before in
     let a = ran .before .before .before .before .before .before .before .before .before .before .args in
-    subst (λ n. OutputRoom (a .table .now) n (length (a .result .now))) (sym (ran .run-rows .kept .1 .1 .1 .0)) (passes (ran .before .before) .outputs)
+    subst (λ n. ResultRoom (a .table .now) n (length (a .result .now))) (sym (ran .run-rows .kept .1 .1 .1 .0)) (passes (ran .before .before) .outputs)
 
 refused : tie.Need-returns
 refused c =
@@ -47,7 +47,7 @@ done c =
     let p = passes told .runnable in
     let worked = ran .run-rows .ensures in
     let outs = outputs-read (a .table .now) (a .program .now) (a .row .now) (a .work .now) (p .wellFormed) (p .contacts) worked in
-    let written = wrote .write-outputs .ensures ∙ ap (λ new. over new (a .result .now)) outs in
+    let written = wrote .write-result .ensures ∙ ap (λ new. over new (a .result .now)) outs in
     (z, (worked ∙ filled-done _ _ _ z, written ∙ filled-done _ _ _ z))
 
 pub run-spec : {M : Type 1} → statement M

@@ -11,19 +11,19 @@ use lib.Dec.{lit<}
 use lib.ListN.{length, getD}
 use Rattle.blocks.specs.Elements.{stride, gateBits}
 use Rattle.elements.specs.Elements.{maxWires}
-use Rattle.fabric_sizes.specs.Layout.{header, rowsIn, kindAt}
+use Rattle.fabric_sizes.specs.Layout.{header, rowsIn, kindAt, rowStart}
 use Rattle.fabric_table_checks.specs.TableFault.{WellFormed}
 use Rattle.fabric_table_checks.proofs.CountingLaws.{counted-first, counted-few}
 use Rattle.fabric_table_checks.specs.declared.table.RowCounts.{RowCounts}
 use Rattle.fabric_table_checks.specs.Counting.{maxBits, CountsOf, Countable}
-use Rattle.fabric_run.specs.RunRows.{Runnable, Stands}
+use Rattle.fabric_run.specs.RunRows.{Runnable, RunStands}
 use Rattle.fabric_run.proofs.RunLaws.{start-room, stands-first, row-ready, stands-more, stands-last}
 use Rattle.fabric_run.proofs.running.run_rows.Statement.{statement}
 use Rattle.fabric_run.proofs.running.run_rows.Tie as tie
 
 abbrev Inv-loop : tie.InvT-loop
 Inv-loop table program row work₀ rows made₀ bit₀ i₀ work made bit i =
-    (i ≤ rows) × (rows < maxWires) × Stands table program row work₀ i bit made work
+    (i ≤ rows) × (rows < maxWires) × RunStands table program row work₀ i bit made work
 
 abbrev μ-loop : tie.MeasureT-loop
 μ-loop table program row work₀ rows made₀ bit₀ i₀ work made bit i = rows - i
@@ -44,7 +44,7 @@ bits-sum bit h k = fits-below {n = maxBits + gateBits} tt (omega arith)
 header-in : {table : List ℕ} (at : ℕ) → at < header → WellFormed table → at < length table
 header-in at h w = lt-of-lt-of-le h (w .start .long)
 
-place-in : {table : List ℕ} {i at : ℕ} → WellFormed table → i < rowsIn table → at ≡ header + stride * i → at < length table
+place-in : {table : List ℕ} {i at : ℕ} → WellFormed table → i < rowsIn table → at ≡ rowStart i → at < length table
 place-in w h e = let s = w .start .size in omega arith
 
 -- one row more
@@ -80,15 +80,15 @@ abbrev start : tie.In-loop Inv-loop μ-loop → tie.Start Inv-loop μ-loop
 start c = c .before .before .before .before .before .before .before .before .before .before .before .before .before
 
 -- the kind that is read
-kind-read : (c : tie.After-row-place Inv-loop μ-loop) → let table = start (c .before) .args .table .now in
-    getD table (c .row-place .result) 0 ≡ kindAt table (c .before .before .loop .i)
-kind-read c = ap (λ n. getD (start (c .before) .args .table .now) n 0) (c .row-place .ensures .0)
+kind-read : (c : tie.After-row-start Inv-loop μ-loop) → let table = start (c .before) .args .table .now in
+    getD table (c .row-start .result) 0 ≡ kindAt table (c .before .before .loop .i)
+kind-read c = ap (λ n. getD (start (c .before) .args .table .now) n 0) (c .row-start .ensures .0)
 
 for-row : tie.Need-run-row-requires Inv-loop μ-loop
 for-row c κs =
     let placed = c .before .before in
     let at = placed .before in
-    row-ready (at .before .loop .inv .2) (at .loop-test .taken) (le-of-lt (at .before .loop .inv .1)) (placed .row-place .ensures .0) (kind-read placed)
+    row-ready (at .before .loop .inv .2) (at .loop-test .taken) (le-of-lt (at .before .loop .inv .1)) (placed .row-start .ensures .0) (kind-read placed)
 
 -- few wires and bits are counted before row i
 few : (c : tie.In-loop Inv-loop μ-loop) → Countable (c .before .loop .made) (c .before .loop .bit)
@@ -111,7 +111,7 @@ again c =
     let taken = placed .before .loop-test .taken in (
       next-within taken,
       loop .inv .1,
-      stands-more (loop .inv .2) taken (counted .counts-of .result) _ (placed .row-place .ensures .0) (kind-read placed)
+      stands-more (loop .inv .2) taken (counted .counts-of .result) _ (placed .row-start .ensures .0) (kind-read placed)
           (counted .counts-of .ensures) (ran .run-row .ensures),
     )
 
@@ -135,8 +135,8 @@ run-rows-spec =
     (λ c. header-in 0 (lit< tt) (c .before .before .before .before .before .before .before .before .before .before .pre .wellFormed))
     (λ c κs. tt) (λ c. first-fits (c .wide .ensures .1)) holds
     -- a row
-    (λ c κs. tt) (λ c. place-fits (c .row-place .ensures .1))
-    (λ c. let l = c .before .before in place-in (start l .pre .wellFormed) (l .loop-test .taken) (c .before .row-place .ensures .0))
+    (λ c κs. tt) (λ c. place-fits (c .row-start .ensures .1))
+    (λ c. let l = c .before .before in place-in (start l .pre .wellFormed) (l .loop-test .taken) (c .before .row-start .ensures .0))
     for-row (λ c κs. tt) wires-fit bits-fit
     (λ c. let l = c .before .before .before .before .before .before .before .before .before in next-fits (l .loop-test .taken) (l .before .loop .inv .1))
     (λ c. fewer-left (c .before .before .before .before .before .before .before .before .before .loop-test .taken)) again

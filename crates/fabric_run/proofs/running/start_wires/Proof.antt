@@ -7,7 +7,7 @@ use borrow.Author.Needs.{needs}
 use lib.ListN.{length, getD, set, take, length-set}
 use lib.Seq.{take-length}
 use Rattle.fault.specs.Buffers.{over}
-use Rattle.fabric_run.proofs.WorkLaws.{start-first, start-held, start-more, over-longer}
+use Rattle.fabric_run.proofs.WorkLaws.{start-zero, start-held, start-more, over-longer}
 use Rattle.fabric_run.proofs.running.start_wires.Statement.{statement}
 use Rattle.fabric_run.proofs.running.start_wires.Tie as tie
 
@@ -44,7 +44,7 @@ all c =
     c .before .loop .inv .2
     ∙ ap (λ n. over (0 ∷ take n row) (set old 0 0)) e
     ∙ ap (λ l. over (0 ∷ l) (set old 0 0)) (take-length row)
-    ∙ ap (over (0 ∷ row)) (start-first old (omega arith))
+    ∙ ap (over (0 ∷ row)) (start-zero old (omega arith))
     ∙ over-longer (0 ∷ row) (0 ∷ []) old (omega arith)
 
 pub start-wires-spec : {M : Type 1} → statement M

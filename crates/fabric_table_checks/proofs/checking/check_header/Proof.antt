@@ -40,7 +40,7 @@ other-length c =
       le-leb 3 _ (asked₁ .before .before .if1 .left),
       sym (asked₁ .count-allowed .ensures) ∙ not-false _ (past₁ .if2 .left),
       sym (asked₂ .count-allowed2 .ensures) ∙ not-false _ (past₂ .if3 .left),
-      ← c .before .table-length .ensures,
+      ← c .before .expected-length .ensures,
       ne-eqb _ _ (c .if4 .taken),
     )
 
@@ -55,7 +55,7 @@ within c =
       le-leb 3 _ (asked₁ .before .before .if1 .left),
       sym (asked₁ .count-allowed .ensures) ∙ not-false _ (past₁ .if2 .left),
       sym (asked₂ .count-allowed2 .ensures) ∙ not-false _ (past₂ .if3 .left),
-      ← c .before .table-length .ensures,
+      ← c .before .expected-length .ensures,
       eq-eqb _ _ (c .if4 .left),
     )
 

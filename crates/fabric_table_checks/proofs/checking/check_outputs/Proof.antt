@@ -31,7 +31,7 @@ wire-read c =
     let at = c .before .before .before in
     let placed = at .before .before .before in
     let table = placed .before .before .before .args .table .now in
-    c .wire-of .ensures ∙ ap (λ n. getD table (n + at .loop .j) 0) (placed .row-place .ensures .0)
+    c .wire-of .ensures ∙ ap (λ n. getD table (n + at .loop .j) 0) (placed .row-start .ensures .0)
 
 unmade : tie.Need-returns Inv-loop μ-loop
 unfolding outputWireFault

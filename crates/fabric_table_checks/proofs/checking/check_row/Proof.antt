@@ -26,18 +26,18 @@ start₃ c = start₂ (c .before .before .before .before)
 kind-asked : (c : tie.After-kind-allowed) → kindAllowed (kindAt (start₁ c .args .table .now) (start₁ c .args .i)) ≡ c .kind-allowed .result
 kind-asked c =
     let table = start₁ c .args .table .now in
-    sym (c .kind-allowed .ensures ∙ ap (λ n. kindAllowed (getD table n 0)) (c .before .before .row-place .ensures .0))
+    sym (c .kind-allowed .ensures ∙ ap (λ n. kindAllowed (getD table n 0)) (c .before .before .row-start .ensures .0))
 
 left-read : (c : tie.After-wire-of) → c .wire-of .result .0 ≡ leftAt (start₂ c .args .table .now) (start₂ c .args .i)
 left-read c =
     let table = start₂ c .args .table .now in
-    c .wire-of .ensures ∙ ap (λ n. getD table (n + 1) 0) (c .before .before .before .before .before .row-place .ensures .0)
+    c .wire-of .ensures ∙ ap (λ n. getD table (n + 1) 0) (c .before .before .before .before .before .row-start .ensures .0)
 
 right-read : (c : tie.After-wire-of2) → c .wire-of2 .result .0 ≡ rightAt (start₃ c .args .table .now) (start₃ c .args .i)
 right-read c =
     let table = start₃ c .args .table .now in
     let left = c .before .before .before .before in
-    c .wire-of2 .ensures ∙ ap (λ n. getD table (n + 2) 0) (left .before .before .before .before .before .row-place .ensures .0)
+    c .wire-of2 .ensures ∙ ap (λ n. getD table (n + 2) 0) (left .before .before .before .before .before .row-start .ensures .0)
 
 bad-kind : tie.Need-returns
 unfolding rowFault

@@ -12,15 +12,15 @@ use Rattle.fault.proofs.ChecksLaws.{next-passes, first-fails, number-positive}
 use Rattle.fabric_sizes.specs.Layout.{rowsIn}
 use Rattle.elements.specs.Elements.{maxWires}
 use Rattle.fabric_table_checks.specs.TableFault.{rowFault}
-use Rattle.fabric_table_checks.specs.Counting.{CountsOf, Counted, Countable}
-use Rattle.fabric_table_checks.proofs.CountingLaws.{counted-first, counted-more, counted-few}
+use Rattle.fabric_table_checks.specs.Counting.{CountsOf, CountedBefore, Countable}
+use Rattle.fabric_table_checks.proofs.CountingLaws.{counted-first, counted-one-more, counted-few}
 use Rattle.fabric_table_checks.proofs.CheckingLaws.{refused-table, counted-table}
 use Rattle.fabric_table_checks.proofs.checking.check_rows.Statement.{statement}
 use Rattle.fabric_table_checks.proofs.checking.check_rows.Tie as tie
 
 abbrev Inv-loop : tie.InvT-loop
 Inv-loop table rows wires₀ bits₀ i₀ wires bits i =
-    (i ≤ rows) × (firstOf (rowFault table) i ≡ 0) × Counted table i wires bits × (rows < maxWires)
+    (i ≤ rows) × (firstOf (rowFault table) i ≡ 0) × CountedBefore table i wires bits × (rows < maxWires)
 
 abbrev μ-loop : tie.MeasureT-loop
 μ-loop table rows wires₀ bits₀ i₀ wires bits i = rows - i
@@ -67,10 +67,10 @@ again c =
     let table = at .before .before .before .before .before .args .table .now in
     let loop = at .loop in
     let e = ap answerNumber (sym (told .enum-told .given .1)) ∙ told .before .before .check-row .ensures in
-    let own = subst (λ n. CountsOf (getD table n 0) (counted .counts-of .result)) (counted .before .before .row-place .ensures .0) (counted .counts-of .ensures) in (
+    let own = subst (λ n. CountsOf (getD table n 0) (counted .counts-of .result)) (counted .before .before .row-start .ensures .0) (counted .counts-of .ensures) in (
       omega arith,
       rw (add-one (loop .i)) (next-passes _ (loop .i) (loop .inv .1) (sym e)),
-      counted-more (loop .inv .2) own,
+      counted-one-more (loop .inv .2) own,
       loop .inv .3,
     )
 
@@ -81,7 +81,7 @@ none c =
     let table = s .args .table .now in
     let all : loop .i ≡ rowsIn table = omega arith in (
       counted-table (firstOf (rowFault table) (rowsIn table)) table (record { wires = loop .wires; bits = loop .bits })
-          (rw (← all) (sym (loop .inv .1))) (subst (λ n. Counted table n (loop .wires) (loop .bits)) all (loop .inv .2)),
+          (rw (← all) (sym (loop .inv .1))) (subst (λ n. CountedBefore table n (loop .wires) (loop .bits)) all (loop .inv .2)),
       counted-few (s .pre .inputs) (omega arith) (loop .inv .2) .bits,
     )
 

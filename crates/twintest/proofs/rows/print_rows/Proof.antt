@@ -11,8 +11,8 @@ Inv-loop plan table₀ program₀ work₀ inputs₀ evaluated₀ ran₀ rows r�
 abbrev μ-loop : tie.MeasureT-loop
 μ-loop plan table₀ program₀ work₀ inputs₀ evaluated₀ ran₀ rows r₀ table program work inputs evaluated ran r = rows - r
 
-row-count-requires : tie.Need-row-count-requires Inv-loop μ-loop
-row-count-requires c κs = tt
+input-row-count-requires : tie.Need-input-row-count-requires Inv-loop μ-loop
+input-row-count-requires c κs = tt
 
 loop-holds : tie.Need-loop-holds Inv-loop μ-loop
 loop-holds c = tt
@@ -38,4 +38,4 @@ returns-2 c = tt
 pub print-rows-spec : {M : Type 1} → statement M
 print-rows-spec =
     tie.close
-    (tie.spec Inv-loop μ-loop row-count-requires loop-holds print-row-requires add-r loop-less loop-again returns returns-2)
+    (tie.spec Inv-loop μ-loop input-row-count-requires loop-holds print-row-requires add-r loop-less loop-again returns returns-2)

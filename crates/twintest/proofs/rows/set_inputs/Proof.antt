@@ -13,8 +13,8 @@ abbrev μ-loop : tie.MeasureT-loop
 loop-holds : tie.Need-loop-holds Inv-loop μ-loop
 loop-holds c = tt
 
-input-of-requires : tie.Need-input-of-requires Inv-loop μ-loop
-input-of-requires c κs = tt
+input-bit-requires : tie.Need-input-bit-requires Inv-loop μ-loop
+input-bit-requires c κs = tt
 
 element-write-inputs : tie.Need-element-write-inputs Inv-loop μ-loop
 element-write-inputs c = omega arith
@@ -33,4 +33,4 @@ returns c = tt
 
 pub set-inputs-spec : {M : Type 1} → statement M
 set-inputs-spec =
-    tie.close (tie.spec Inv-loop μ-loop loop-holds input-of-requires element-write-inputs add-i loop-less loop-again returns)
+    tie.close (tie.spec Inv-loop μ-loop loop-holds input-bit-requires element-write-inputs add-i loop-less loop-again returns)

@@ -1,11 +1,11 @@
--- `fabric_rows::block::parts_of` meets its contract: the parts of U follow each other, and make up its rows and wires. Assumes nothing.
+-- `fabric_rows::block::universal_parts` meets its contract: the parts of U follow each other, and make up its rows and wires. Assumes nothing.
 use native.Mathlib.Omega.{arith}
 use mathlib.Core.Path.{refl}
 use borrow.Author.Needs.{needs}
 use Rattle.fabric_sizes.proofs.PartsLaws.{halved}
 use Rattle.fabric_rows.proofs.BlockLaws.{part-wire, parts-at}
-use Rattle.fabric_rows.proofs.block.parts_of.Statement.{statement}
-use Rattle.fabric_rows.proofs.block.parts_of.Tie as tie
+use Rattle.fabric_rows.proofs.block.universal_parts.Statement.{statement}
+use Rattle.fabric_rows.proofs.block.universal_parts.Tie as tie
 
 parts : tie.Need-returns
 parts c =
@@ -29,8 +29,8 @@ parts c =
       lowerFrom = part-wire w h u s _ _ (omega arith) (c .plus3 .ensures);
     })
 
-pub parts-of-spec : {M : Type 1} → statement M
-parts-of-spec =
+pub universal-parts-spec : {M : Type 1} → statement M
+universal-parts-spec =
     tie.close
     (tie.spec
     (λ c κs. search needs) (λ c κs. search needs) (λ c. search needs) (λ c. search needs) (λ c κs. search needs) (λ c κs. search needs)

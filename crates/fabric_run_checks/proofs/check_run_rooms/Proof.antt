@@ -1,8 +1,8 @@
--- `fabric_run_checks::check_rooms` meets its contract: the work buffer first, then the result. Assumes nothing.
+-- `fabric_run_checks::check_run_rooms` meets its contract: the work buffer first, then the result. Assumes nothing.
 use borrow.Author.Tests.{le-leb, lt-leb}
 use Rattle.fault.specs.Checks.{roomFault}
-use Rattle.fabric_run_checks.proofs.check_rooms.Statement.{statement}
-use Rattle.fabric_run_checks.proofs.check_rooms.Tie as tie
+use Rattle.fabric_run_checks.proofs.check_run_rooms.Statement.{statement}
+use Rattle.fabric_run_checks.proofs.check_run_rooms.Tie as tie
 
 short-work : tie.Need-returns
 unfolding roomFault
@@ -16,5 +16,5 @@ room : tie.Need-returns-3
 unfolding roomFault
 room c = rw (le-leb (c .before .before .args .wires) _ (c .before .if1 .left), le-leb _ _ (c .if2 .left))
 
-pub check-rooms-spec : {M : Type 1} → statement M
-check-rooms-spec = tie.close (tie.spec short-work short-result room)
+pub check-run-rooms-spec : {M : Type 1} → statement M
+check-run-rooms-spec = tie.close (tie.spec short-work short-result room)

@@ -1,4 +1,4 @@
--- `equivalence::both::check_rooms` meets its contract: each length in its turn. Assumes nothing.
+-- `equivalence::both::check_both_rooms` meets its contract: each length in its turn. Assumes nothing.
 use native.Mathlib.Omega.{arith}
 use Prim.Native.Nat.{_<_, _≤_}
 use borrow.Author.Needs.{needs}
@@ -7,8 +7,8 @@ use Rattle.fault.specs.Checks.{roomFault}
 use Rattle.fabric.specs.Fabrics.{programLength}
 use Rattle.equivalence.specs.ThirdDemand.{planTableLength, planFabricWires}
 use Rattle.equivalence.specs.BothCalls.{bothRoomFault}
-use Rattle.equivalence.proofs.both.check_rooms.Statement.{statement}
-use Rattle.equivalence.proofs.both.check_rooms.Tie as tie
+use Rattle.equivalence.proofs.both.check_both_rooms.Statement.{statement}
+use Rattle.equivalence.proofs.both.check_both_rooms.Tie as tie
 
 short-table : tie.Need-returns
 unfolding bothRoomFault roomFault
@@ -72,7 +72,7 @@ room c =
     let ran : p .«output_count» ≤ a .ran = omega arith in
     rw (le-leb _ _ table, le-leb _ _ program, le-leb _ _ work, le-leb _ _ evaluated, le-leb _ _ ran)
 
-pub check-rooms-spec : {M : Type 1} → statement M
-check-rooms-spec =
+pub check-both-rooms-spec : {M : Type 1} → statement M
+check-both-rooms-spec =
     tie.close
     (tie.spec (λ c κs. search needs) (λ c. search needs) short-table short-program short-work short-evaluated short-ran room)

@@ -1,11 +1,11 @@
--- `fabric_parts::selections::put_selection` meets its contract: S's call on the first wires. Assumes nothing.
+-- `fabric_parts::selections::write_selection_on` meets its contract: S's call on the first wires. Assumes nothing.
 use native.Mathlib.Omega.{arith}
 use mathlib.Core.Path.{sym}
 use borrow.Author.Needs.{needs}
 use lib.Seq.{length-take-le}
 use Rattle.fabric_parts.proofs.PutLaws.{selection-on}
-use Rattle.fabric_parts.proofs.selections.put_selection.Statement.{statement}
-use Rattle.fabric_parts.proofs.selections.put_selection.Tie as tie
+use Rattle.fabric_parts.proofs.selections.write_selection_on.Statement.{statement}
+use Rattle.fabric_parts.proofs.selections.write_selection_on.Tie as tie
 
 wires-part : tie.Need-slice-aggregate-write-selection
 wires-part c =
@@ -19,7 +19,7 @@ written c =
     let a = first .before .before .before .before .args in
     selection-on (a .m) (a .n) (a .next .0) (a .from .now) (a .rows .now) (a .to .now) (first .smaller .ensures) (done .write-selection .ensures .1)
 
-pub put-selection-spec : {M : Type 1} → statement M
-put-selection-spec =
+pub write-selection-on-spec : {M : Type 1} → statement M
+write-selection-on-spec =
     tie.close
     (tie.spec (λ c κs. search needs) wires-part (λ c κs. search needs) (λ c. search needs) (λ c. search needs) written)

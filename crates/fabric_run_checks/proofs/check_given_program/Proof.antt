@@ -1,7 +1,7 @@
--- `fabric_run_checks::check_program` meets its contract. The loop's invariant: the first i spare bits are 0. Assumes nothing.
+-- `fabric_run_checks::check_given_program` meets its contract. The loop's invariant: the first i spare bits are 0. Assumes nothing.
 use native.Mathlib.Omega.{arith}
 use mathlib.Core.Path.{_≡_, refl, sym, ap, _∙_}
-use Prim.Native.Nat.{_+_, _-_, _≤_}
+use Prim.Native.Nat.{_+_, _-_, _*_, _≤_}
 use native.Mathlib.Numerals.{add-one}
 use borrow.Author.Needs.{needs}
 use borrow.Author.Tests.{eq-eqb, ne-eqb}
@@ -12,8 +12,8 @@ use Rattle.fault.specs.Checks.{unless, firstOf}
 use Rattle.fault.proofs.ChecksLaws.{next-passes, first-fails}
 use Rattle.blocks.specs.Elements.{bytesFor, bitAt}
 use Rattle.fabric_run_checks.specs.RunFault.{spareBits, givenProgramFault}
-use Rattle.fabric_run_checks.proofs.check_program.Statement.{statement}
-use Rattle.fabric_run_checks.proofs.check_program.Tie as tie
+use Rattle.fabric_run_checks.proofs.check_given_program.Statement.{statement}
+use Rattle.fabric_run_checks.proofs.check_given_program.Tie as tie
 
 abbrev Inv-loop : tie.InvT-loop
 Inv-loop bits program bytes spare i₀ i =
@@ -25,11 +25,15 @@ abbrev μ-loop : tie.MeasureT-loop
 
 length-fails : tie.Need-returns Inv-loop μ-loop
 unfolding givenProgramFault
-length-fails c = rw (ne-eqb _ _ (c .if1 .taken))
+length-fails c =
+    let a = c .before .before .before .args in
+    rw (ne-eqb (length (a .program .now)) (bytesFor (a .bits)) (λ e. c .if1 .taken (e ∙ sym (c .before .bytes-for .ensures))))
 
 holds : tie.Need-loop-holds Inv-loop μ-loop
 unfolding firstOf
-holds c = (c .if1 .left, refl, omega arith, refl)
+holds c =
+    let bytes = c .before .bytes-for .ensures in
+    (c .if1 .left ∙ bytes, ap (λ n. 8 * n - c .before .before .before .args .bits) bytes, omega arith, refl)
 
 bit-fails : tie.Need-returns-2 Inv-loop μ-loop
 unfolding givenProgramFault
@@ -50,11 +54,11 @@ passes : tie.Need-returns-3 Inv-loop μ-loop
 unfolding givenProgramFault
 passes c =
     let loop = c .before .loop in
-    let all : loop .i ≡ spareBits (c .before .before .before .before .args .bits) = omega arith in
+    let all : loop .i ≡ spareBits (c .before .before .before .before .before .args .bits) = omega arith in
     rw (eq-eqb _ _ (loop .inv .0), ← all) (sym (loop .inv .3))
 
-pub check-program-spec : {M : Type 1} → statement M
-check-program-spec =
+pub check-given-program-spec : {M : Type 1} → statement M
+check-given-program-spec =
     tie.close
     (tie.spec Inv-loop μ-loop
     (λ c. search needs) length-fails (λ c. search needs) (λ c. search needs) holds (λ c. search needs) (λ c κs. search needs) bit-fails

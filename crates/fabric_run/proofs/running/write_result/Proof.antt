@@ -1,4 +1,4 @@
--- `fabric_run::running::write_outputs` meets its contract. The loop's invariant: the first j entries are the bits on the first j output wires.
+-- `fabric_run::running::write_result` meets its contract. The loop's invariant: the first j entries are the bits on the first j output wires.
 -- Assumes nothing.
 use native.Mathlib.Omega.{arith}
 use mathlib.Core.Path.{_≡_, refl, ap, _∙_}
@@ -9,8 +9,8 @@ use Rattle.lists.specs.Lists.{listOf}
 use Rattle.fault.specs.Buffers.{over}
 use Rattle.fault.proofs.BuffersLaws.{listOf-over}
 use Rattle.fabric_sizes.specs.Layout.{outputsIn, outputWireAt}
-use Rattle.fabric_run.proofs.running.write_outputs.Statement.{statement}
-use Rattle.fabric_run.proofs.running.write_outputs.Tie as tie
+use Rattle.fabric_run.proofs.running.write_result.Statement.{statement}
+use Rattle.fabric_run.proofs.running.write_result.Tie as tie
 
 abbrev Inv-loop : tie.InvT-loop
 Inv-loop table work result₀ first count j₀ result j =
@@ -30,7 +30,7 @@ wire-read c =
     let at = c .before .before .before in
     let placed = at .before .before .before in
     let table = placed .before .before .before .before .before .args .table .now in
-    c .wire-of .ensures ∙ ap (λ n. getD table (n + at .loop .j) 0) (placed .row-place .ensures .0)
+    c .wire-of .ensures ∙ ap (λ n. getD table (n + at .loop .j) 0) (placed .row-start .ensures .0)
 
 wire-fits : tie.Need-shared-slice-read-result Inv-loop μ-loop
 wire-fits c =
@@ -64,8 +64,8 @@ all c =
     let e : c .before .loop .j ≡ outputsIn (a .table .now) = omega arith in
     c .before .loop .inv .2 ∙ ap (λ n. over (listOf n (λ k. getD (a .work .now) (outputWireAt (a .table .now) k) 0)) (a .result .now)) e
 
-pub write-outputs-spec : {M : Type 1} → statement M
-write-outputs-spec =
+pub write-result-spec : {M : Type 1} → statement M
+write-result-spec =
     tie.close
     (tie.spec Inv-loop μ-loop
     (λ c. search needs) (λ c κs. search needs) (λ c. search needs) (λ c κs. search needs) holds (λ c. search needs) (λ c. search needs)
