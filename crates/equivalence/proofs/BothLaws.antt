@@ -24,10 +24,10 @@ use Rattle.equivalence.specs.ThirdDemand.{planTableLength, planFabricWir
 use Rattle.equivalence.specs.BothCalls.{bothRoomFault, bothFault, bothEvaluated, bothRan, BothPasses}
 use Rattle.equivalence.proofs.ThirdDemandLaws.{fabric-unrefused, third-demand, counts-pass}
 
-pub both-passes : (p : Plan) (row : List ℕ) (table program work evaluated ran : ℕ) → bothFault p row table program work evaluated ran ≡ 0
+pub both-passes : {p : Plan} {row : List ℕ} {table program work evaluated ran : ℕ} → bothFault p row table program work evaluated ran ≡ 0
     → BothPasses p row table program work evaluated ran
 unfolding bothFault bothRoomFault roomFault
-both-passes p row table program work evaluated ran e =
+both-passes {p} {row} {table} {program} {work} {evaluated} {ran} e =
     let h = simp (and-then-zero, unless-zero) at e in
     let rooms = h .1 .1 in
     record {

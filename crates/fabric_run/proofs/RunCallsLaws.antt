@@ -32,9 +32,9 @@ pub record RunPasses (table row : List ℕ) (work result : ℕ) : Type 0 where
   pub runnable : Runnable table row work
   pub outputs : ResultRoom table work result
 
-pub run-passes : (table program row : List ℕ) (work result : ℕ) → runFault table program row work result ≡ 0 → RunPasses table row work result
+pub run-passes : {table : List ℕ} (program : List ℕ) {row : List ℕ} {work result : ℕ} → runFault table program row work result ≡ 0 → RunPasses table row work result
 unfolding runFault roomFault
-run-passes table program row work result e =
+run-passes {table} program {row} {work} {result} e =
     let h = simp (and-then-zero, unless-zero) at e in
     let wellFormed = table-faultless table .0 (h .0) in
     let contacts = h .1 .1 .0 in

@@ -1,28 +1,37 @@
 -- The checks pass exactly if the counts are allowed, or the plan is accepted, and the buffer has its stated length.
-use mathlib.Core.Path.{_≡_}
+use mathlib.Core.Path.{_≡_, sym, ap, _∙_}
 use Prim.Native.Nat.{ℕ, _<_, _≤_}
 use native.Mathlib.Omega.{arith}
 use borrow.Author.Tests.{le-leb, lt-leb, leb-true}
 use Rattle.fault.specs.declared.Fault.{Fault}
-use Rattle.fault.specs.Number.{faultNumber}
-use Rattle.fault.specs.Checks.{roomFault}
-use Rattle.fault.proofs.ChecksLaws.{unless-zero, and-then-zero}
+use Rattle.fault.specs.declared.Answer.{Answer}
+use Rattle.fault.specs.Number.{faultNumber, answerNumber}
+use Rattle.fault.specs.Checks.{andThen, roomFault}
+use Rattle.fault.proofs.ChecksLaws.{unless-zero, and-then-zero, first-refuses, second-answers}
 use Rattle.plan.specs.declared.record.Plan.{Plan}
 use Rattle.plan.specs.Faults.{countsFault, Accepted}
 use Rattle.plan.proofs.FaultsLaws.{counts-within}
 use Rattle.fabric_sizes.specs.Counting.{tableLength}
 use Rattle.fabric_sizes.specs.FabricChecks.{fabricFault, programLength, planProgramFault, FabricPasses}
 
--- ---- a buffer's length
+-- ---- first what another call answers, then a buffer's length
 
--- 11, where a buffer has fewer entries than the stated length, and only there
-pub too-short : {long stated room : ℕ} → long ≡ stated → room < long → faultNumber Fault.Short ≡ roomFault stated room
-unfolding roomFault
-too-short {long} {stated} {room} e l = rw (lt-leb stated room (omega arith))
+module _ {a : Answer} {n : ℕ} (asked : answerNumber a ≡ n) where
+  -- the call refuses
+  pub call-refuses : (f : Fault) (second : ℕ) → a ≡ Answer.Refused f → faultNumber f ≡ andThen n second
+  call-refuses f second e = first-refuses f n second (ap answerNumber (sym e) ∙ asked)
 
-pub long-enough : {long stated room : ℕ} → long ≡ stated → long ≤ room → 0 ≡ roomFault stated room
-unfolding roomFault
-long-enough {long} {stated} {room} e l = rw (le-leb stated room (omega arith))
+  -- it does not: then nothing fails in it, and 11 is said where the buffer has fewer entries than the stated length, and only there
+  pub call-passes : a ≡ Answer.Done → 0 ≡ n
+  call-passes e = ap answerNumber (sym e) ∙ asked
+
+  pub buffer-short : {long stated room : ℕ} → a ≡ Answer.Done → long ≡ stated → room < long → faultNumber Fault.Short ≡ andThen n (roomFault stated room)
+  unfolding roomFault
+  buffer-short {long} {stated} {room} done e l = second-answers _ n _ (call-passes done) (rw (lt-leb stated room (omega arith)))
+
+  pub buffer-enough : {long stated room : ℕ} → a ≡ Answer.Done → long ≡ stated → long ≤ room → 0 ≡ andThen n (roomFault stated room)
+  unfolding roomFault
+  buffer-enough {long} {stated} {room} done e l = second-answers _ n _ (call-passes done) (rw (le-leb stated room (omega arith)))
 
 -- ---- writing the fabric
 

@@ -9,12 +9,18 @@ use Rattle.equivalence.specs.BothCalls.{bothFault}
 use Rattle.equivalence.proofs.both.check_both.Statement.{statement}
 use Rattle.equivalence.proofs.both.check_both.Tie as tie
 
--- where there is no plan fault
-planned : (c : tie.After-enum-told) → 0 ≡ planFault (c .before .before .before .before .args .plan)
+-- the way back: the row is looked at where there is no plan fault
+abbrev faultless : tie.After-enum-told2 → tie.After-enum-told
+faultless c = c .before .before .before .before
+
+abbrev start : tie.After-enum-told → tie.Start
+start c = c .before .before .before .before
+
+planned : (c : tie.After-enum-told) → 0 ≡ planFault (start c .args .plan)
 planned c = ap answerNumber (sym (c .enum-told .given .1)) ∙ c .before .before .plan-fault .ensures
 
 -- where the row is one of input contacts
-contacted : (c : tie.After-enum-told2) → let a = c .before .before .before .before .before .before .before .before .args in
+contacted : (c : tie.After-enum-told2) → let a = start (faultless c) .args in
     0 ≡ contactFault (a .plan .inputs) (a .row .now)
 contacted c = ap answerNumber (sym (c .enum-told2 .given .1)) ∙ c .before .before .contact-fault .ensures
 
@@ -33,7 +39,7 @@ rooms : tie.Need-returns-3
 unfolding bothFault
 rooms c =
     let told = c .before in
-    second-answers _ _ _ (planned (told .before .before .before .before)) (second-answers _ _ _ (contacted told) (c .check-both-rooms .ensures))
+    second-answers _ _ _ (planned (faultless told)) (second-answers _ _ _ (contacted told) (c .check-both-rooms .ensures))
 
 pub check-both-spec : {M : Type 1} → statement M
 check-both-spec =

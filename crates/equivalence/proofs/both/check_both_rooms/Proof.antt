@@ -10,6 +10,10 @@ use Rattle.equivalence.specs.BothCalls.{bothRoomFault}
 use Rattle.equivalence.proofs.both.check_both_rooms.Statement.{statement}
 use Rattle.equivalence.proofs.both.check_both_rooms.Tie as tie
 
+-- the way back from where table and program are long enough
+abbrev start : tie.Else2 → tie.Start
+start c = c .before .before .before .before .before .before
+
 short-table : tie.Need-returns
 unfolding bothRoomFault roomFault
 short-table c =
@@ -30,7 +34,7 @@ short-program c =
 short-work : tie.Need-returns-3
 unfolding bothRoomFault roomFault
 short-work c =
-    let a = c .before .before .before .before .before .before .before .before .args in
+    let a = start (c .before .before) .args in
     let p = a .plan in
     let table : planTableLength p ≤ a .table = omega arith in
     let program : programLength p ≤ a .program = omega arith in
@@ -40,7 +44,7 @@ short-work c =
 short-evaluated : tie.Need-returns-4
 unfolding bothRoomFault roomFault
 short-evaluated c =
-    let a = c .before .before .before .before .before .before .before .before .before .args in
+    let a = start (c .before .before .before) .args in
     let p = a .plan in
     let table : planTableLength p ≤ a .table = omega arith in
     let program : programLength p ≤ a .program = omega arith in
@@ -51,7 +55,7 @@ short-evaluated c =
 short-ran : tie.Need-returns-5
 unfolding bothRoomFault roomFault
 short-ran c =
-    let a = c .before .before .before .before .before .before .before .before .before .before .args in
+    let a = start (c .before .before .before .before) .args in
     let p = a .plan in
     let table : planTableLength p ≤ a .table = omega arith in
     let program : programLength p ≤ a .program = omega arith in
@@ -63,7 +67,7 @@ short-ran c =
 room : tie.Need-returns-6
 unfolding bothRoomFault roomFault
 room c =
-    let a = c .before .before .before .before .before .before .before .before .before .before .args in
+    let a = start (c .before .before .before .before) .args in
     let p = a .plan in
     let table : planTableLength p ≤ a .table = omega arith in
     let program : programLength p ≤ a .program = omega arith in

@@ -8,13 +8,26 @@ use Rattle.equivalence.proofs.BothLaws.{both-passes, kept, refused-same
 use Rattle.equivalence.proofs.both.run_both.Statement.{statement}
 use Rattle.equivalence.proofs.both.run_both.Tie as tie
 
+-- the way back: from the end to where the four calls are made, and from the checks to what is handed over
+abbrev work-back : tie.After-slice-known10 → tie.After-slice-known8
+work-back c = c .before .before .before .before
+
+abbrev made : tie.After-slice-known8 → tie.After-make-both
+made c = c .before .before .before .before .before .before
+
+abbrev lent : tie.After-check-both → tie.After-shared-slice-known
+lent c = c .before .before .before .before .before .before
+
+abbrev start : tie.After-enum-told → tie.Start
+start c = lent (c .before .before) .before
+
 -- where the checks are done, none fails
-none : (c : tie.After-enum-told) → let a = c .before .before .before .before .before .before .before .before .before .args in
+none : (c : tie.After-enum-told) → let a = start c .args in
     0 ≡ bothFault (a .plan) (a .row .now) (length (a .table .now)) (length (a .program .now)) (length (a .work .now)) (length (a .evaluated .now)) (length (a .ran .now))
 none c = ap answerNumber (sym (c .enum-told .given .1)) ∙ c .before .before .check-both .ensures
 
 passes : tie.Need-make-both-requires
-passes c κs = both-passes _ _ _ _ _ _ _ (sym (none (c .before .before .before .before .before)))
+passes c κs = both-passes (sym (none (c .before .before .before .before .before)))
 
 refused : tie.Need-returns
 refused c =
@@ -24,11 +37,11 @@ refused c =
 
 done : tie.Need-returns-2
 done c =
-    let make = c .before .before .before .before .before .before .before .before .before .before in
+    let make = made (work-back c) in
     let told = make .before .before .before .before .before .before in
-    let a = told .before .before .before .before .before .before .before .before .before .args in
+    let a = start told .args in
     let z = none told in
-    let w = both-passes _ _ _ _ _ _ _ (sym z) in
+    let w = both-passes (sym z) in
     let (table, (program, (work, (evaluated, ran)))) = make .make-both .ensures in
     let same = both-same (a .plan) (a .row .now) (a .evaluated .now) (a .ran .now) (w .accepted) (w .contact) in (
       z,

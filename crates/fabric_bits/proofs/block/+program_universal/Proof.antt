@@ -50,7 +50,8 @@ gate-there t c =
 
 behind-gate : (t : ℕ) → program-universal-lts.Need-add-result (calls t) (universal-at t) program-universal.Post
 behind-gate t c =
-    let s = c .before .before .before .before .before .before .before .before .before .before in
+    let if1 = c .before .before .before .before .before in
+    let s = if1 .before .before .before .before .before in
     omega (arith, s .pre .1 .few)
 
 table : (t : ℕ) → program-universal-lts.Need-returns (calls t) (universal-at t) program-universal.Post
@@ -80,13 +81,18 @@ for-between t c κs =
 
 lower-base : (t : ℕ) → program-universal-lts.Need-add-program-universal (calls t) (universal-at t) program-universal.Post
 lower-base t c =
-    let s = c .before .before .before .before .before .before .before .before .before .before .before .before .before .before .before .before .before .before .before in
+    let between = c .before .before .before .before in
+    let asked = between .before in
+    let upper = asked .before .before .before .before .before .before in
+    let if1 = upper .before .before .before in
+    let s = if1 .before .before .before .before .before in
     omega (arith, s .pre .1 .all)
 
 for-lower : (t : ℕ) → program-universal-lts.Need-program-universal-requires-2 (calls t) (universal-at t) program-universal.Post
 for-lower t c κs =
     let between = c .before .before .before .before .before .before in
-    let upper = between .before .before .before .before .before .before .before in
+    let asked = between .before in
+    let upper = asked .before .before .before .before .before .before in
     let if1 = upper .before .before .before in
     let s = if1 .before .before .before .before .before in
     let a = s .args in
@@ -101,8 +107,10 @@ for-lower t c κs =
 stored : (t : ℕ) → program-universal-lts.Need-returns-2 (calls t) (universal-at t) program-universal.Post
 stored t c =
     let lower = c .before .before .before .before in
-    let between = lower .before .before .before .before .before .before .before in
-    let upper = between .before .before .before .before .before .before .before in
+    let lower-asked = lower .before in
+    let between = lower-asked .before .before .before .before .before .before in
+    let asked = between .before in
+    let upper = asked .before .before .before .before .before .before in
     let if1 = upper .before .before .before in
     let s = if1 .before .before .before .before .before in
     let a = s .args in

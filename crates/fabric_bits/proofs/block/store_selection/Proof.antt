@@ -8,9 +8,10 @@ use Rattle.fabric_bits.proofs.block.store_selection.Tie as tie
 
 stored : tie.Need-returns
 stored c =
-    let s = c .before .before .before .before .before .before .before .before in (
+    let called = c .before .before .before in
+    let s = called .before .before .before .before .before in (
       ap (λ n. s .args .start + n) (c .selection-count .ensures),
-      c .before .before .before .program-selection-at .ensures .1 ∙ selection-stored (s .args .program .now) (s .pre .0),
+      called .program-selection-at .ensures .1 ∙ selection-stored (s .args .program .now) (s .pre .0),
     )
 
 pub store-selection-spec : {M : Type 1} → statement M

@@ -12,38 +12,45 @@ use Rattle.fabric_bits.proofs.PlanBitsLaws.{length-gates, room-behind, 
 use Rattle.fabric_bits.proofs.programming.store_gates.Statement.{statement}
 use Rattle.fabric_bits.proofs.programming.store_gates.Tie as tie
 
+-- the way back: from the first bits to K, to what is handed over
+abbrev placed : tie.After-store-inputs → tie.After-gate-places
+placed c = c .before .before .before
+
+abbrev start : tie.After-gate-places → tie.Start
+start c = c .before .before .before .before .before
+
 -- 2K
-pins-are : (c : tie.After-gate-places) → 2 * c .gate-places .result ≡ pinCount (gateLevel (c .before .before .before .before .before .args .gates))
+pins-are : (c : tie.After-gate-places) → 2 * c .gate-places .result ≡ pinCount (gateLevel (start c .args .gates))
 pins-are c = ap (λ n. 2 * n) (c .gate-places .ensures .isPlaces)
 
 for-inputs : tie.Need-store-inputs-requires
 for-inputs c κs =
-    let placed = c .before .before in
-    let s = placed .before .before .before .before .before in
+    let places = c .before .before in
+    let s = start places in
     let R = s .pre .gates in
-    let e = pins-are placed in
+    let e = pins-are places in
     (rw e (s .pre .inputs), (omega (arith, R .wantedRoom, R .all), rw e (omega (arith, R .few))))
 
 -- where U(K)'s bits begin
-next : (c : tie.After-store-inputs) → let a = c .before .before .before .before .before .before .before .before .args in
+next : (c : tie.After-store-inputs) → let a = start (placed c) .args in
     c .store-inputs .result ≡ selectionCount (a .inputs) (pinCount (gateLevel (a .gates)))
-next c =
-    c .store-inputs .ensures .0 ∙ ap (selectionCount (c .before .before .before .before .before .before .before .before .args .inputs)) (pins-are (c .before .before .before))
+next c = c .store-inputs .ensures .0 ∙ ap (selectionCount (start (placed c) .args .inputs)) (pins-are (placed c))
 
 for-universal : tie.Need-program-universal-requires
 for-universal c κs =
     let first = c .before .before .before .before .before .before in
-    let placed = first .before .before .before in
-    room-behind (placed .before .before .before .before .before .pre .gates) (placed .gate-places .ensures .isPlaces) (first .store-inputs .kept .1 .1 .1 .0) (next first)
+    let places = placed first in
+    room-behind (start places .pre .gates) (places .gate-places .ensures .isPlaces) (first .store-inputs .kept .1 .1 .1 .0) (next first)
     (first .store-inputs .kept .1 .1 .1 .1 .0)
 
 stored : tie.Need-returns
 stored c =
     let universal = c .before .before .before .before in
-    let first = universal .before .before .before .before .before .before .before in
-    let placed = first .before .before .before in
-    let a = placed .before .before .before .before .before .args in
-    let e = placed .gate-places .ensures .isPlaces in
+    let asked = universal .before in
+    let first = asked .before .before .before .before .before .before in
+    let places = placed first in
+    let a = start places .args in
+    let e = places .gate-places .ensures .isPlaces in
     let takes = ap (universalTakes selection) (ap gateLevel e ∙ same-level (a .gates)) in (
       omega (arith, next first, universal .program-universal .ensures .0, takes, length-gates (a .inputs) (a .gates) (a .operands .now) (a .tables .now)),
       gates-stored (a .inputs) (a .gates) (a .operands .now) (a .tables .now) (a .program .now) e refl

@@ -24,8 +24,9 @@ for-selection c κs =
 
 stored : tie.Need-returns
 stored c =
-    let first = c .before .before .store-selection in
-    let list = c .before .before .before .before .before .before .before in
+    let selected = c .before .before in
+    let first = selected .store-selection in
+    let list = selected .before .before .before .before .before in
     let a = list .before .before .before .before .before .args in
     (omega (arith, first .ensures .0), first .ensures .1 ∙ ap (λ w. storeBits (a .program .now) 0 (selectionBits (a .inputs) (a .count) w)) (listed list))
 

@@ -31,8 +31,9 @@ holds c = (omega arith, refl, refl)
 
 again : tie.Need-loop-again Inv-loop μ-loop
 again c =
-    let loop = c .before .before .before .loop in
-    let a = c .before .before .before .before .before .before .before .args in
+    let at = c .before .before .before in
+    let loop = at .loop in
+    let a = at .before .before .before .before .args in
     let wanted =
     c .wanted-gate .ensures ∙ wanted-among (listedOperands (a .before) (a .operands .now)) (a .base) (a .half) _
     ∙ ap (wantedGate (listedOperands (a .before) (a .operands .now)) (a .base) (a .half)) (c .before .operand-at .ensures) in

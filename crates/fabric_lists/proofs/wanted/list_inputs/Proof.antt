@@ -31,8 +31,9 @@ holds c = (omega arith, refl, refl)
 
 again : tie.Need-loop-again Inv-loop μ-loop
 again c =
-    let loop = c .before .before .before .loop in
-    let a = c .before .before .before .before .before .before .before .args in
+    let at = c .before .before .before in
+    let loop = at .loop in
+    let a = at .before .before .before .before .args in
     let wanted = c .wanted-input .ensures ∙ ap (wantedInput (a .inputs)) (c .before .operand-at .ensures) in
     (omega arith, simp length-set (loop .inv .1), list-step (a .wanted .now) (loop .q) _ (loop .inv .2) wanted (omega arith))
 

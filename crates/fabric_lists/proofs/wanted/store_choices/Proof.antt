@@ -32,10 +32,13 @@ holds c = let a = c .before .before .args in (omega arith, refl, store-none (a .
 
 again : tie.Need-loop-again Inv-loop μ-loop
 again c =
-    let store = c .before .before .store-bit in
-    let bit = c .before .before .before .before .choice-bit in
-    let operand = c .before .before .before .before .before .operand-at in
-    let at = c .before .before .before .before .before .before .before in
+    let stored = c .before .before in
+    let chosen = stored .before .before in
+    let read = chosen .before in
+    let at = read .before .before in
+    let store = stored .store-bit in
+    let bit = chosen .choice-bit in
+    let operand = read .operand-at in
     let a = at .before .before .before .args in
     let G = listedOperands (a .before) (a .operands .now) in
     let is = bit .ensures ∙ ap oneIf (among-gates G (a .base) (a .half) _) ∙ ap (λ w. oneIf (isOf G (a .base) (a .half) w)) (operand .ensures) in

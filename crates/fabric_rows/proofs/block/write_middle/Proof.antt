@@ -8,7 +8,8 @@ use Rattle.fabric_rows.proofs.block.write_middle.Tie as tie
 written : tie.Need-returns
 written c =
     let mixed = c .before .before .before .before in
-    let select = mixed .before .before .before .before .before .before .before in
+    let given-back = mixed .before .before .before in
+    let select = given-back .before .before .before .before in
     let start = select .before .before .before .before .before .before in
     let a = start .args in
     let laid = select .write-selection-on .ensures in

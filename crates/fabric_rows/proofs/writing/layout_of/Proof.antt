@@ -12,7 +12,8 @@ use Rattle.fabric_rows.proofs.writing.layout_of.Tie as tie
 -- K is of 16 bits
 few : tie.Need-cast-t12
 few c =
-    let start = c .before .before .before .before .before .before .before in
+    let outputs = c .before .before .before .before in
+    let start = outputs .before .before .before in
     omega (arith, c .gate-places .ensures .isPlaces, few-places (start .args .k) (start .pre .gates))
 
 layout : tie.Need-returns

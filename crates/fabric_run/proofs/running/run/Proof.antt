@@ -12,15 +12,19 @@ use Rattle.fabric_run.proofs.RunCallsLaws.{RunPasses, run-passes, outpu
 use Rattle.fabric_run.proofs.running.run.Statement.{statement}
 use Rattle.fabric_run.proofs.running.run.Tie as tie
 
+-- what is handed over
+abbrev start : tie.After-check-run → tie.Start
+start c = c .before .before .before .before .before .before
+
 -- where the checks are done, none fails
 module _ (c : tie.After-enum-told) where
-  none : let a = c .before .before .before .before .before .before .before .before .args in
+  none : let a = start (c .before .before) .args in
       0 ≡ runFault (a .table .now) (a .program .now) (a .row .now) (length (a .work .now)) (length (a .result .now))
   none = ap answerNumber (sym (c .enum-told .given .1)) ∙ c .before .before .check-run .ensures
 
-  passes : let a = c .before .before .before .before .before .before .before .before .args in
+  passes : let a = start (c .before .before) .args in
       RunPasses (a .table .now) (a .row .now) (length (a .work .now)) (length (a .result .now))
-  passes = run-passes _ _ _ _ _ (sym none)
+  passes = run-passes _ (sym none)
 
 for-rows : tie.Need-run-rows-requires
 for-rows c κs = passes (c .before) .runnable
@@ -28,8 +32,9 @@ for-rows c κs = passes (c .before) .runnable
 for-outputs : tie.Need-write-result-requires
 for-outputs c κs =
     let ran = c .before .before .before .before in
-    let a = ran .before .before .before .before .before .before .before .before .before .before .args in
-    subst (λ n. ResultRoom (a .table .now) n (length (a .result .now))) (sym (ran .run-rows .kept .1 .1 .1 .0)) (passes (ran .before .before) .outputs)
+    let told = ran .before .before in
+    let a = start (told .before .before) .args in
+    subst (λ n. ResultRoom (a .table .now) n (length (a .result .now))) (sym (ran .run-rows .kept .1 .1 .1 .0)) (passes told .outputs)
 
 refused : tie.Need-returns
 refused c =
@@ -42,7 +47,7 @@ done c =
     let wrote = c .before .before in
     let ran = wrote .before .before .before .before .before in
     let told = ran .before .before in
-    let a = told .before .before .before .before .before .before .before .before .args in
+    let a = start (told .before .before) .args in
     let z = none told in
     let p = passes told .runnable in
     let worked = ran .run-rows .ensures in

@@ -7,6 +7,10 @@ use Rattle.fabric_run.specs.RunRows.{RowRoom, rowDone}
 use Rattle.fabric_run.proofs.running.run_row.Statement.{statement}
 use Rattle.fabric_run.proofs.running.run_row.Tie as tie
 
+-- what is handed over, where the kind is not X
+abbrev start : tie.Else1 → tie.Start
+start c = c .before .before .before .before
+
 for-x : tie.Need-run-x-requires
 unfolding makes
 for-x c κs =
@@ -30,7 +34,7 @@ for-y c κs =
 ran-y : tie.Need-returns-2
 ran-y c =
     let ran = c .before .before in
-    let a = ran .before .before .before .before .before .before .before .args in
+    let a = start (ran .before .before .before) .args in
     ran .run-y .ensures ∙ ap (λ row. rowDone row (a .program .now) (a .bit) (a .made) (a .work .now)) (sym (kind-y _ _ _ (ran .before .before .if2 .taken)))
 
 for-g : tie.Need-run-g-requires
@@ -44,7 +48,7 @@ for-g c κs =
 ran-g : tie.Need-returns-3
 ran-g c =
     let ran = c .before .before in
-    let a = ran .before .before .before .before .before .before .before .args in
+    let a = start (ran .before .before .before) .args in
     let is = kind-g _ _ _ (ran .before .before .before .if1 .left) (ran .before .before .if2 .left) in
     ran .run-g .ensures ∙ ap (λ row. rowDone row (a .program .now) (a .bit) (a .made) (a .work .now)) (sym is)
 

@@ -11,7 +11,7 @@ use lib.Dec.{lit<}
 use lib.ListN.{length, getD}
 use Rattle.blocks.specs.Elements.{stride, gateBits}
 use Rattle.elements.specs.Elements.{maxWires}
-use Rattle.fabric_sizes.specs.Layout.{header, rowsIn, kindAt, rowStart}
+use Rattle.fabric_sizes.specs.Layout.{header, inputsPlace, rowsPlace, rowStart, rowsIn, kindAt}
 use Rattle.fabric_table_checks.specs.TableFault.{WellFormed}
 use Rattle.fabric_table_checks.proofs.CountingLaws.{counted-first, counted-few}
 use Rattle.fabric_table_checks.specs.declared.table.RowCounts.{RowCounts}
@@ -58,31 +58,40 @@ module _ {i rows : ℕ} (h : i < rows) where
   fewer-left : rows - (i + 1) < rows - i
   fewer-left = omega arith
 
+-- the way back: from a row's counts to its run, to the loop, to where wire 0 and the inputs stand, to what is handed over
+abbrev ran : tie.After-counts-of Inv-loop μ-loop → tie.After-run-row Inv-loop μ-loop
+ran c = c .before .before .before
+
+abbrev looped : tie.After-run-row Inv-loop μ-loop → tie.In-loop Inv-loop μ-loop
+looped c = c .before .before .before .before
+
+abbrev started : tie.At-loop Inv-loop μ-loop → tie.After-start-wires Inv-loop μ-loop
+started c = c .before .before .before .before .before .before
+
+abbrev start : tie.After-start-wires Inv-loop μ-loop → tie.Start Inv-loop μ-loop
+start c = c .before .before .before .before .before .before
+
 for-start : tie.Need-start-wires-requires Inv-loop μ-loop
 for-start c κs = start-room (c .before .before .before .before .before .pre)
 
 holds : tie.Need-loop-holds Inv-loop μ-loop
 holds c =
     let read = c .before .before in
-    let started = read .before .before .before in
-    let s = started .before .before .before .before .before .before in
+    let first = read .before .before .before in
+    let s = start first in
     let a = s .args in
-    let ready = subst (Runnable (a .table .now) (a .row .now)) (sym (started .start-wires .kept .1 .0)) (s .pre) in
+    let ready = subst (Runnable (a .table .now) (a .row .now)) (sym (first .start-wires .kept .1 .0)) (s .pre) in
     let made = 1 + c .wide .result in
     let counted = counted-first (a .table .now) made (ap (λ n. 1 + n) (c .wide .ensures .0)) in (
       zero-le,
       omega (arith, read .shared-slice-known4 .given 2),
-      stands-first (a .table .now) (a .program .now) (a .row .now) (a .work .now) _ made ready counted (started .start-wires .ensures),
+      stands-first (a .table .now) (a .program .now) (a .row .now) (a .work .now) _ made ready counted (first .start-wires .ensures),
     )
 
--- what is handed over, seen from the loop
-abbrev start : tie.In-loop Inv-loop μ-loop → tie.Start Inv-loop μ-loop
-start c = c .before .before .before .before .before .before .before .before .before .before .before .before .before
-
 -- the kind that is read
-kind-read : (c : tie.After-row-start Inv-loop μ-loop) → let table = start (c .before) .args .table .now in
+kind-read : (c : tie.After-row-start Inv-loop μ-loop) → let table = start (started (c .before .before)) .args .table .now in
     getD table (c .row-start .result) 0 ≡ kindAt table (c .before .before .loop .i)
-kind-read c = ap (λ n. getD (start (c .before) .args .table .now) n 0) (c .row-start .ensures .0)
+kind-read c = ap (λ n. getD (start (started (c .before .before)) .args .table .now) n 0) (c .row-start .ensures .0)
 
 for-row : tie.Need-run-row-requires Inv-loop μ-loop
 for-row c κs =
@@ -97,33 +106,32 @@ few c =
     counted-few (inv .2 .ready .wellFormed .start .inputs) (le-trans (inv .0) (le-of-lt (inv .1))) (inv .2 .counted)
 
 wires-fit : tie.Need-add-made-2 Inv-loop μ-loop
-wires-fit c = let l = c .before .before .before .before .before .before .before .before in wires-sum (l .before .loop .made) (few l .wires) (c .before .counts-of .ensures)
+wires-fit c = let l = looped (ran (c .before)) in wires-sum (l .before .loop .made) (few l .wires) (c .before .counts-of .ensures)
 
 bits-fit : tie.Need-add-bit Inv-loop μ-loop
-bits-fit c = let l = c .before .before .before .before .before .before .before .before .before in bits-sum (l .before .loop .bit) (few l .bits) (c .before .before .counts-of .ensures)
+bits-fit c = let l = looped (ran (c .before .before)) in bits-sum (l .before .loop .bit) (few l .bits) (c .before .before .counts-of .ensures)
 
 again : tie.Need-loop-again Inv-loop μ-loop
 again c =
     let counted = c .before .before in
-    let ran = counted .before .before .before in
-    let placed = ran .before .before .before in
+    let placed = ran counted .before .before .before in
     let loop = placed .before .before .loop in
     let taken = placed .before .loop-test .taken in (
       next-within taken,
       loop .inv .1,
       stands-more (loop .inv .2) taken (counted .counts-of .result) _ (placed .row-start .ensures .0) (kind-read placed)
-          (counted .counts-of .ensures) (ran .run-row .ensures),
+          (counted .counts-of .ensures) (ran counted .run-row .ensures),
     )
 
 same-length : tie.Need-same-length Inv-loop μ-loop
-same-length c = c .before .loop .inv .2 .size ∙ c .before .before .before .before .before .before .before .start-wires .kept .1 .0
+same-length c = c .before .loop .inv .2 .size ∙ started (c .before) .start-wires .kept .1 .0
 
 all : tie.Need-returns Inv-loop μ-loop
 all c =
     let loop = c .before .loop in
-    let started = c .before .before .before .before .before .before .before in
-    let a = started .before .before .before .before .before .before .args in
-    stands-last (a .work .now) (loop .inv .2) (le-antisymm (loop .inv .0) (c .loop-test .left)) (started .start-wires .ensures)
+    let first = started (c .before) in
+    let a = start first .args in
+    stands-last (a .work .now) (loop .inv .2) (le-antisymm (loop .inv .0) (c .loop-test .left)) (first .start-wires .ensures)
 
 pub run-rows-spec : {M : Type 1} → statement M
 run-rows-spec =
@@ -131,13 +139,13 @@ run-rows-spec =
     (tie.spec Inv-loop μ-loop
     for-start
     -- the table's counts
-    (λ c. header-in 2 (lit< tt) (c .before .before .before .before .before .before .before .before .before .pre .wellFormed))
-    (λ c. header-in 0 (lit< tt) (c .before .before .before .before .before .before .before .before .before .before .pre .wellFormed))
+    (λ c. header-in rowsPlace (lit< tt) (start (c .before .before .before) .pre .wellFormed))
+    (λ c. header-in inputsPlace (lit< tt) (start (c .before .before .before .before) .pre .wellFormed))
     (λ c κs. tt) (λ c. first-fits (c .wide .ensures .1)) holds
     -- a row
     (λ c κs. tt) (λ c. place-fits (c .row-start .ensures .1))
-    (λ c. let l = c .before .before in place-in (start l .pre .wellFormed) (l .loop-test .taken) (c .before .row-start .ensures .0))
+    (λ c. let l = c .before .before in place-in (start (started (l .before)) .pre .wellFormed) (l .loop-test .taken) (c .before .row-start .ensures .0))
     for-row (λ c κs. tt) wires-fit bits-fit
-    (λ c. let l = c .before .before .before .before .before .before .before .before .before in next-fits (l .loop-test .taken) (l .before .loop .inv .1))
-    (λ c. fewer-left (c .before .before .before .before .before .before .before .before .before .loop-test .taken)) again
+    (λ c. let l = looped (ran (c .before .before)) in next-fits (l .loop-test .taken) (l .before .loop .inv .1))
+    (λ c. fewer-left (looped (ran (c .before .before)) .loop-test .taken)) again
     same-length all)

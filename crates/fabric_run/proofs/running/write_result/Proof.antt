@@ -23,31 +23,37 @@ holds : tie.Need-loop-holds Inv-loop μ-loop
 unfolding listOf
 holds c = (omega arith, refl, refl)
 
+-- the way back: from the loop to where the place of the output wires is found, to what is handed over
+abbrev placed : tie.At-loop Inv-loop μ-loop → tie.After-row-start Inv-loop μ-loop
+placed c = c .before .before .before
+
+abbrev start : tie.At-loop Inv-loop μ-loop → tie.Start Inv-loop μ-loop
+start c = placed c .before .before .before .before .before
+
 -- output wire j
 wire-read : (c : tie.After-wire-of Inv-loop μ-loop) → let at = c .before .before .before in
-    c .wire-of .result .0 ≡ outputWireAt (at .before .before .before .before .before .before .before .before .args .table .now) (at .loop .j)
+    c .wire-of .result .0 ≡ outputWireAt (start at .args .table .now) (at .loop .j)
 wire-read c =
     let at = c .before .before .before in
-    let placed = at .before .before .before in
-    let table = placed .before .before .before .before .before .args .table .now in
-    c .wire-of .ensures ∙ ap (λ n. getD table (n + at .loop .j) 0) (placed .row-start .ensures .0)
+    let table = start at .args .table .now in
+    c .wire-of .ensures ∙ ap (λ n. getD table (n + at .loop .j) 0) (placed at .row-start .ensures .0)
 
 wire-fits : tie.Need-shared-slice-read-result Inv-loop μ-loop
 wire-fits c =
     let at = c .before .before .before .before .before in
-    let s = at .before .before .before .before .before .before .before .before in
+    let s = start at in
     omega (arith, wire-read (c .before .before), s .pre .wellFormed .output (at .loop .j) (omega arith), s .pre .wires)
 
 place-fits : tie.Need-slice-write-result Inv-loop μ-loop
 place-fits c =
     let at = c .before .before .before .before .before in
-    let s = at .before .before .before .before .before .before .before .before in
+    let s = start at in
     omega (arith, s .pre .room)
 
 again : tie.Need-loop-again Inv-loop μ-loop
 again c =
     let at = c .before .before .before .before .before in
-    let s = at .before .before .before .before .before .before .before .before in
+    let s = start at in
     let a = s .args in
     let loop = at .loop in
     let bit : ℕ → ℕ = λ k. getD (a .work .now) (outputWireAt (a .table .now) k) 0 in (
@@ -60,7 +66,7 @@ again c =
 
 all : tie.Need-returns Inv-loop μ-loop
 all c =
-    let a = c .before .before .before .before .before .before .before .before .before .args in
+    let a = start (c .before) .args in
     let e : c .before .loop .j ≡ outputsIn (a .table .now) = omega arith in
     c .before .loop .inv .2 ∙ ap (λ n. over (listOf n (λ k. getD (a .work .now) (outputWireAt (a .table .now) k) 0)) (a .result .now)) e
 

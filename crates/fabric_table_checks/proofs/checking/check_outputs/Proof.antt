@@ -24,20 +24,26 @@ holds : tie.Need-loop-holds Inv-loop μ-loop
 unfolding firstOf
 holds c = (omega arith, refl)
 
+-- the way back: from the loop to where the place of the output wires is found, to what is handed over
+abbrev placed : tie.At-loop Inv-loop μ-loop → tie.After-row-start Inv-loop μ-loop
+placed c = c .before .before .before
+
+abbrev start : tie.At-loop Inv-loop μ-loop → tie.Start Inv-loop μ-loop
+start c = placed c .before .before .before
+
 -- output wire j
 wire-read : (c : tie.After-wire-of Inv-loop μ-loop) → let at = c .before .before .before in
-    c .wire-of .result .0 ≡ outputWireAt (at .before .before .before .before .before .before .args .table .now) (at .loop .j)
+    c .wire-of .result .0 ≡ outputWireAt (start at .args .table .now) (at .loop .j)
 wire-read c =
     let at = c .before .before .before in
-    let placed = at .before .before .before in
-    let table = placed .before .before .before .args .table .now in
-    c .wire-of .ensures ∙ ap (λ n. getD table (n + at .loop .j) 0) (placed .row-start .ensures .0)
+    let table = start at .args .table .now in
+    c .wire-of .ensures ∙ ap (λ n. getD table (n + at .loop .j) 0) (placed at .row-start .ensures .0)
 
 unmade : tie.Need-returns Inv-loop μ-loop
 unfolding outputWireFault
 unmade c =
     let at = c .before .before .before .before .before in
-    let s = at .before .before .before .before .before .before in
+    let s = start at in
     let table = s .args .table .now in
     let l : wiresIn table ≤ outputWireAt table (at .loop .j) = omega (arith, wire-read (c .before .before), s .pre .1) in
     let e = ap (λ t. unless t Fault.Fabric) (sym (le-ltb _ (wiresIn table) l)) in
@@ -47,7 +53,7 @@ again : tie.Need-loop-again Inv-loop μ-loop
 unfolding outputWireFault
 again c =
     let at = c .before .before .before .before .before in
-    let s = at .before .before .before .before .before .before in
+    let s = start at in
     let table = s .args .table .now in
     let l : outputWireAt table (at .loop .j) < wiresIn table = omega (arith, wire-read (c .before .before), s .pre .1) in
     let e = ap (λ t. unless t Fault.Fabric) (lt-ltb _ (wiresIn table) l) in
@@ -56,7 +62,7 @@ again c =
 all : tie.Need-returns-2 Inv-loop μ-loop
 all c =
     let loop = c .before .loop in
-    let e : loop .j ≡ outputsIn (c .before .before .before .before .before .before .before .args .table .now) = omega arith in
+    let e : loop .j ≡ outputsIn (start (c .before) .args .table .now) = omega arith in
     rw (← e) (sym (loop .inv .1))
 
 pub check-outputs-spec : {M : Type 1} → statement M

@@ -32,17 +32,25 @@ holds c =
     let table = read .before .before .args .table .now in
     (omega arith, refl, counted-first table _ (omega arith), omega (arith, read .shared-slice-known2 .given 2))
 
+-- the way back: from a row's counts to the loop, to what is handed over
+abbrev looped : tie.After-counts-of Inv-loop μ-loop → tie.In-loop Inv-loop μ-loop
+looped c = c .before .before .before .before .before .before
+
+abbrev start : tie.At-loop Inv-loop μ-loop → tie.Start Inv-loop μ-loop
+start c = c .before .before .before .before .before
+
 for-row : tie.Need-check-row-requires Inv-loop μ-loop
 for-row c κs =
-    let s = c .before .before .before .before .before .before in
+    let s = start (c .before) in
     record { start = s .pre; within = omega arith; made = c .before .loop .inv .2 .wires }
 
 faulty : tie.Need-returns Inv-loop μ-loop
 faulty c =
     let f = c .before .f .given in
     let asked = c .before .before .before in
-    let loop = asked .before .before .loop in
-    let table = asked .before .before .before .before .before .before .before .args .table .now in
+    let at = asked .before .before in
+    let loop = at .loop in
+    let table = start at .args .table .now in
     let e = ap answerNumber (sym (f .1)) ∙ asked .check-row .ensures in (
       refused-table (f .0 .0) (firstOf (rowFault table) (rowsIn table)) table
           (first-fails _ _ (loop .i) _ (omega arith) (loop .inv .1) e (number-positive (f .0 .0))),
@@ -51,20 +59,20 @@ faulty c =
 
 -- few wires and bits are counted before row i
 few : (c : tie.In-loop Inv-loop μ-loop) → Countable (c .before .loop .wires) (c .before .loop .bits)
-few c = let s = c .before .before .before .before .before .before in counted-few (s .pre .inputs) (omega arith) (c .before .loop .inv .2)
+few c = let s = start (c .before) in counted-few (s .pre .inputs) (omega arith) (c .before .loop .inv .2)
 
 wires-fit : tie.Need-add-wires-2 Inv-loop μ-loop
-wires-fit c = omega (arith, few (c .before .before .before .before .before .before .before))
+wires-fit c = omega (arith, few (looped (c .before)))
 
 bits-fit : tie.Need-add-bits Inv-loop μ-loop
-bits-fit c = omega (arith, few (c .before .before .before .before .before .before .before .before))
+bits-fit c = omega (arith, few (looped (c .before .before)))
 
 again : tie.Need-loop-again Inv-loop μ-loop
 again c =
     let counted = c .before .before in
     let told = counted .before .before .before in
     let at = told .before .before .before .before in
-    let table = at .before .before .before .before .before .args .table .now in
+    let table = start at .args .table .now in
     let loop = at .loop in
     let e = ap answerNumber (sym (told .enum-told .given .1)) ∙ told .before .before .check-row .ensures in
     let own = subst (λ n. CountsOf (getD table n 0) (counted .counts-of .result)) (counted .before .before .row-start .ensures .0) (counted .counts-of .ensures) in (
@@ -77,7 +85,7 @@ again c =
 none : tie.Need-returns-2 Inv-loop μ-loop
 none c =
     let loop = c .before .loop in
-    let s = c .before .before .before .before .before .before in
+    let s = start (c .before) in
     let table = s .args .table .now in
     let all : loop .i ≡ rowsIn table = omega arith in (
       counted-table (firstOf (rowFault table) (rowsIn table)) table (record { wires = loop .wires; bits = loop .bits })

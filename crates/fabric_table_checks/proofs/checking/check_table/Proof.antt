@@ -17,13 +17,17 @@ use Rattle.fabric_table_checks.proofs.CheckingLaws.{refused-table, refu
 use Rattle.fabric_table_checks.proofs.checking.check_table.Statement.{statement}
 use Rattle.fabric_table_checks.proofs.checking.check_table.Tie as tie
 
+-- what is handed over
+abbrev start : tie.After-enum-told → tie.Start
+start c = c .before .before .before .before
+
 -- where the header, and then the rows pass
-header-passes : (c : tie.After-enum-told) → 0 ≡ headerFault (c .before .before .before .before .args .table .now)
+header-passes : (c : tie.After-enum-told) → 0 ≡ headerFault (start c .args .table .now)
 header-passes c = ap answerNumber (sym (c .enum-told .given .1)) ∙ c .before .before .check-header .ensures
 
 module _ (c : tie.After-c) where
   abbrev tableOf : List ℕ
-  tableOf = c .before .before .before .before .before .before .before .args .table .now
+  tableOf = start (c .before .before .before) .args .table .now
 
   rows-pass : CountedBy (firstOf (rowFault tableOf) (rowsIn tableOf)) tableOf (c .c .given .0 .0)
   rows-pass =
@@ -31,7 +35,7 @@ module _ (c : tie.After-c) where
       (ap checkOutcome (sym (c .c .given .1)) ∙ c .before .before .check-rows .ensures .0)
 
 for-rows : tie.Need-check-rows-requires
-for-rows c κs = header-faultless (c .before .before .before .before .args .table .now) .0 (sym (header-passes c))
+for-rows c κs = header-faultless (start c .args .table .now) .0 (sym (header-passes c))
 
 for-end : tie.Need-check-end-requires
 for-end c κs =

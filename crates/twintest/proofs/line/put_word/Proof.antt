@@ -11,27 +11,5 @@ Inv-loop line₀ at word next₀ i₀ line next i = Unit {0}
 abbrev μ-loop : tie.MeasureT-loop
 μ-loop line₀ at word next₀ i₀ line next i = length word - i
 
-loop-holds : tie.Need-loop-holds Inv-loop μ-loop
-loop-holds c = tt
-
-shared-slice-read-put-byte : tie.Need-shared-slice-read-put-byte Inv-loop μ-loop
-shared-slice-read-put-byte c = omega arith
-
-put-byte-requires : tie.Need-put-byte-requires Inv-loop μ-loop
-put-byte-requires c κs = tt
-
-add-i : tie.Need-add-i Inv-loop μ-loop
-add-i c = omega arith
-
-loop-less : tie.Need-loop-less Inv-loop μ-loop
-loop-less c = omega arith
-
-loop-again : tie.Need-loop-again Inv-loop μ-loop
-loop-again c = tt
-
-returns : tie.Need-returns Inv-loop μ-loop
-returns c = tt
-
 pub put-word-spec : {M : Type 1} → statement M
-put-word-spec =
-    tie.close (tie.spec Inv-loop μ-loop loop-holds shared-slice-read-put-byte put-byte-requires add-i loop-less loop-again returns)
+put-word-spec = tie.close (tie.spec Inv-loop μ-loop (λ c. tt) (λ c. omega arith) (λ c κs. tt) (λ c. omega arith) (λ c. omega arith) (λ c. tt) (λ c. tt))
