@@ -19,7 +19,11 @@ use Rattle.fabric_universal.proofs.PlanValues.{padded-spare}
 use Rattle.fabric_sizes.specs.Parts.{maxPins}
 use Rattle.fabric_lists.specs.GateLists.{loadedGates}
 use Rattle.fabric_lists.proofs.GateListsLaws.{all-loaded}
-use Rattle.fabric_bits.specs.ProgramParts.{Loaded}
+
+-- the lists of a plan's gates, spare ones included
+pub record Loaded (p : Plan) (operandList tables : List ℕ) : Type 0 where
+  pub operandsAre : operandList ≡ listOf maxPins (planGates p .operand)
+  pub tablesAre : tables ≡ listOf maxGates (planGates p .table)
 
 -- entries that are there already need not be written
 already : (m n : ℕ) (f : ℕ → ℕ) (x : ℕ) → m ≤ n → ((i : ℕ) → m ≤ i → i < n → f i ≡ x) → over (listOf m f) (replicate n x) ≡ listOf n f

@@ -26,7 +26,8 @@ use Rattle.fabric_universal.proofs.FabricRun.{inputs-selected, outputs-selected
 use Rattle.fabric_sizes.proofs.PartsLaws.{few-places, same-level}
 use Rattle.fabric_sizes.specs.Parts.{maxPins}
 use Rattle.fabric_lists.specs.WantedLists.{listedGates, inputsWanted}
-use Rattle.fabric_bits.specs.ProgramParts.{bitLimit, gatesProgram, UniversalProgramRoom, GatesRoom, Loaded}
+use Rattle.fabric_bits.specs.ProgramParts.{bitLimit, gatesProgram, UniversalProgramRoom, GatesRoom}
+use Rattle.fabric_bits.proofs.LoadedLaws.{Loaded}
 use Rattle.fabric_bits.proofs.UniversalBitsLaws.{SameGates, universal-same}
 
 -- ---- how many bits

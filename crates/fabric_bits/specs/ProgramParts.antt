@@ -3,15 +3,13 @@ use Prim.Native.Nat.{ℕ, _+_, _*_, _^_, _≤_}
 use mathlib.Core.Path.{_≡_}
 use mathlib.Core.List.{List, _++_}
 use lib.ListN.{length}
-use Rattle.lists.specs.Lists.{listOf}
-use Rattle.plan.specs.declared.record.Plan.{Plan}
 use Rattle.plan.specs.Record.{maxGates}
 use Rattle.blocks.specs.Elements.{operands}
 use Rattle.blocks.specs.Networks.{selectionCount, selectionBits}
 use Rattle.blocks.specs.Calls.{SelectionPasses}
 use Rattle.fabric_universal.specs.Selector.{pinCount, selection}
 use Rattle.fabric_universal.specs.Universal.{Gates, universalTakes, wantedGates, mixBits, universalBits}
-use Rattle.fabric_universal.specs.Fabric.{gateLevel, planGates}
+use Rattle.fabric_universal.specs.Fabric.{gateLevel}
 use Rattle.fabric_sizes.specs.Parts.{maxPins}
 use Rattle.fabric_lists.specs.WantedLists.{listedGates, inputsWanted}
 
@@ -55,8 +53,3 @@ pub record UniversalProgramRoom (gates base tables wanted start room : ℕ) : Ty
 pub record GatesRoom (u k : ℕ) (operandList tables : List ℕ) (wanted room : ℕ) : Type 0 where
   pub inputs : SelectionPasses u (pinCount (gateLevel k)) (inputsWanted u operandList (pinCount (gateLevel k))) 0 room
   pub gates : UniversalProgramRoom (2 ^ gateLevel k) 0 (length tables) wanted (selectionCount u (pinCount (gateLevel k))) room
-
--- the lists of a plan's gates, spare ones included
-pub record Loaded (p : Plan) (operandList tables : List ℕ) : Type 0 where
-  pub operandsAre : operandList ≡ listOf maxPins (planGates p .operand)
-  pub tablesAre : tables ≡ listOf maxGates (planGates p .table)

@@ -18,7 +18,7 @@ use Rattle.blocks.specs.Elements.{stride, flat, wiresPut}
 use Rattle.blocks.proofs.ElementsLaws.{flat-append, wires-put}
 use Rattle.blocks.specs.Networks.{selectionRows, selectionOuts, selectionCount, selectionWires}
 use Rattle.blocks.proofs.NetworksLaws.{length-selectionOuts}
-use Rattle.blocks.specs.Calls.{selectionWrittenRows, selectionWrittenOutputs}
+use Rattle.blocks.specs.Calls.{selectionWrittenRows, selectionWrittenOutputs, SelectionWritePasses}
 use Rattle.fabric_parts.specs.Copied.{copiedAt}
 use Rattle.fabric_universal.specs.Selector.{pinCount, selection}
 use Rattle.fabric_universal.specs.Universal.{universalCount, universalWires, universalOuts, universalRows}
@@ -33,10 +33,20 @@ use Rattle.fabric_sizes.specs.Parts.{maxPins, PlacesAre, SelectionIs, Universal
 use Rattle.fabric_sizes.proofs.PartsLaws.{few-places, same-level}
 use Rattle.fabric_rows.specs.declared.writing.Layout.{Layout}
 use Rattle.fabric_sizes.specs.FabricChecks.{FabricPasses}
-use Rattle.fabric_rows.specs.Writing.{LayoutIs, PinRoom, outputEntries, FabricOutputRoom}
+use Rattle.fabric_rows.specs.Writing.{LayoutIs, PinRoom}
 use Rattle.fabric_rows.specs.Block.{UniversalWriteRoom}
 use Rattle.fabric_rows.proofs.BlockLaws.{selection-put, length-selection, over-behind}
 use Rattle.fabric_rows.proofs.UniversalWriteLaws.{length-universal}
+
+-- the entries of S(K, v) on the first K of the gates' wires: its rows, and behind them its output wires
+unfoldable pub outputEntries : ℕ → ℕ → List ℕ → ℕ → List ℕ
+outputEntries gates v outs next = flat (selectionRows gates v (take gates outs) next) ++ selectionOuts gates v (take gates outs) next
+
+-- room for them: the output wires from the entry `end` on, in a part of the table of `rows` entries
+pub record FabricOutputRoom (gates v end next : ℕ) (outs : List ℕ) (rows : ℕ) : Type 0 where
+  pub passes : SelectionWritePasses gates v (take gates outs) next rows maxOutputs
+  pub endAt : end ≡ stride * selectionCount gates v
+  pub enough : end + v ≤ rows
 
 -- ---- where the parts begin
 

@@ -1,11 +1,9 @@
 -- What the functions under the call require of their parts.
 use Prim.Native.Nat.{ℕ, suc, _+_, _*_, _^_, _<_, _≤_}
 use mathlib.Core.Path.{_≡_}
-use mathlib.Core.List.{List, _++_}
-use lib.ListN.{take}
-use Rattle.plan.specs.Record.{maxInputs, maxGates, maxOutputs}
-use Rattle.blocks.specs.Elements.{stride, flat}
-use Rattle.blocks.specs.Networks.{selectionRows, selectionOuts, selectionCount, selectionWires}
+use Rattle.plan.specs.Record.{maxInputs, maxGates}
+use Rattle.blocks.specs.Elements.{stride}
+use Rattle.blocks.specs.Networks.{selectionCount, selectionWires}
 use Rattle.elements.specs.Elements.{maxWires}
 use Rattle.blocks.specs.Calls.{SelectionWritePasses}
 use Rattle.fabric_universal.specs.Selector.{pinCount, selection}
@@ -40,13 +38,3 @@ pub record PinRoom (u gates rows pins : ℕ) : Type 0 where
   pub inputs : u ≤ maxInputs
   pub fewGates : gates ≤ maxGates
   pub passes : SelectionWritePasses u (2 * gates) (inputWires u) (suc u) rows pins
-
--- the entries of S(K, v) on the first K of the gates' wires: its rows, and behind them its output wires
-unfoldable pub outputEntries : ℕ → ℕ → List ℕ → ℕ → List ℕ
-outputEntries gates v outs next = flat (selectionRows gates v (take gates outs) next) ++ selectionOuts gates v (take gates outs) next
-
--- room for them: the output wires from the entry `end` on, in a part of the table of `rows` entries
-pub record FabricOutputRoom (gates v end next : ℕ) (outs : List ℕ) (rows : ℕ) : Type 0 where
-  pub passes : SelectionWritePasses gates v (take gates outs) next rows maxOutputs
-  pub endAt : end ≡ stride * selectionCount gates v
-  pub enough : end + v ≤ rows

@@ -8,7 +8,7 @@ use lib.ListN.{length, getD, drop, length-append, List·getD-append}
 use lib.Seq.{sets, length-sets}
 use Rattle.lists.specs.Lists.{listOf}
 use Rattle.fault.specs.Buffers.{over}
-use Rattle.blocks.specs.Elements.{makes, total, rowOf, outputs, step, run, gateOnBits, unpack, AreBits}
+use Rattle.blocks.specs.Elements.{makes, total, rowOf, outputs, step, run, gateOnBits, unpack, AreBits, State}
 use Rattle.blocks.proofs.ElementsLaws.{run-append, run-wires, run-bits, unpack-bits}
 use Rattle.fabric_sizes.specs.Layout.{inputsIn, rowsIn, kindAt, leftAt, rightAt, rowAt, rowsTo, wiresBefore, bitsBefore, wiresIn, bitsIn, rowStart}
 use Rattle.elements.specs.Elements.{maxWires}
@@ -16,11 +16,23 @@ use Rattle.fabric_run.specs.Running.{runStart, runWires}
 use Rattle.fabric_sizes.proofs.LayoutLaws.{wires-more, bits-more}
 use Rattle.fabric_run.proofs.RunningLaws.{run-areBits}
 use Rattle.fabric_table_checks.specs.declared.table.RowCounts.{RowCounts}
-use Rattle.fabric_table_checks.specs.Counting.{kindWires, CountsOf, CountedBefore}
-use Rattle.fabric_table_checks.proofs.CountingLaws.{of-kind, wires-mono, bits-mono, counted-few, counted-one-more}
-use Rattle.fabric_run.specs.RunRows.{rowState, rowDone, leftOf, rightOf, RowRoom, Runnable, stateTo, RunStands}
+use Rattle.fabric_table_checks.specs.Counting.{kindWires, CountsOf}
+use Rattle.fabric_table_checks.proofs.CountingLaws.{CountedBefore, of-kind, wires-mono, bits-mono, counted-few, counted-one-more}
+use Rattle.fabric_run.specs.RunRows.{rowState, rowDone, leftOf, rightOf, RowRoom, Runnable}
 use Rattle.fabric_run.proofs.RowLaws.{sees-row}
 use Rattle.fabric_run.proofs.WorkLaws.{sets-over, over-longer}
+
+-- where a run stands before row i
+abbrev pub stateTo : List ℕ → List ℕ → List ℕ → ℕ → State ℕ
+stateTo table program row i = run 0 gateOnBits (rowsTo table i) (runStart table program row)
+
+-- before row i: wires and bits are counted, and the work buffer holds the run so far, followed by what stood there
+pub record RunStands (table program row old : List ℕ) (i bit made : ℕ) (work : List ℕ) : Type 0 where
+  pub ready : Runnable table row (length old)
+  pub within : i ≤ rowsIn table
+  pub counted : CountedBefore table i made bit
+  pub size : length work ≡ length old
+  pub held : work ≡ over (stateTo table program row i .wires) old
 
 module _ (table program row : List ℕ) where
   state-more : (i : ℕ) → stateTo table program row (suc i) ≡ step 0 gateOnBits (rowAt table i) (stateTo table program row i)

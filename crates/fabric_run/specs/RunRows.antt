@@ -5,12 +5,10 @@ use mathlib.Core.List.{List}
 use lib.ListN.{length, getD}
 use lib.Seq.{sets}
 use Rattle.lists.specs.Lists.{listOf}
-use Rattle.fault.specs.Buffers.{over}
-use Rattle.blocks.specs.Elements.{Row, gateBits, State, outputs, run, gateOnBits, bitAt, AreBits}
-use Rattle.fabric_sizes.specs.Layout.{leftPlace, rightPlace, inputsIn, outputsIn, rowsIn, outputWireAt, rowsTo, wiresIn}
-use Rattle.fabric_run.specs.Running.{runStart}
+use Rattle.blocks.specs.Elements.{Row, gateBits, State, outputs, gateOnBits, bitAt, AreBits}
+use Rattle.fabric_sizes.specs.Layout.{leftPlace, rightPlace, inputsIn, outputsIn, outputWireAt, wiresIn}
 use Rattle.fabric_table_checks.specs.TableFault.{WellFormed}
-use Rattle.fabric_table_checks.specs.Counting.{maxBits, CountedBefore}
+use Rattle.fabric_table_checks.specs.Counting.{maxBits}
 
 -- what a row sees: the wires' bits, and the program from its first bit on
 abbrev pub rowState : List ℕ → ℕ → List ℕ → State ℕ
@@ -53,15 +51,3 @@ pub record ResultRoom (table : List ℕ) (work result : ℕ) : Type 0 where
   pub wellFormed : WellFormed table
   pub wires : wiresIn table ≤ work
   pub room : outputsIn table ≤ result
-
--- where a run stands before row i
-abbrev pub stateTo : List ℕ → List ℕ → List ℕ → ℕ → State ℕ
-stateTo table program row i = run 0 gateOnBits (rowsTo table i) (runStart table program row)
-
--- before row i: wires and bits are counted, and the work buffer holds the run so far, followed by what stood there
-pub record RunStands (table program row old : List ℕ) (i bit made : ℕ) (work : List ℕ) : Type 0 where
-  pub ready : Runnable table row (length old)
-  pub within : i ≤ rowsIn table
-  pub counted : CountedBefore table i made bit
-  pub size : length work ≡ length old
-  pub held : work ≡ over (stateTo table program row i .wires) old

@@ -8,6 +8,7 @@ use crate::layout::HEADER;
 use crate::parts::output_counts;
 use crate::parts::pin_counts;
 use crate::parts::universal_counts;
+use blocks::bytes_for;
 use blocks::row_place;
 use elements::CountAnswer;
 use elements::Counts;
@@ -52,11 +53,4 @@ pub fn program_length(u: u16, k: u16, v: u16) -> usize
 {
     let counts = fabric_counts(u, k, v);
     bytes_for(counts.bits as usize)
-}
-
-// The bytes that hold `bits` program bits: the bits divided by 8, rounded up.
-pub fn bytes_for(bits: usize) -> usize
-    ensures { λ r. ⌜ r ≡ bytesFor bits ⌝ }
-{
-    bits / 8 + (bits % 8 + 7) / 8
 }

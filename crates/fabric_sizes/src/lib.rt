@@ -6,7 +6,6 @@ mod parts;
 mod programming;
 mod writing;
 
-pub use counting::bytes_for;
 pub use counting::count_fabric;
 pub use counting::fabric_counts;
 pub use counting::program_length;

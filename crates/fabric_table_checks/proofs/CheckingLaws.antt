@@ -9,7 +9,7 @@ use Rattle.fault.proofs.ChecksLaws.{number-positive}
 use Rattle.fabric_sizes.specs.Layout.{rowsIn}
 use Rattle.fabric_table_checks.specs.declared.checking.TableCounts.{TableCounts}
 use Rattle.fabric_table_checks.specs.declared.checking.TableCheck.{TableCheck}
-use Rattle.fabric_table_checks.specs.Counting.{CountedBefore}
+use Rattle.fabric_table_checks.proofs.CountingLaws.{CountedBefore}
 use Rattle.fabric_table_checks.specs.Checking.{checkOutcome, countedOr}
 
 -- a refusal

@@ -12,7 +12,17 @@ use Rattle.fabric_sizes.specs.Layout.{inputsIn, kindAt, leftAt, rightAt, rowAt,
 use Rattle.elements.specs.Elements.{maxWires}
 use Rattle.fabric_sizes.proofs.LayoutLaws.{wires-more, bits-more}
 use Rattle.fabric_table_checks.specs.declared.table.RowCounts.{RowCounts}
-use Rattle.fabric_table_checks.specs.Counting.{kindWires, kindBits, CountsOf, CountedBefore, Countable}
+use Rattle.fabric_table_checks.specs.Counting.{kindWires, kindBits, CountsOf, maxBits}
+
+-- before row i of a table there are w wires and b bits
+pub record CountedBefore (table : List ℕ) (i w b : ℕ) : Type 0 where
+  pub wires : w ≡ wiresBefore table i
+  pub bits : b ≡ bitsBefore table i
+
+-- one row more can be counted
+pub record Countable (w b : ℕ) : Type 0 where
+  pub wires : w ≤ maxBits
+  pub bits : b ≤ maxBits
 
 -- ---- the row of a kind
 

@@ -1,9 +1,7 @@
 -- Wires and program bits, as the code counts them through the rows.
 use Prim.Native.Nat.{ℕ, _*_, _≤_}
 use mathlib.Core.Path.{_≡_}
-use mathlib.Core.List.{List}
 use Rattle.blocks.specs.Elements.{gateBits, makes, takes, rowOf}
-use Rattle.fabric_sizes.specs.Layout.{wiresBefore, bitsBefore}
 use Rattle.elements.specs.Elements.{maxWires}
 use Rattle.fabric_table_checks.specs.declared.table.RowCounts.{RowCounts}
 
@@ -24,13 +22,3 @@ pub record CountsOf (kind : ℕ) (c : RowCounts) : Type 0 where
   pub bits : c .bits ≡ kindBits kind
   pub fewWires : c .wires ≤ 2
   pub fewBits : c .bits ≤ gateBits
-
--- before row i of a table there are w wires and b bits
-pub record CountedBefore (table : List ℕ) (i w b : ℕ) : Type 0 where
-  pub wires : w ≡ wiresBefore table i
-  pub bits : b ≡ bitsBefore table i
-
--- one row more can be counted
-pub record Countable (w b : ℕ) : Type 0 where
-  pub wires : w ≤ maxBits
-  pub bits : b ≤ maxBits

@@ -20,7 +20,7 @@ use Rattle.blocks.specs.Elements.{Row, makes, total, State, on, run, Delivered}
 use Rattle.blocks.proofs.ElementsLaws.{run-append, run-keeps, run-wires}
 use Rattle.blocks.specs.Networks.{mapping, Selected, selectionRows, selectionWires, selectionBits}
 use Rattle.blocks.proofs.NetworksLaws.{selection-totals, selected-at, selected-lt}
-use Rattle.fabric_universal.specs.Views.{View, views}
+use Rattle.fabric_universal.proofs.Views.{View, views}
 use Rattle.fabric_universal.proofs.ViewsLaws.{views-append, views-none}
 use Rattle.fabric_universal.specs.Selector.{pinCount, selection}
 use Rattle.fabric_universal.specs.Universal.{universalRows, universalWires, wireOf, universalBits}

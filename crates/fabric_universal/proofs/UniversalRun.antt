@@ -17,7 +17,7 @@ use Rattle.blocks.specs.Elements.{Row, Gate, tableBits, operands, gateBits, cho
 use Rattle.blocks.proofs.ElementsLaws.{run-append, run-keeps, run-wires, run-bits, run-gates, y-list, runY-made, runY-left, runY-at}
 use Rattle.blocks.specs.Networks.{mapping}
 use Rattle.lists.specs.Counting.{oneIf}
-use Rattle.fabric_universal.specs.Views.{View, viewOf, views}
+use Rattle.fabric_universal.proofs.Views.{View, viewOf, views}
 use Rattle.fabric_universal.proofs.ViewsLaws.{views-append, views-none}
 use Rattle.fabric_universal.specs.Selector.{pinCount, Selector, SelectorShape, SelectorDelivers}
 use Rattle.fabric_universal.specs.Universal.{mixRows, universalWires, selectNext, mixNext, lowerHalfNext, universalOuts, selectedOuts, lowerPins}

@@ -4,7 +4,7 @@ use mathlib.Core.List.{List, [], _∷_, _++_, append-assoc}
 use Prim.Native.Nat.{ℕ}
 use native.Mathlib.Omega.{arith}
 use Rattle.blocks.specs.Elements.{Row, X, Y, Gate, gatesIn, total, State, step, run}
-use Rattle.fabric_universal.specs.Views.{View, viewOf, views}
+use Rattle.fabric_universal.proofs.Views.{View, viewOf, views}
 
 module _ {A : Type 0} (none : A) (gate : ℕ → List ℕ → List A → A) where
   pub views-append : (r t : List Row) (s : State A) → views none gate (r ++ t) s ≡ views none gate r s ++ views none gate t (run none gate r s)

@@ -25,7 +25,7 @@ pub fn evaluate(plan: Plan, row: &[u8], result: &mut [u8]) -> Answer
         Answer::Refused(f) => Answer::Refused(f),
         Answer::Done => {
             let outputs = plan.outputs;
-            write_result(plan.output_count, outputs, gate_wires(plan, row), result);
+            write_plan_outputs(plan.output_count, outputs, gate_wires(plan, row), result);
             Answer::Done
         }
     }
@@ -81,7 +81,7 @@ fn gate_wires(plan: Plan, row: &[u8]) -> [u8; MAX_PLAN_WIRES]
 }
 
 // The bits on the wires that the first count outputs name, into the first entries of the result.
-fn write_result(
+fn write_plan_outputs(
     count: u16,
     outputs: [PlanWire; Plan::MAX_OUTPUTS],
     wires: [u8; MAX_PLAN_WIRES],

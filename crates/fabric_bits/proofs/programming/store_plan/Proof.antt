@@ -3,8 +3,7 @@
 use mathlib.Core.Path.{refl}
 use borrow.Author.Needs.{needs}
 use lib.ListN.{length}
-use Rattle.fabric_bits.specs.ProgramParts.{Loaded}
-use Rattle.fabric_bits.proofs.LoadedLaws.{loaded}
+use Rattle.fabric_bits.proofs.LoadedLaws.{Loaded, loaded}
 use Rattle.fabric_bits.proofs.PlanBitsLaws.{gates-program-room, plan-stored, output-bits-fit}
 use Rattle.fabric_bits.proofs.programming.store_plan.Statement.{statement}
 use Rattle.fabric_bits.proofs.programming.store_plan.Tie as tie

@@ -13,11 +13,11 @@ use Rattle.blocks.specs.Elements.{stride, gateBits}
 use Rattle.elements.specs.Elements.{maxWires}
 use Rattle.fabric_sizes.specs.Layout.{header, inputsPlace, rowsPlace, rowStart, rowsIn, kindAt}
 use Rattle.fabric_table_checks.specs.TableFault.{WellFormed}
-use Rattle.fabric_table_checks.proofs.CountingLaws.{counted-first, counted-few}
+use Rattle.fabric_table_checks.proofs.CountingLaws.{counted-first, counted-few, Countable}
 use Rattle.fabric_table_checks.specs.declared.table.RowCounts.{RowCounts}
-use Rattle.fabric_table_checks.specs.Counting.{maxBits, CountsOf, Countable}
-use Rattle.fabric_run.specs.RunRows.{Runnable, RunStands}
-use Rattle.fabric_run.proofs.RunLaws.{start-room, stands-first, row-ready, stands-more, stands-last}
+use Rattle.fabric_table_checks.specs.Counting.{maxBits, CountsOf}
+use Rattle.fabric_run.specs.RunRows.{Runnable}
+use Rattle.fabric_run.proofs.RunLaws.{RunStands, start-room, stands-first, row-ready, stands-more, stands-last}
 use Rattle.fabric_run.proofs.running.run_rows.Statement.{statement}
 use Rattle.fabric_run.proofs.running.run_rows.Tie as tie
 

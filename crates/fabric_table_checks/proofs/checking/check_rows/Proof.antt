@@ -12,8 +12,8 @@ use Rattle.fault.proofs.ChecksLaws.{next-passes, first-fails, number-positive}
 use Rattle.fabric_sizes.specs.Layout.{rowsIn}
 use Rattle.elements.specs.Elements.{maxWires}
 use Rattle.fabric_table_checks.specs.TableFault.{rowFault}
-use Rattle.fabric_table_checks.specs.Counting.{CountsOf, CountedBefore, Countable}
-use Rattle.fabric_table_checks.proofs.CountingLaws.{counted-first, counted-one-more, counted-few}
+use Rattle.fabric_table_checks.specs.Counting.{CountsOf}
+use Rattle.fabric_table_checks.proofs.CountingLaws.{CountedBefore, Countable, counted-first, counted-one-more, counted-few}
 use Rattle.fabric_table_checks.proofs.CheckingLaws.{refused-table, counted-table}
 use Rattle.fabric_table_checks.proofs.checking.check_rows.Statement.{statement}
 use Rattle.fabric_table_checks.proofs.checking.check_rows.Tie as tie

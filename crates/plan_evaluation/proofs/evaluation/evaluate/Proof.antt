@@ -20,7 +20,7 @@ none c = answer-passes (c .before .before .check-evaluate .ensures) (c .enum-tol
 for-wires : tie.Need-gate-wires-requires
 for-wires c κs = evaluation-passes _ _ _ (sym (none (c .before))) .evaluable
 
-for-outputs : tie.Need-write-result-requires
+for-outputs : tie.Need-write-plan-outputs-requires
 for-outputs c κs =
     let h = evaluation-passes _ _ _ (sym (none (c .before .before .before))) in
     (named-wires _ (h .evaluable .accepted), h .room)
@@ -36,7 +36,7 @@ done c =
     let a = told .before .before .before .before .before .args in
     let old = a .result .now in
     let written =
-    c .before .before .write-result .ensures
+    c .before .before .write-plan-outputs .ensures
     ∙ ap (λ ws. over (namedBy 0 (a .plan) ws (a .plan .«output_count»)) old) (c .before .before .before .before .gate-wires .ensures)
     ∙ ap (λ new. over new old) (named-places (a .plan) _ _ (a .plan .«output_count»)) in
     (none told, written ∙ filled-done _ _ _ (none told))

@@ -1,4 +1,4 @@
--- `plan_evaluation::evaluation::write_result` meets its contract. The loop's invariant: the first i entries are the values on the wires that the first
+-- `plan_evaluation::evaluation::write_plan_outputs` meets its contract. The loop's invariant: the first i entries are the values on the wires that the first
 -- i outputs name. Assumes nothing.
 use native.Mathlib.Omega.{arith}
 use mathlib.Core.Path.{_≡_, refl, ap, _∙_}
@@ -10,8 +10,8 @@ use Rattle.fault.proofs.BuffersLaws.{listOf-over}
 use Rattle.plan.specs.Record.{wire}
 use Rattle.lists.specs.Lists.{listOf}
 use Rattle.plan_evaluation.specs.Evaluation.{valueOn, NamedWire}
-use Rattle.plan_evaluation.proofs.evaluation.write_result.Statement.{statement}
-use Rattle.plan_evaluation.proofs.evaluation.write_result.Tie as tie
+use Rattle.plan_evaluation.proofs.evaluation.write_plan_outputs.Statement.{statement}
+use Rattle.plan_evaluation.proofs.evaluation.write_plan_outputs.Tie as tie
 
 abbrev Inv-loop : tie.InvT-loop
 Inv-loop count result₀ outputs wires end i₀ result i =
@@ -53,8 +53,8 @@ all c =
     let e : c .before .loop .i ≡ start .count = omega arith in
     c .before .loop .inv .2 ∙ ap (λ n. over (listOf n (λ j. valueOn 0 (start .t3) (getD (start .t2) j (wire 0)))) (start .result .now)) e
 
-pub write-result-spec : {M : Type 1} → statement M
-write-result-spec =
+pub write-plan-outputs-spec : {M : Type 1} → statement M
+write-plan-outputs-spec =
     tie.close
     (tie.spec Inv-loop μ-loop
     holds (λ c. search needs) output-fits wire-is wire-fits (λ c. search needs)
