@@ -3,12 +3,12 @@
 use mathlib.Core.Path.{_≡_, sym, _∙_}
 use borrow.Author.Needs.{needs}
 use lib.ListN.{length}
+use Rattle.fault.proofs.BuffersLaws.{none-fails, one-fails}
 use Rattle.block_program_checks.proofs.BitsLaws.{stored-refused, stored-done}
 use Rattle.block_program_checks.specs.Checks.{programAtFault}
 use Rattle.block_program_checks.proofs.ChecksLaws.{program-passes}
 use Rattle.block_permutation_bits.proofs.programming.program_permutation_at.Statement.{statement}
 use Rattle.block_permutation_bits.proofs.programming.program_permutation_at.Tie as tie
-use Rattle.fault.proofs.BuffersLaws.{none-fails, one-fails}
 
 -- where the checks are done, none fails
 none : (c : tie.After-enum-told) → let a = c .before .before .before .before .before .args in 0 ≡ programAtFault (a .n) (a .wanted .now) (a .start) (length (a .program .now))

@@ -3,13 +3,13 @@ use mathlib.Core.Path.{_≡_, sym, ap, _∙_}
 use native.Mathlib.Omega.{arith}
 use borrow.Author.Needs.{needs}
 use Rattle.fault.proofs.ChecksLaws.{first-refuses, second-answers}
+use Rattle.fault.proofs.BuffersLaws.{none-fails, one-fails}
 use Rattle.block_sizes.proofs.SizesLaws.{size-is}
 use Rattle.block_program_checks.specs.Bits.{bitsAtFault}
 use Rattle.block_program_checks.specs.Checks.{wantedFault}
 use Rattle.block_program_checks.proofs.ChecksLaws.{wanted-faultless, few-bits}
 use Rattle.block_program_checks.proofs.permutation.check_permutation.Statement.{statement}
 use Rattle.block_program_checks.proofs.permutation.check_permutation.Tie as tie
-use Rattle.fault.proofs.BuffersLaws.{none-fails, one-fails}
 
 -- where the other checks are done, none fails
 none : (c : tie.After-enum-told) → let a = c .before .before .before .before .args in 0 ≡ wantedFault (a .n) (a .wanted .now)

@@ -3,11 +3,11 @@ use mathlib.Core.Path.{_≡_, sym}
 use native.Mathlib.Omega.{arith}
 use borrow.Author.Needs.{needs}
 use Rattle.fault.proofs.ChecksLaws.{first-refuses, second-answers}
+use Rattle.fault.proofs.BuffersLaws.{none-fails, one-fails}
 use Rattle.block_program_checks.specs.Checks.{selectedFault, sourceFault}
 use Rattle.block_program_checks.proofs.ChecksLaws.{selected-faultless}
 use Rattle.block_program_checks.proofs.permutation.check_sources.Statement.{statement}
 use Rattle.block_program_checks.proofs.permutation.check_sources.Tie as tie
-use Rattle.fault.proofs.BuffersLaws.{none-fails, one-fails}
 
 -- where the ranges are checked, none fails
 none : (c : tie.After-enum-told) → let a = c .before .before .before .before .args in 0 ≡ selectedFault (a .n) (a .wanted .now)

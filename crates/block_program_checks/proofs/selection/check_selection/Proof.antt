@@ -4,12 +4,12 @@ use native.Mathlib.Omega.{arith}
 use borrow.Author.Needs.{needs}
 use Rattle.fault.specs.Number.{answerNumber}
 use Rattle.fault.proofs.ChecksLaws.{first-refuses, second-answers}
+use Rattle.fault.proofs.BuffersLaws.{none-fails, one-fails}
 use Rattle.block_program_checks.specs.Bits.{bitsAtFault}
 use Rattle.block_program_checks.specs.Checks.{selectionWantedFault}
 use Rattle.block_program_checks.proofs.ChecksLaws.{selection-wanted-faultless, few-selection-bits}
 use Rattle.block_program_checks.proofs.selection.check_selection.Statement.{statement}
 use Rattle.block_program_checks.proofs.selection.check_selection.Tie as tie
-use Rattle.fault.proofs.BuffersLaws.{none-fails, one-fails}
 
 -- where the other checks are done, none fails
 none : (c : tie.After-enum-told) → let a = c .before .before .before .before .args in 0 ≡ selectionWantedFault (a .m) (a .n) (a .wanted .now)

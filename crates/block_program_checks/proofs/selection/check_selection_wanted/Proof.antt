@@ -5,10 +5,10 @@ use borrow.Author.Tests.{eq-eqb, ne-eqb}
 use Rattle.fault.proofs.ChecksLaws.{first-refuses, second-answers}
 use Rattle.block_sizes.specs.Sizes.{selectionSizesFault}
 use Rattle.fault.specs.Checks.{listFault}
+use Rattle.fault.proofs.BuffersLaws.{none-fails, one-fails}
 use Rattle.block_program_checks.specs.Checks.{selectionWantedFault}
 use Rattle.block_program_checks.proofs.selection.check_selection_wanted.Statement.{statement}
 use Rattle.block_program_checks.proofs.selection.check_selection_wanted.Tie as tie
-use Rattle.fault.proofs.BuffersLaws.{none-fails, one-fails}
 
 -- where the sizes are allowed
 none : (c : tie.After-enum-told) → let a = c .before .before .before .before .args in 0 ≡ selectionSizesFault (a .m) (a .n)

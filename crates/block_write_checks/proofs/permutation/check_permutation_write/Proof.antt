@@ -8,14 +8,14 @@ use borrow.Author.Needs.{needs}
 use borrow.Author.Tests.{not-true, not-false, eq-eqb, ne-eqb}
 use Rattle.fault.specs.Checks.{andThen, listFault}
 use Rattle.fault.proofs.ChecksLaws.{first-refuses, second-answers}
+use Rattle.fault.proofs.BuffersLaws.{none-fails, one-fails}
+use Rattle.block_networks.specs.Permutation.{permutationCount}
 use Rattle.block_sizes.specs.Sizes.{maxSize, maxLevel, sizeAllowed, levelOf}
 use Rattle.block_sizes.proofs.SizesLaws.{size-is, few-rows}
 use Rattle.block_write_checks.specs.Wires.{wiresFault, buffersFault}
 use Rattle.block_write_checks.specs.WriteChecks.{writeFault}
 use Rattle.block_write_checks.proofs.permutation.check_permutation_write.Statement.{statement}
 use Rattle.block_write_checks.proofs.permutation.check_permutation_write.Tie as tie
-use Rattle.block_networks.specs.Permutation.{permutationCount}
-use Rattle.fault.proofs.BuffersLaws.{none-fails, one-fails}
 
 size : tie.Need-returns
 unfolding writeFault

@@ -2,12 +2,12 @@
 use mathlib.Core.Path.{_≡_, sym}
 use borrow.Author.Needs.{needs}
 use Rattle.fault.proofs.ChecksLaws.{first-refuses, second-answers}
+use Rattle.fault.proofs.BuffersLaws.{none-fails, one-fails}
 use Rattle.block_sizes.specs.Sizes.{selectionSizesFault}
 use Rattle.block_sizes.proofs.SizesLaws.{selection-sizes-allowed}
 use Rattle.block_write_checks.specs.WriteChecks.{selectionWriteFault}
 use Rattle.block_write_checks.proofs.selection.check_selection_write.Statement.{statement}
 use Rattle.block_write_checks.proofs.selection.check_selection_write.Tie as tie
-use Rattle.fault.proofs.BuffersLaws.{none-fails, one-fails}
 
 -- where the sizes are allowed
 allowed : (c : tie.After-enum-told) → let a = c .before .before .before .before .args in 0 ≡ selectionSizesFault (a .m) (a .n)

@@ -9,11 +9,11 @@ use Rattle.fault.proofs.ChecksLaws.{first-refuses, second-answers, list-faultle
 use Rattle.block_networks.specs.Selection.{selectionCount, selectionWires}
 use Rattle.block_sizes.proofs.SizesLaws.{few-wires}
 use Rattle.fault.specs.Checks.{listFault}
+use Rattle.fault.proofs.BuffersLaws.{none-fails, one-fails}
 use Rattle.block_write_checks.specs.Wires.{wiresFault, buffersFault}
 use Rattle.block_write_checks.proofs.WriteChecksLaws.{rows-make}
 use Rattle.block_write_checks.proofs.selection.check_wires_and_room.Statement.{statement}
 use Rattle.block_write_checks.proofs.selection.check_wires_and_room.Tie as tie
-use Rattle.fault.proofs.BuffersLaws.{none-fails, one-fails}
 
 other-length : tie.Need-returns
 unfolding listFault

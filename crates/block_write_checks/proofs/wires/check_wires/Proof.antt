@@ -3,10 +3,10 @@ use mathlib.Core.Path.{_≡_}
 use borrow.Author.Needs.{needs}
 use borrow.Author.Tests.{not-true, not-false}
 use Rattle.fault.proofs.ChecksLaws.{first-refuses, second-answers}
+use Rattle.fault.proofs.BuffersLaws.{none-fails, one-fails}
 use Rattle.block_write_checks.specs.Wires.{unmadeFault, wiresFault}
 use Rattle.block_write_checks.proofs.wires.check_wires.Statement.{statement}
 use Rattle.block_write_checks.proofs.wires.check_wires.Tie as tie
-use Rattle.fault.proofs.BuffersLaws.{none-fails, one-fails}
 
 -- where the input wires are made
 made : (c : tie.After-enum-told) → let a = c .before .before .before .before .args in 0 ≡ unmadeFault (a .inputs .now) (a .next .0)
