@@ -15,12 +15,12 @@ use Rattle.block_networks.specs.Permutation.{permutationCount, partner, iterate
 use Rattle.block_networks.specs.Wanted.{takerOf}
 use Rattle.block_networks.proofs.Loops.{perm-inj, perm-lt}
 use Rattle.lists.specs.Lists.{listOf}
+use Rattle.block_bits.proofs.StoreLaws.{store-level}
 use Rattle.block_sizes.specs.Sizes.{maxSize, maxLevel}
 use Rattle.block_sizes.proofs.SizesLaws.{power-small}
 use Rattle.block_loops.specs.Mappings.{mapOf, IsPerm, inverseOf, listBits, inputSides, outputSides, halfList, inverseList, sidesOf, Levelled}
-use Rattle.block_loops.proofs.MappingsLaws.{half-size, half-listed, level-bits, length-listBits, listBits-bits, sides-bits}
 use Rattle.block_loops.specs.Levels.{LevelBuffers, BlockBuffers, HalfBuffers}
-use Rattle.block_bits.proofs.StoreLaws.{store-level}
+use Rattle.block_loops.proofs.MappingsLaws.{half-size, half-listed, level-bits, length-listBits, listBits-bits, sides-bits}
 
 -- a block that has halves
 pub record Halving (level N : ℕ) : Type 0 where

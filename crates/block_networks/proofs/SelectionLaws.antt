@@ -17,10 +17,10 @@ use Rattle.block_elements.specs.Rows.{MadeBefore, Totals}
 use Rattle.block_elements.proofs.RowsLaws.{madeBefore-append, totals-append}
 use Rattle.block_elements.proofs.YRun.{y-list, y-madeBefore}
 use Rattle.block_networks.specs.Permutation.{permutationOuts, permutationRows}
-use Rattle.block_networks.proofs.PermutationLaws.{permutation-count, length-permutationRows, permutation-totals, length-permutationOuts}
-use Rattle.block_networks.proofs.PermutationLaws.{permutation-below, permutation-madeBefore}
 use Rattle.block_networks.specs.Selection.{selectionLevel, padded, chainWire, chainRows, chainOuts, chainNext, secondNext, firstOuts, middleOuts}
 use Rattle.block_networks.specs.Selection.{wholeRows, wholeOuts, wholeCount, wholeWires, selectionRows, selectionOuts, selectionCount, selectionWires}
+use Rattle.block_networks.proofs.PermutationLaws.{permutation-count, length-permutationRows, permutation-totals, length-permutationOuts}
+use Rattle.block_networks.proofs.PermutationLaws.{permutation-below, permutation-madeBefore}
 
 -- ---- the level
 

@@ -10,20 +10,20 @@ use borrow.Author.Tests.{lt-ltb}
 use lib.ListN.{length, getD, length-append, List·getD-append}
 use lib.Seq.{drop-at}
 use Rattle.lists.proofs.ListsLaws.{length-listOf, getD-listOf, getD-any}
+use Rattle.lists.specs.Counting.{oneIf}
+use Rattle.lists.proofs.CountingLaws.{one-lt}
 use Rattle.block_elements.specs.Rows.{choose}
 use Rattle.block_elements.specs.Bits.{AreBits, pack, unpack}
 use Rattle.block_elements.proofs.BitsLaws.{bits-append, bits-listOf, unpack-pack}
 use Rattle.block_networks.specs.Permutation.{permutationCount}
 use Rattle.block_networks.proofs.Sources.{source, chainSource, chainBits, secondBits, wholeSource, selectionSource}
 use Rattle.block_networks.specs.Wanted.{mapping, takerOf, wantedBits, wantedOf}
-use Rattle.block_networks.proofs.Loops.{perm-lt}
-use Rattle.block_networks.proofs.Routing.{source-perm, source-programmed, length-permutationBits, permutationBits-bits}
-use Rattle.block_networks.proofs.Mappings.{wantedBits-of}
-use Rattle.lists.specs.Counting.{oneIf}
-use Rattle.lists.proofs.CountingLaws.{one-lt}
 use Rattle.block_networks.specs.Selection.{wholeCount, wanting, copies, isWanted, headOf, isHead, positionOf, copyOf}
 use Rattle.block_networks.specs.Selection.{firstProgram, chainProgram, secondProgram, wholeProgram}
 use Rattle.block_networks.specs.Selection.{selectionLevel, selectionCount, Selected, selectionBits}
+use Rattle.block_networks.proofs.Loops.{perm-lt}
+use Rattle.block_networks.proofs.Routing.{source-perm, source-programmed, length-permutationBits, permutationBits-bits}
+use Rattle.block_networks.proofs.Mappings.{wantedBits-of}
 use Rattle.block_networks.proofs.SelectionLaws.{selection-inputs-fit, selection-outputs-fit}
 use Rattle.block_networks.proofs.Heads.{copy-lt, own-copy, copy-early, first-perm, second-perm, position-rule, head-here, no-head}
 

@@ -10,20 +10,20 @@ use native.Mathlib.Omega.{arith}
 use borrow.Author.Tests.{lt-ltb, ltb-true}
 use lib.ListN.{getD}
 use lib.Seq.{ext-getD}
-use Rattle.block_networks.specs.Permutation.{Perm, permutationBits}
-use Rattle.block_networks.specs.SideRule.{RuleBits}
-use Rattle.block_networks.proofs.SideRuleLaws.{permutation-follows, permutation-fixed}
-use Rattle.block_networks.specs.Wanted.{mapping}
-use Rattle.block_networks.proofs.Loops.{flipped}
-use Rattle.block_networks.proofs.Mappings.{perm-ext, inverse-only}
 use Rattle.lists.specs.Counting.{oneIf}
 use Rattle.lists.proofs.CountingLaws.{passed, both-ways}
-use Rattle.block_networks.proofs.CompletionLaws.{taken-here, taken-nowhere, taken-by, completion-only}
+use Rattle.block_networks.specs.Permutation.{Perm, permutationBits}
+use Rattle.block_networks.specs.SideRule.{RuleBits}
+use Rattle.block_networks.specs.Wanted.{mapping}
 use Rattle.block_networks.specs.Selection.{selectionLevel, copies, isWanted, headOf, isHead, copyOf, chainProgram, wholeProgram, selectionBits}
+use Rattle.block_networks.specs.SelectionRule.{Head, ChainRule, SecondRule, SelectionRule, rule-selection}
+use Rattle.block_networks.proofs.SideRuleLaws.{permutation-follows, permutation-fixed}
+use Rattle.block_networks.proofs.Loops.{flipped}
+use Rattle.block_networks.proofs.Mappings.{perm-ext, inverse-only}
+use Rattle.block_networks.proofs.CompletionLaws.{taken-here, taken-nowhere, taken-by, completion-only}
 use Rattle.block_networks.proofs.SelectionLaws.{selection-outputs-fit}
 use Rattle.block_networks.proofs.Heads.{copy-early, copy-past, first-perm, second-perm, position-rule}
 use Rattle.block_networks.proofs.SelectionRouting.{length-chainProgram, chainProgram-at}
-use Rattle.block_networks.specs.SelectionRule.{Head, ChainRule, SecondRule, SelectionRule, rule-selection}
 
 -- the rule of P for maps that are equal
 fixed-bits : (level : ℕ) {π ρ π′ ρ′ : ℕ → ℕ} {bits : List ℕ} → Perm (2 ^ level) π ρ → RuleBits level π ρ bits → π ≡ π′ → ρ ≡ ρ′

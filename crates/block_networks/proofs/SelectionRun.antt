@@ -16,11 +16,11 @@ use Rattle.block_elements.specs.Bits.{pack, unpack}
 use Rattle.block_networks.specs.Permutation.{permutationCount, permutationRows}
 use Rattle.block_networks.proofs.Sources.{source, chainSource, chainBits, secondBits, wholeSource, selectionSource}
 use Rattle.block_networks.specs.Wanted.{mapping}
+use Rattle.block_networks.specs.Selection.{selectionLevel, padded, chainWire, chainRows, chainNext, secondNext, firstOuts, middleOuts}
+use Rattle.block_networks.specs.Selection.{wholeRows, wholeOuts, selectionRows, selectionOuts, selectionCount, selectionWires, Selected, selectionBits}
 use Rattle.block_networks.proofs.Loops.{perm-lt}
 use Rattle.block_networks.proofs.Routing.{source-perm}
 use Rattle.block_networks.proofs.PermutationRun.{permutation-made, permutation-left, permutation-routes}
-use Rattle.block_networks.specs.Selection.{selectionLevel, padded, chainWire, chainRows, chainNext, secondNext, firstOuts, middleOuts}
-use Rattle.block_networks.specs.Selection.{wholeRows, wholeOuts, selectionRows, selectionOuts, selectionCount, selectionWires, Selected, selectionBits}
 use Rattle.block_networks.proofs.SelectionLaws.{selection-outputs-fit, getD-padded, chain-totals, getD-chainOuts, whole-wires, selection-totals, getD-selectionOuts}
 use Rattle.block_networks.proofs.SelectionRouting.{chainSource-le, selectionSource-lt, selection-programmed, length-selectionBits, unpack-selection}
 

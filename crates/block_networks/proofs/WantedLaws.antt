@@ -18,11 +18,11 @@ use Rattle.block_elements.proofs.BitsLaws.{unpack-pack}
 use Rattle.block_elements.specs.Rows.{Row, State, on, run, flat, decode}
 use Rattle.block_elements.proofs.RowsLaws.{decode-flat}
 use Rattle.block_networks.specs.Permutation.{permutationCount, permutationOuts, permutationRows, Perm}
+use Rattle.block_networks.specs.Wanted.{Wanted, mapping, takerOf, inverse, wantedBits}
 use Rattle.block_networks.proofs.Orbits.{Found, Search, find, Clash, pigeonhole}
 use Rattle.block_networks.proofs.Routing.{length-permutationBits, permutationBits-bits}
 use Rattle.block_networks.proofs.PermutationLaws.{permutation-totals}
 use Rattle.block_networks.proofs.PermutationRun.{PermutationDelivers, permutation-delivers}
-use Rattle.block_networks.specs.Wanted.{Wanted, mapping, takerOf, inverse, wantedBits}
 
 -- ---- the inverse of an injective map of the numbers below N into themselves
 

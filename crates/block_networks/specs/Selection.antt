@@ -8,11 +8,11 @@ use mathlib.Core.List.{List, _++_}
 use lib.Dec.{eqb, ltb}
 use lib.ListN.{length, getD, take}
 use Rattle.lists.specs.Lists.{listOf}
+use Rattle.lists.specs.Counting.{oneIf, countOf}
 use Rattle.powers.specs.Powers.{ceilLog}
 use Rattle.block_elements.specs.Rows.{Row, Y}
 use Rattle.block_networks.specs.Permutation.{permutationCount, permutationOuts, permutationRows, permutationBits}
 use Rattle.block_networks.specs.Wanted.{mapping, takerOf}
-use Rattle.lists.specs.Counting.{oneIf, countOf}
 use Rattle.block_networks.specs.Completion.{isTaken, completed}
 
 -- the level of S(m, n): N = 2 ^ level is the smallest power of two not below both

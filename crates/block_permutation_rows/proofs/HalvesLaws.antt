@@ -13,6 +13,7 @@ use lib.Seq.{set-split, drop-cons, take-at, drop-at, getD-append-add, getD-take,
 use Rattle.lists.specs.Lists.{listOf}
 use Rattle.lists.proofs.ListsLaws.{length-listOf, listOf-ext}
 use Rattle.fault.specs.Buffers.{over, partOf, withPart}
+use Rattle.fault.proofs.PartsLaws.{length-over, over-part, over-again, part-lent}
 use Rattle.block_elements.specs.Rows.{X, stride, flat, rowOf}
 use Rattle.block_elements.proofs.RowsLaws.{flat-append, length-flat}
 use Rattle.block_networks.proofs.XRun.{x-list}
@@ -25,7 +26,6 @@ use Rattle.block_rows.specs.Rows.{pairRows}
 use Rattle.block_rows.specs.Wires.{wiresPut}
 use Rattle.block_rows.proofs.WiresLaws.{wires-put, wire-after}
 use Rattle.block_permutation_rows.specs.Levels.{gapRows, joinedOuts, FeedRoom, JoinRoom}
-use Rattle.fault.proofs.PartsLaws.{length-over, over-part, over-again, part-lent}
 
 -- ---- a level above 0 by the level below
 

@@ -13,6 +13,7 @@ use borrow.Rule.Slice.PartMut.{mid-len}
 use Rattle.lists.specs.Lists.{listOf}
 use Rattle.elements.specs.Elements.{maxWires}
 use Rattle.fault.specs.Buffers.{over, partOf, withPart}
+use Rattle.fault.proofs.PartsLaws.{length-over, over-part, over-again}
 use Rattle.block_elements.specs.Rows.{stride, flat}
 use Rattle.block_networks.specs.Permutation.{permutationCount, inputRows, outputRows, firsts, seconds, upperNext, lowerNext}
 use Rattle.block_networks.specs.Permutation.{permutationOuts, upperOuts, lowerOuts, permutationRows}
@@ -21,7 +22,6 @@ use Rattle.block_permutation_rows.specs.declared.level.LevelParts.{Level
 use Rattle.block_permutation_rows.specs.Levels.{gapRows, joinedOuts, LevelRoom, LevelPartsAt, InputRowsRoom, OutputRowsRoom}
 use Rattle.block_permutation_rows.proofs.HalvesLaws.{step-power, length-rows, length-upper, length-lower, upper-half-fed, lower-half-fed, after-halves}
 use Rattle.block_permutation_rows.proofs.HalvesLaws.{output-rows-are, outputs-are, inputs-taken, length-inputs, length-outputs, flat-parts}
-use Rattle.fault.proofs.PartsLaws.{length-over, over-part, over-again}
 
 -- the parts begin at bytes that fit: an entry has two
 pub record PlacesFit (p : LevelParts) : Type 0 where

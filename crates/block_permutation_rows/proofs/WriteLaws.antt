@@ -7,6 +7,7 @@ use lib.ListN.{length, take, drop}
 use lib.Pow.{pow-pos}
 use lib.Seq.{take-at}
 use Rattle.fault.specs.Buffers.{over}
+use Rattle.fault.proofs.PartsLaws.{length-over, over-again}
 use Rattle.block_elements.specs.Rows.{stride, flat, decode}
 use Rattle.block_elements.proofs.RowsLaws.{decode-flat}
 use Rattle.block_networks.specs.Permutation.{permutationCount, permutationOuts, permutationRows}
@@ -16,7 +17,6 @@ use Rattle.block_rows.proofs.WiresLaws.{wires-copied}
 use Rattle.block_write_checks.specs.WriteChecks.{WritePasses, writeFault}
 use Rattle.block_write_checks.proofs.WriteChecksLaws.{write-passes}
 use Rattle.block_permutation_rows.specs.WriteCalls.{writtenRows, writtenOutputs}
-use Rattle.fault.proofs.PartsLaws.{length-over, over-again}
 use Rattle.block_permutation_rows.specs.Levels.{LevelRoom}
 use Rattle.block_permutation_rows.proofs.HalvesLaws.{step-count, length-rows}
 

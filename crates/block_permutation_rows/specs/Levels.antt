@@ -4,11 +4,11 @@ use mathlib.Core.Path.{_≡_}
 use mathlib.Core.List.{List, [], _∷_, _++_}
 use lib.ListN.{getD}
 use Rattle.lists.specs.Lists.{listOf}
+use Rattle.elements.specs.Elements.{maxWires}
 use Rattle.block_elements.specs.Rows.{Row, X, stride}
 use Rattle.block_networks.specs.Permutation.{permutationCount, upperNext, lowerNext, outputNext}
-use Rattle.block_permutation_rows.specs.declared.level.LevelParts.{LevelParts}
 use Rattle.block_sizes.specs.Sizes.{maxSize, maxLevel}
-use Rattle.elements.specs.Elements.{maxWires}
+use Rattle.block_permutation_rows.specs.declared.level.LevelParts.{LevelParts}
 
 -- `count` X rows: row i takes the wires at the places step * i and step * i + gap
 unfoldable pub gapRows : ℕ → List ℕ → ℕ → ℕ → List Row

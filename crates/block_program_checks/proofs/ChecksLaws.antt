@@ -19,14 +19,14 @@ use Rattle.fault.proofs.ChecksLaws.{unless-zero, and-then-zero, first-of-zero, 
 use Rattle.block_elements.specs.Bits.{bytesFor, bitsHeld}
 use Rattle.block_networks.specs.Wanted.{Wanted}
 use Rattle.block_networks.specs.Selection.{selectionLevel, wholeCount, selectionCount, Selected}
+use Rattle.block_networks.specs.Permutation.{permutationCount}
 use Rattle.block_sizes.specs.Sizes.{maxSize, maxLevel, sizeAllowed, levelOf, SizeIs, SelectionSizes}
 use Rattle.block_sizes.proofs.SizesLaws.{size-is, power-allowed, few-rows, selection-sizes-allowed, selection-level-small, power-small}
 use Rattle.block_program_checks.specs.Bits.{bitsAtFault}
-use Rattle.block_program_checks.proofs.BitsLaws.{bits-faultless, bits-at-front}
 use Rattle.block_program_checks.specs.Checks.{firstSource, selectedAllowed, selectedFault, notAmong, isNew, twiceFault, sourceFault, wantedFault}
 use Rattle.block_program_checks.specs.Checks.{programFault, programAtFault, selectionWantedFault, selectionProgramFault, selectionProgramAtFault}
 use Rattle.block_program_checks.specs.Checks.{SelectionPasses}
-use Rattle.block_networks.specs.Permutation.{permutationCount}
+use Rattle.block_program_checks.proofs.BitsLaws.{bits-faultless, bits-at-front}
 
 -- ---- check 9, entry by entry
 

@@ -7,11 +7,11 @@ use lib.Dec.{leb, eqb}
 use lib.ListN.{length, getD}
 use Rattle.fault.specs.declared.Fault.{Fault}
 use Rattle.fault.specs.Checks.{unless, andThen, firstOf, listFault}
+use Rattle.block_elements.specs.Bits.{bitsHeld}
 use Rattle.block_networks.specs.Permutation.{permutationCount}
 use Rattle.block_networks.specs.Selection.{selectionCount, Selected}
 use Rattle.block_sizes.specs.Sizes.{sizeAllowed, levelOf, selectionSizesFault, SelectionSizes}
 use Rattle.block_program_checks.specs.Bits.{bitsFault, bitsAtFault}
-use Rattle.block_elements.specs.Bits.{bitsHeld}
 
 -- ---- check 9
 

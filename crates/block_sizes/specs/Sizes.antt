@@ -2,10 +2,10 @@
 use Prim.Native.Nat.{ℕ, _^_, _≤_}
 use mathlib.Core.Bool.{Bool, _&&_}
 use lib.Dec.{leb, eqb}
+use mathlib.Core.Path.{_≡_}
 use Rattle.fault.specs.declared.Fault.{Fault}
 use Rattle.fault.specs.Checks.{unless, andThen}
 use Rattle.powers.specs.Powers.{ceilLog, ceilPower}
-use mathlib.Core.Path.{_≡_}
 
 -- the largest number of positions of a block
 abbrev pub maxSize : ℕ

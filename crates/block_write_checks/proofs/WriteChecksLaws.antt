@@ -13,8 +13,8 @@ use Rattle.block_networks.specs.Selection.{selectionCount, selectionWires}
 use Rattle.block_sizes.specs.Sizes.{maxLevel, levelOf, SelectionSizes}
 use Rattle.block_sizes.proofs.SizesLaws.{size-is, power-allowed, selection-sizes-allowed}
 use Rattle.elements.specs.Elements.{maxWires}
-use Rattle.block_write_checks.proofs.WiresLaws.{wires-faultless, buffers-faultless}
 use Rattle.block_write_checks.specs.WriteChecks.{writeFault, selectionWriteFault, SelectionWritePasses, WritePasses}
+use Rattle.block_write_checks.proofs.WiresLaws.{wires-faultless, buffers-faultless}
 
 -- ---- P
 

@@ -2,17 +2,17 @@
 -- `outputs` for the output wires.
 use Prim.Native.Nat.{ℕ, _*_, _+_, _≤_}
 use mathlib.Core.List.{List}
+use mathlib.Core.Path.{_≡_}
+use lib.ListN.{length}
+use Rattle.lists.specs.Lists.{Below}
 use Rattle.fault.specs.declared.Fault.{Fault}
 use Rattle.fault.specs.Checks.{unless, andThen, listFault}
+use Rattle.elements.specs.Elements.{maxWires}
+use Rattle.block_elements.specs.Rows.{stride}
 use Rattle.block_networks.specs.Permutation.{permutationCount}
 use Rattle.block_networks.specs.Selection.{selectionCount, selectionWires}
 use Rattle.block_sizes.specs.Sizes.{sizeAllowed, levelOf, selectionSizesFault, SizeIs, SelectionSizes}
 use Rattle.block_write_checks.specs.Wires.{wiresFault, buffersFault}
-use mathlib.Core.Path.{_≡_}
-use lib.ListN.{length}
-use Rattle.lists.specs.Lists.{Below}
-use Rattle.block_elements.specs.Rows.{stride}
-use Rattle.elements.specs.Elements.{maxWires}
 
 -- the checks of writing P(N): 2, 12, 13, 11. Each row makes two wires
 unfoldable pub writeFault : ℕ → List ℕ → ℕ → ℕ → ℕ → ℕ

@@ -17,6 +17,7 @@ use Rattle.block_elements.specs.Bits.{storeBits}
 use Rattle.block_networks.specs.Permutation.{permutationCount}
 use Rattle.block_sizes.specs.Sizes.{maxSize, maxLevel}
 use Rattle.block_sizes.proofs.SizesLaws.{power-small, count-at}
+use Rattle.block_sizes.proofs.permutation_count.Reads as permutation-count-reads
 use Rattle.block_loops.specs.Mappings.{listBits}
 use Rattle.block_loops.specs.Levels.{HalfBuffers}
 use Rattle.block_loops.proofs.LevelsLaws.{Halving, halving, level-buffers, half-buffers, part-room, upper-perm, lower-perm, block-stored}
@@ -27,7 +28,6 @@ use Rattle.block_permutation_bits.proofs.block.program_half.Reads as pr
 use Rattle.block_permutation_bits.proofs.block.program_half.Kinds as program-half-kinds
 use Rattle.block_permutation_bits.proofs.block.+program_block+program_half.Lts-program_half as program-half-lts
 use Rattle.block_permutation_bits.proofs.level.program_level.Reads as program-level-reads
-use Rattle.block_sizes.proofs.permutation_count.Reads as permutation-count-reads
 use Rattle.block_permutation_bits.proofs.block.program_pair.Reads as program-pair-reads
 use Rattle.block_permutation_bits.proofs.block.+program_block+program_half.{statement}
 use Rattle.block_permutation_bits.proofs.block.+program_block+program_half.Tie.{close}

@@ -5,6 +5,7 @@ use Prim.Native.Nat.{_-_, _≤_}
 use native.Mathlib.Omega.{arith}
 use borrow.Author.Needs.{needs}
 use Rattle.block_bits.proofs.StoreLaws.{bytes-filled}
+use Rattle.block_loops.specs.Marking.{unmarked}
 use Rattle.block_loops.proofs.MarkingLaws.{filled-whole, Swept, swept-none, swept-more, swept-all, start-below, leads}
 use Rattle.block_permutation_bits.proofs.marking.mark_sides.Statement.{statement}
 use Rattle.block_permutation_bits.proofs.marking.mark_sides.Tie as tie
@@ -25,8 +26,10 @@ start c = c .before .before .before .before .before
 holds : tie.Need-loop-holds Inv-loop μ-loop
 holds c =
     let s = start (c .before .before) in
-    let filled = c .before .before .fill-bytes .ensures ∙ bytes-filled _ 2 (s .args .mark .now) (omega arith) ∙ filled-whole 2 (s .args .mark .now) (s .pre .1 .1) in
-    (omega arith, rw filled (swept-none (s .args .perm .now) (s .args .inverse .now)))
+    let clear =
+    c .before .before .fill-bytes .ensures ∙ bytes-filled _ unmarked (s .args .mark .now) (omega arith)
+    ∙ filled-whole unmarked (s .args .mark .now) (s .pre .1 .1) in
+    (omega arith, rw clear (swept-none (s .args .perm .now) (s .args .inverse .now)))
 
 for-visit : tie.Need-visit-requires Inv-loop μ-loop
 for-visit c κs =

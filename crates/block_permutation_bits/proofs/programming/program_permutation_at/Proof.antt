@@ -1,9 +1,9 @@
 -- `block_permutation_bits::programming::program_permutation_at` meets its contract: the checks decide, and where none fails the bits are stored.
 -- Assumes nothing.
-use mathlib.Core.Path.{_≡_, sym, ap, _∙_}
+use mathlib.Core.Path.{_≡_, sym, _∙_}
 use borrow.Author.Needs.{needs}
 use lib.ListN.{length}
-use Rattle.fault.specs.Number.{answerNumber}
+use Rattle.fault.proofs.BuffersLaws.{none-fails, one-fails}
 use Rattle.block_program_checks.proofs.BitsLaws.{stored-refused, stored-done}
 use Rattle.block_program_checks.specs.Checks.{programAtFault}
 use Rattle.block_program_checks.proofs.ChecksLaws.{program-passes}
@@ -12,7 +12,7 @@ use Rattle.block_permutation_bits.proofs.programming.program_permutatio
 
 -- where the checks are done, none fails
 none : (c : tie.After-enum-told) → let a = c .before .before .before .before .before .args in 0 ≡ programAtFault (a .n) (a .wanted .now) (a .start) (length (a .program .now))
-none c = ap answerNumber (sym (c .enum-told .given .1)) ∙ c .before .before .check-permutation .ensures
+none c = none-fails (c .enum-told .given .1) (c .before .before .check-permutation .ensures)
 
 for-bits : tie.Need-program-wanted-requires
 for-bits c κs = let h = program-passes (sym (none (c .before))) in ((h .size, h .wantedOnce), h .fits)
@@ -20,7 +20,7 @@ for-bits c κs = let h = program-passes (sym (none (c .before))) in ((h .size, h
 refused : tie.Need-returns
 refused c =
     let f = c .before .f .given in
-    let e = ap answerNumber (sym (f .1)) ∙ c .before .before .before .check-permutation .ensures in
+    let e = one-fails (f .1) (c .before .before .before .check-permutation .ensures) in
     (e, stored-refused (f .0 .0) _ _ _ _ e)
 
 done : tie.Need-returns-2

@@ -8,10 +8,10 @@ use native.Mathlib.Nat.{le-refl}
 use native.Mathlib.Omega.{arith}
 use borrow.Fn.Kinds.{In}
 use borrow.Fn.PlainCycle.{Measures, is, falls, and}
-use Rattle.block_permutation_rows.specs.declared.level.LevelParts.{LevelParts}
-use Rattle.block_permutation_rows.specs.Levels.{LevelRoom, OutputRowsRoom}
 use Rattle.fault.specs.Buffers.{partOf, withPart}
 use Rattle.fault.proofs.PartsLaws.{length-with}
+use Rattle.block_permutation_rows.specs.declared.level.LevelParts.{LevelParts}
+use Rattle.block_permutation_rows.specs.Levels.{LevelRoom, OutputRowsRoom}
 use Rattle.block_permutation_rows.proofs.LevelsLaws.{LevelWritten, PlacesFit, places-fit, upper-in, lower-in, outputs-in, half-in, upper-level-room, lower-level-room, output-room, level-written}
 use Rattle.block_permutation_rows.proofs.level.write_level.Reads as write-level
 use Rattle.block_permutation_rows.proofs.level.write_level.Kinds as write-level-kinds

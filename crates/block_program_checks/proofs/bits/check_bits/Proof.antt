@@ -3,10 +3,10 @@ use native.Mathlib.Omega.{arith}
 use Prim.Native.Nat.{_+_, _<_, _≤_}
 use borrow.Author.Needs.{needs}
 use borrow.Author.Tests.{le-leb, lt-leb}
+use Rattle.block_elements.specs.Bits.{bitsHeld}
 use Rattle.block_program_checks.specs.Bits.{bitsAtFault}
 use Rattle.block_program_checks.proofs.bits.check_bits.Statement.{statement}
 use Rattle.block_program_checks.proofs.bits.check_bits.Tie as tie
-use Rattle.block_elements.specs.Bits.{bitsHeld}
 
 short : tie.Need-returns
 unfolding bitsAtFault

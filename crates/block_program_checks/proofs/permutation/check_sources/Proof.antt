@@ -1,9 +1,9 @@
 -- `block_program_checks::permutation::check_sources` meets its contract: whether an input comes twice is asked where all are in range. Assumes nothing.
-use mathlib.Core.Path.{_≡_, sym, ap, _∙_}
+use mathlib.Core.Path.{_≡_, sym}
 use native.Mathlib.Omega.{arith}
 use borrow.Author.Needs.{needs}
-use Rattle.fault.specs.Number.{answerNumber}
 use Rattle.fault.proofs.ChecksLaws.{first-refuses, second-answers}
+use Rattle.fault.proofs.BuffersLaws.{none-fails, one-fails}
 use Rattle.block_program_checks.specs.Checks.{selectedFault, sourceFault}
 use Rattle.block_program_checks.proofs.ChecksLaws.{selected-faultless}
 use Rattle.block_program_checks.proofs.permutation.check_sources.Statement.{statement}
@@ -11,7 +11,7 @@ use Rattle.block_program_checks.proofs.permutation.check_sources.Tie as
 
 -- where the ranges are checked, none fails
 none : (c : tie.After-enum-told) → let a = c .before .before .before .before .args in 0 ≡ selectedFault (a .n) (a .wanted .now)
-none c = ap answerNumber (sym (c .enum-told .given .1)) ∙ c .before .before .check-selected .ensures
+none c = none-fails (c .enum-told .given .1) (c .before .before .check-selected .ensures)
 
 in-range : tie.Need-check-once-requires
 in-range c κs =
@@ -22,7 +22,7 @@ in-range c κs =
 refused : tie.Need-returns
 unfolding sourceFault
 refused c =
-    first-refuses (c .before .f .given .0 .0) _ _ (ap answerNumber (sym (c .before .f .given .1)) ∙ c .before .before .before .check-selected .ensures)
+    first-refuses (c .before .f .given .0 .0) _ _ (one-fails (c .before .f .given .1) (c .before .before .before .check-selected .ensures))
 
 once : tie.Need-returns-2
 unfolding sourceFault

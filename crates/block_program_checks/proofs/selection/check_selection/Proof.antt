@@ -4,6 +4,7 @@ use native.Mathlib.Omega.{arith}
 use borrow.Author.Needs.{needs}
 use Rattle.fault.specs.Number.{answerNumber}
 use Rattle.fault.proofs.ChecksLaws.{first-refuses, second-answers}
+use Rattle.fault.proofs.BuffersLaws.{none-fails, one-fails}
 use Rattle.block_program_checks.specs.Bits.{bitsAtFault}
 use Rattle.block_program_checks.specs.Checks.{selectionWantedFault}
 use Rattle.block_program_checks.proofs.ChecksLaws.{selection-wanted-faultless, few-selection-bits}
@@ -12,14 +13,14 @@ use Rattle.block_program_checks.proofs.selection.check_selection.Tie as
 
 -- where the other checks are done, none fails
 none : (c : tie.After-enum-told) → let a = c .before .before .before .before .args in 0 ≡ selectionWantedFault (a .m) (a .n) (a .wanted .now)
-none c = ap answerNumber (sym (c .enum-told .given .1)) ∙ c .before .before .check-selection-wanted .ensures
+none c = none-fails (c .enum-told .given .1) (c .before .before .check-selection-wanted .ensures)
 
 few : tie.Need-cast-check-bits
 few c = omega (arith, few-selection-bits (selection-wanted-faultless _ _ _ .0 (sym (none (c .before))) .0), c .selection-count .ensures)
 
 refused : tie.Need-returns
 refused c =
-    first-refuses (c .before .f .given .0 .0) _ _ (ap answerNumber (sym (c .before .f .given .1)) ∙ c .before .before .before .check-selection-wanted .ensures)
+    first-refuses (c .before .f .given .0 .0) _ _ (one-fails (c .before .f .given .1) (c .before .before .before .check-selection-wanted .ensures))
 
 room : tie.Need-returns-2
 room c =

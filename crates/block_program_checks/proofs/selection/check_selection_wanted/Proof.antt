@@ -1,18 +1,18 @@
 -- `block_program_checks::selection::check_selection_wanted` meets its contract: 2, 4, 12, 9, each asked where those before it pass. Assumes nothing.
-use mathlib.Core.Path.{_≡_, sym, ap, _∙_}
+use mathlib.Core.Path.{_≡_}
 use borrow.Author.Needs.{needs}
 use borrow.Author.Tests.{eq-eqb, ne-eqb}
-use Rattle.fault.specs.Number.{answerNumber}
 use Rattle.fault.proofs.ChecksLaws.{first-refuses, second-answers}
 use Rattle.block_sizes.specs.Sizes.{selectionSizesFault}
 use Rattle.fault.specs.Checks.{listFault}
+use Rattle.fault.proofs.BuffersLaws.{none-fails, one-fails}
 use Rattle.block_program_checks.specs.Checks.{selectionWantedFault}
 use Rattle.block_program_checks.proofs.selection.check_selection_wanted.Statement.{statement}
 use Rattle.block_program_checks.proofs.selection.check_selection_wanted.Tie as tie
 
 -- where the sizes are allowed
 none : (c : tie.After-enum-told) → let a = c .before .before .before .before .args in 0 ≡ selectionSizesFault (a .m) (a .n)
-none c = ap answerNumber (sym (c .enum-told .given .1)) ∙ c .before .before .check-selection-sizes .ensures
+none c = none-fails (c .enum-told .given .1) (c .before .before .check-selection-sizes .ensures)
 
 length-fails : tie.Need-returns
 unfolding selectionWantedFault listFault
@@ -21,7 +21,7 @@ length-fails c = second-answers _ _ _ (none (c .before)) (rw (ne-eqb _ _ (c .if1
 refused : tie.Need-returns-2
 unfolding selectionWantedFault
 refused c =
-    first-refuses (c .before .f .given .0 .0) _ _ (ap answerNumber (sym (c .before .f .given .1)) ∙ c .before .before .before .check-selection-sizes .ensures)
+    first-refuses (c .before .f .given .0 .0) _ _ (one-fails (c .before .f .given .1) (c .before .before .before .check-selection-sizes .ensures))
 
 selected : tie.Need-returns-3
 unfolding selectionWantedFault listFault

@@ -1,21 +1,21 @@
 -- `block_write_checks::permutation::check_permutation_write` meets its contract: 2, 12, 13, 11, each asked where those before it pass. Assumes nothing.
 use native.Mathlib.Omega.{arith}
-use mathlib.Core.Path.{_≡_, sym, ap, _∙_}
+use mathlib.Core.Path.{_≡_, sym, _∙_}
 use mathlib.Core.Bool.{true}
 use Prim.Native.Nat.{_*_, _≤_}
 use lib.ListN.{length}
 use borrow.Author.Needs.{needs}
 use borrow.Author.Tests.{not-true, not-false, eq-eqb, ne-eqb}
-use Rattle.fault.specs.Number.{answerNumber}
 use Rattle.fault.specs.Checks.{andThen, listFault}
 use Rattle.fault.proofs.ChecksLaws.{first-refuses, second-answers}
+use Rattle.fault.proofs.BuffersLaws.{none-fails, one-fails}
+use Rattle.block_networks.specs.Permutation.{permutationCount}
 use Rattle.block_sizes.specs.Sizes.{maxSize, maxLevel, sizeAllowed, levelOf}
 use Rattle.block_sizes.proofs.SizesLaws.{size-is, few-rows}
 use Rattle.block_write_checks.specs.Wires.{wiresFault, buffersFault}
 use Rattle.block_write_checks.specs.WriteChecks.{writeFault}
 use Rattle.block_write_checks.proofs.permutation.check_permutation_write.Statement.{statement}
 use Rattle.block_write_checks.proofs.permutation.check_permutation_write.Tie as tie
-use Rattle.block_networks.specs.Permutation.{permutationCount}
 
 size : tie.Need-returns
 unfolding writeFault
@@ -56,12 +56,12 @@ rest c =
 wires : tie.Need-returns-3
 wires c =
     let asked = c .before .before .before in
-    first-refuses (c .before .f .given .0 .0) _ _ (ap answerNumber (sym (c .before .f .given .1)) ∙ asked .check-wires .ensures) ∙ rest (asked .before)
+    first-refuses (c .before .f .given .0 .0) _ _ (one-fails (c .before .f .given .1) (asked .check-wires .ensures)) ∙ rest (asked .before)
 
 room : tie.Need-returns-4
 room c =
     let asked = c .before .before .before in
-    second-answers _ _ _ (ap answerNumber (sym (c .before .enum-told .given .1)) ∙ asked .check-wires .ensures) (c .check-room .ensures)
+    second-answers _ _ _ (none-fails (c .before .enum-told .given .1) (asked .check-wires .ensures)) (c .check-room .ensures)
     ∙ rest (asked .before)
 
 pub check-permutation-write-spec : {M : Type 1} → statement M

@@ -1,6 +1,6 @@
 -- `block_write_checks::selection::check_wires_and_room` meets its contract: 12, 13, 11, each asked where those before it pass. Assumes nothing.
 use native.Mathlib.Omega.{arith}
-use mathlib.Core.Path.{_≡_, sym, ap, _∙_}
+use mathlib.Core.Path.{_≡_, sym}
 use lib.ListN.{length}
 use borrow.Author.Needs.{needs}
 use borrow.Author.Tests.{ne-eqb}
@@ -9,6 +9,7 @@ use Rattle.fault.proofs.ChecksLaws.{first-refuses, second-answers, list-faultle
 use Rattle.block_networks.specs.Selection.{selectionCount, selectionWires}
 use Rattle.block_sizes.proofs.SizesLaws.{few-wires, rows-make}
 use Rattle.fault.specs.Checks.{listFault}
+use Rattle.fault.proofs.BuffersLaws.{none-fails, one-fails}
 use Rattle.block_write_checks.specs.Wires.{wiresFault, buffersFault}
 use Rattle.block_write_checks.proofs.selection.check_wires_and_room.Statement.{statement}
 use Rattle.block_write_checks.proofs.selection.check_wires_and_room.Tie as tie
@@ -54,14 +55,14 @@ wires : tie.Need-returns-2
 wires c =
     let asked = c .before .before .before in
     second-answers _ _ _ (listed (asked .before .before))
-    (first-refuses (c .before .f .given .0 .0) _ _ (ap answerNumber (sym (c .before .f .given .1)) ∙ made asked))
+    (first-refuses (c .before .f .given .0 .0) _ _ (one-fails (c .before .f .given .1) (made asked)))
 
 room : tie.Need-returns-3
 room c =
     let told = c .before .before in
     let asked = told .before .before in
     second-answers _ _ _ (listed (asked .before .before))
-    (second-answers _ _ _ (ap answerNumber (sym (told .enum-told .given .1)) ∙ made asked) (roomed c))
+    (second-answers _ _ _ (none-fails (told .enum-told .given .1) (made asked)) (roomed c))
 
 pub check-wires-and-room-spec : {M : Type 1} → statement M
 check-wires-and-room-spec =

@@ -1,16 +1,16 @@
 -- `block_write_checks::wires::check_wires` meets its contract: the input wires first, then the wires to be made. Assumes nothing.
-use mathlib.Core.Path.{_≡_, sym, ap, _∙_}
+use mathlib.Core.Path.{_≡_}
 use borrow.Author.Needs.{needs}
 use borrow.Author.Tests.{not-true, not-false}
-use Rattle.fault.specs.Number.{answerNumber}
 use Rattle.fault.proofs.ChecksLaws.{first-refuses, second-answers}
+use Rattle.fault.proofs.BuffersLaws.{none-fails, one-fails}
 use Rattle.block_write_checks.specs.Wires.{unmadeFault, wiresFault}
 use Rattle.block_write_checks.proofs.wires.check_wires.Statement.{statement}
 use Rattle.block_write_checks.proofs.wires.check_wires.Tie as tie
 
 -- where the input wires are made
 made : (c : tie.After-enum-told) → let a = c .before .before .before .before .args in 0 ≡ unmadeFault (a .inputs .now) (a .next .0)
-made c = ap answerNumber (sym (c .enum-told .given .1)) ∙ c .before .before .check-made .ensures
+made c = none-fails (c .enum-told .given .1) (c .before .before .check-made .ensures)
 
 past : tie.Need-returns
 unfolding wiresFault
@@ -22,7 +22,7 @@ unmade : tie.Need-returns-2
 unfolding wiresFault
 unmade c =
     first-refuses (c .before .f .given .0 .0) _ _
-    (ap answerNumber (sym (c .before .f .given .1)) ∙ c .before .before .before .check-made .ensures)
+    (one-fails (c .before .f .given .1) (c .before .before .before .check-made .ensures))
 
 fit : tie.Need-returns-3
 unfolding wiresFault
