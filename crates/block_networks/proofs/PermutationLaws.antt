@@ -14,7 +14,6 @@ use Rattle.block_networks.proofs.XRun.{IsX, is-X, x-totals, x-madeBefor
 use Rattle.block_elements.proofs.RowsLaws.{madeBefore-append}
 use Rattle.block_networks.specs.Permutation.{permutationCount, inputRows, outputRows, firsts, seconds, upperNext, lowerNext, outputNext}
 use Rattle.block_networks.specs.Permutation.{permutationOuts, upperOuts, lowerOuts, permutationRows}
-use Rattle.block_networks.proofs.XRun.{x-totals, x-madeBefore}
 
 -- ---- rows
 

@@ -1,37 +1,14 @@
 -- The checks pass exactly if the counts are allowed, or the plan is accepted, and the buffer has its stated length.
-use mathlib.Core.Path.{_≡_, sym, ap, _∙_}
-use Prim.Native.Nat.{ℕ, _<_, _≤_}
-use native.Mathlib.Omega.{arith}
-use borrow.Author.Tests.{le-leb, lt-leb, leb-true}
-use Rattle.fault.specs.declared.Fault.{Fault}
-use Rattle.fault.specs.declared.Answer.{Answer}
-use Rattle.fault.specs.Number.{faultNumber, answerNumber}
-use Rattle.fault.specs.Checks.{andThen, roomFault}
-use Rattle.fault.proofs.ChecksLaws.{unless-zero, and-then-zero, first-refuses, second-answers}
+use mathlib.Core.Path.{_≡_}
+use Prim.Native.Nat.{ℕ, _≤_}
+use borrow.Author.Tests.{le-leb, leb-true}
+use Rattle.fault.specs.Checks.{roomFault}
+use Rattle.fault.proofs.ChecksLaws.{unless-zero, and-then-zero}
 use Rattle.plan.specs.declared.record.Plan.{Plan}
 use Rattle.plan.specs.Faults.{countsFault, Accepted}
 use Rattle.plan.proofs.FaultsLaws.{counts-within}
 use Rattle.fabric_sizes.specs.Counting.{tableLength}
 use Rattle.fabric_sizes.specs.FabricChecks.{fabricFault, programLength, planProgramFault, FabricPasses}
-
--- ---- first what another call answers, then a buffer's length
-
-module _ {a : Answer} {n : ℕ} (asked : answerNumber a ≡ n) where
-  -- the call refuses
-  pub call-refuses : (f : Fault) (second : ℕ) → a ≡ Answer.Refused f → faultNumber f ≡ andThen n second
-  call-refuses f second e = first-refuses f n second (ap answerNumber (sym e) ∙ asked)
-
-  -- it does not: then nothing fails in it, and 11 is said where the buffer has fewer entries than the stated length, and only there
-  pub call-passes : a ≡ Answer.Done → 0 ≡ n
-  call-passes e = ap answerNumber (sym e) ∙ asked
-
-  pub buffer-short : {long stated room : ℕ} → a ≡ Answer.Done → long ≡ stated → room < long → faultNumber Fault.Short ≡ andThen n (roomFault stated room)
-  unfolding roomFault
-  buffer-short {long} {stated} {room} done e l = second-answers _ n _ (call-passes done) (rw (lt-leb stated room (omega arith)))
-
-  pub buffer-enough : {long stated room : ℕ} → a ≡ Answer.Done → long ≡ stated → long ≤ room → 0 ≡ andThen n (roomFault stated room)
-  unfolding roomFault
-  buffer-enough {long} {stated} {room} done e l = second-answers _ n _ (call-passes done) (rw (le-leb stated room (omega arith)))
 
 -- ---- writing the fabric
 

@@ -11,7 +11,7 @@ use Rattle.lists.proofs.ListsLaws.{length-listOf}
 use Rattle.fault.specs.declared.Fault.{Fault}
 use Rattle.fault.specs.declared.Answer.{Answer}
 use Rattle.fault.specs.Number.{faultNumber, answerNumber}
-use Rattle.fault.proofs.ChecksLaws.{number-positive}
+use Rattle.fault.proofs.ChecksLaws.{number-positive, answer-passes, answer-refuses}
 use Rattle.fault.specs.Buffers.{over, filled}
 
 -- one entry more
@@ -48,18 +48,12 @@ is-filled n new old l e z = e ∙ filled-done n new old z
 
 -- ---- calls that check, and then write. The checks answered r, where their definition gives n
 
-pub none-fails : {r : Answer} {n : ℕ} → r ≡ Answer.Done → answerNumber r ≡ n → 0 ≡ n
-none-fails told is = sym (ap answerNumber told) ∙ is
-
-pub one-fails : {r : Answer} {f : Fault} {n : ℕ} → r ≡ Answer.Refused f → answerNumber r ≡ n → faultNumber f ≡ n
-one-fails told is = sym (ap answerNumber told) ∙ is
-
 -- what the call answers, and two buffers that are lent to it: on a refusal as they were, otherwise filled
 module _ {A B : Type 0} (new₁ old₁ : List A) (new₂ old₂ : List B) {r : Answer} {n : ℕ} (is : answerNumber r ≡ n) where
   pub refuses-both : {f : Fault} → r ≡ Answer.Refused f
       → (faultNumber f ≡ n) × ((old₁ ≡ filled n new₁ old₁) × (old₂ ≡ filled n new₂ old₂))
-  refuses-both {f} told = let e = one-fails told is in (e, (filled-refused f n new₁ old₁ e, filled-refused f n new₂ old₂ e))
+  refuses-both {f} told = let e = answer-refuses told is in (e, (filled-refused f n new₁ old₁ e, filled-refused f n new₂ old₂ e))
 
   pub fills-both : {l₁ : List A} {l₂ : List B} → r ≡ Answer.Done → l₁ ≡ over new₁ old₁ → l₂ ≡ over new₂ old₂
       → (0 ≡ n) × ((l₁ ≡ filled n new₁ old₁) × (l₂ ≡ filled n new₂ old₂))
-  fills-both {l₁} {l₂} told e₁ e₂ = let z = none-fails told is in (z, (is-filled n new₁ old₁ l₁ e₁ z, is-filled n new₂ old₂ l₂ e₂ z))
+  fills-both {l₁} {l₂} told e₁ e₂ = let z = answer-passes told is in (z, (is-filled n new₁ old₁ l₁ e₁ z, is-filled n new₂ old₂ l₂ e₂ z))

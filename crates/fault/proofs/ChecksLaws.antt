@@ -70,18 +70,18 @@ fails (suc a) b h = refl
 -- ---- checks in order, as code asks them
 -- A check is met by its answer, `match check(..) { Refused(f) => Refused(f), Done => .. }`, or by a test, `if !test { return Refused(f); } ..`.
 -- What it gave is told by two facts, the contract of the call and the case that was met:
---     answer-passes e d, answer-refuses e d      the answer is Done; it is a refusal
+--     answer-passes d e, answer-refuses d e      the answer is Done; it is a refusal
 --     test-passes f e d, test-refuses f e d      the test holds; it does not, and the fault is f
 --     room-passes e d, room-refuses e d          the buffer has the stated length; it is too short
 -- A return of the function is then what each check before it gave, `then` the check that decides, under `stop` where more would follow:
 --     third c = test-passes .. then answer-passes .. then stop f _ (answer-refuses ..)
 -- A loop over checks has `next-passes` and `first-fails` below, of what the check of its turn gave.
 
-pub answer-passes : {r : Answer} {a : ℕ} → answerNumber r ≡ a → r ≡ Answer.Done → 0 ≡ a
-answer-passes e d = ap answerNumber (sym d) ∙ e
+pub answer-passes : {r : Answer} {a : ℕ} → r ≡ Answer.Done → answerNumber r ≡ a → 0 ≡ a
+answer-passes d e = ap answerNumber (sym d) ∙ e
 
-pub answer-refuses : {r : Answer} {a : ℕ} {f : Fault} → answerNumber r ≡ a → r ≡ Answer.Refused f → faultNumber f ≡ a
-answer-refuses e d = ap answerNumber (sym d) ∙ e
+pub answer-refuses : {r : Answer} {a : ℕ} {f : Fault} → r ≡ Answer.Refused f → answerNumber r ≡ a → faultNumber f ≡ a
+answer-refuses d e = ap answerNumber (sym d) ∙ e
 
 pub test-passes : {test r : Bool} (f : Fault) → r ≡ test → not r ≡ false → 0 ≡ unless test f
 test-passes {r = true} f e d = rw (← e)
@@ -107,13 +107,6 @@ z then e = rw (← z) e
 -- the first check refuses with f: it decides
 pub stop : {a : ℕ} (f : Fault) (b : ℕ) → faultNumber f ≡ a → faultNumber f ≡ andThen a b
 stop {a} f b e = e ∙ sym (fails a b (rw e at (number-positive f)))
-
--- the two with the numbers written out
-pub first-refuses : (f : Fault) (a b : ℕ) → faultNumber f ≡ a → faultNumber f ≡ andThen a b
-first-refuses f a b e = stop f b e
-
-pub second-answers : (m a b : ℕ) → 0 ≡ a → m ≡ b → m ≡ andThen a b
-second-answers m a b z e = z then e
 
 module _ (check : ℕ → ℕ) where
   -- the first n + 1 checks pass where the first n do and the next one does

@@ -5,7 +5,7 @@ use Prim.Native.Nat.{ℕ, _≤_}
 use native.Mathlib.Omega.{arith}
 use borrow.Author.Needs.{needs}
 use Rattle.fault.specs.Number.{answerNumber}
-use Rattle.fault.proofs.ChecksLaws.{first-refuses, second-answers}
+use Rattle.fault.proofs.ChecksLaws.{stop, _then_}
 use Rattle.plan_evaluation_checks.specs.EvaluationChecks.{contactFault}
 use Rattle.fabric_sizes.specs.Layout.{inputsIn, bitsIn}
 use Rattle.fabric_table_checks.specs.TableFault.{tableFault, WellFormed}
@@ -67,24 +67,24 @@ bad-table c =
     let f = c .before .f .given in
     let asked = c .before .before .before in
     let table = asked .before .before .before .before .args .table .now in
-    first-refuses (f .0 .0) _ _ (refused-by (f .0 .0) (tableFault table) table (ap checkOutcome (sym (f .1)) ∙ asked .check-table .ensures .0))
+    stop (f .0 .0) _ (refused-by (f .0 .0) (tableFault table) table (ap checkOutcome (sym (f .1)) ∙ asked .check-table .ensures .0))
 
 bad-program : tie.Need-returns-2
 unfolding runFault
 bad-program c =
     let f = c .before .f2 .given in
     let asked = c .before .before .before in
-    second-answers _ _ _ (counted (asked .before .before) .passes)
-    (first-refuses (f .0 .0) _ _ (ap answerNumber (sym (f .1)) ∙ program-asked asked))
+    _then_ (counted (asked .before .before) .passes)
+    (stop (f .0 .0) _ (ap answerNumber (sym (f .1)) ∙ program-asked asked))
 
 bad-contact : tie.Need-returns-3
 unfolding runFault
 bad-contact c =
     let f = c .before .f3 .given in
     let asked = c .before .before .before in
-    second-answers _ _ _ (counted (passed asked) .passes)
-    (second-answers _ _ _ (program-passes (asked .before .before .before))
-    (first-refuses (f .0 .0) _ _ (ap answerNumber (sym (f .1)) ∙ contact-asked asked)))
+    _then_ (counted (passed asked) .passes)
+    (_then_ (program-passes (asked .before .before .before))
+    (stop (f .0 .0) _ (ap answerNumber (sym (f .1)) ∙ contact-asked asked)))
 
 rooms : tie.Need-returns-4
 unfolding runFault
@@ -92,9 +92,9 @@ rooms c =
     let told = c .before .before .before in
     let asked = told .before .before in
     let a = start (passed asked) .args in
-    second-answers _ _ _ (counted (passed asked) .passes)
-    (second-answers _ _ _ (program-passes (asked .before .before .before))
-    (second-answers _ _ _ (ap answerNumber (sym (told .enum-told2 .given .1)) ∙ contact-asked asked)
+    _then_ (counted (passed asked) .passes)
+    (_then_ (program-passes (asked .before .before .before))
+    (_then_ (ap answerNumber (sym (told .enum-told2 .given .1)) ∙ contact-asked asked)
     (c .check-run-rooms .ensures
     ∙ ap₂ (λ w v. roomsFault w v (a .work) (a .result)) (counted (passed asked) .counted .wires) (c .before .wide2 .ensures .0))))
 

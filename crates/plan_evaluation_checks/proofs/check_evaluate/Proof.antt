@@ -15,10 +15,10 @@ abbrev plan-passed : tie.After-enum-told2 → tie.After-enum-told
 plan-passed c = c .before .before .before .before
 
 plan-passes : (c : tie.After-enum-told) → 0 ≡ planFault (start c .args .plan)
-plan-passes c = answer-passes (c .before .before .plan-fault .ensures) (c .enum-told .given .1)
+plan-passes c = answer-passes (c .enum-told .given .1) (c .before .before .plan-fault .ensures)
 
 row-passes : (c : tie.After-enum-told2) → let a = start (plan-passed c) .args in 0 ≡ contactFault (a .plan .inputs) (a .row .now)
-row-passes c = answer-passes (c .before .before .contact-fault .ensures) (c .enum-told2 .given .1)
+row-passes c = answer-passes (c .enum-told2 .given .1) (c .before .before .contact-fault .ensures)
 
 short : tie.Need-returns
 short c =
@@ -26,12 +26,12 @@ short c =
     plan-passes (plan-passed past) then row-passes past then room-refuses refl (c .if1 .taken)
 
 faulty : tie.Need-returns-2
-faulty c = stop (c .before .f .given .0 .0) _ (answer-refuses (c .before .before .before .plan-fault .ensures) (c .before .f .given .1))
+faulty c = stop (c .before .f .given .0 .0) _ (answer-refuses (c .before .f .given .1) (c .before .before .before .plan-fault .ensures))
 
 contact : tie.Need-returns-3
 contact c =
     plan-passes (c .before .before .before .before .before)
-    then stop (c .before .f2 .given .0 .0) _ (answer-refuses (c .before .before .before .contact-fault .ensures) (c .before .f2 .given .1))
+    then stop (c .before .f2 .given .0 .0) _ (answer-refuses (c .before .f2 .given .1) (c .before .before .before .contact-fault .ensures))
 
 passes : tie.Need-returns-4
 passes c =

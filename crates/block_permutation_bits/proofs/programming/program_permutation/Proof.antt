@@ -4,7 +4,8 @@ use mathlib.Core.Path.{_≡_, sym, ap, _∙_}
 use native.Mathlib.Omega.{arith}
 use borrow.Author.Needs.{needs}
 use lib.ListN.{length}
-use Rattle.fault.proofs.BuffersLaws.{none-fails, one-fails, filled-refused, is-filled}
+use Rattle.fault.proofs.ChecksLaws.{answer-passes, answer-refuses}
+use Rattle.fault.proofs.BuffersLaws.{filled-refused, is-filled}
 use Rattle.block_elements.specs.Bits.{bytesFor}
 use Rattle.block_networks.specs.Wanted.{wantedBits}
 use Rattle.block_networks.proofs.WantedLaws.{length-wantedBits}
@@ -18,7 +19,7 @@ use Rattle.block_permutation_bits.proofs.programming.program_permutatio
 -- where the checks are done, none fails
 module _ (c : tie.After-enum-told) where
   none : let a = c .before .before .before .before .before .args in 0 ≡ programAtFault (a .n) (a .wanted .now) 0 (length (a .program .now))
-  none = none-fails (c .enum-told .given .1) (c .before .before .check-permutation .ensures)
+  none = answer-passes (c .enum-told .given .1) (c .before .before .check-permutation .ensures)
 
   passes : let a = c .before .before .before .before .before .args in ProgramPasses (a .n) (a .wanted .now) 0 (length (a .program .now))
   passes = program-passes (sym none)
@@ -37,7 +38,7 @@ refused : tie.Need-returns
 refused c =
     let f = c .before .f .given in
     let a = c .before .before .before .before .before .before .args in
-    let e = one-fails (f .1) (c .before .before .before .check-permutation .ensures) ∙ fault-at (a .n) (a .wanted .now) (length (a .program .now)) in
+    let e = answer-refuses (f .1) (c .before .before .before .check-permutation .ensures) ∙ fault-at (a .n) (a .wanted .now) (length (a .program .now)) in
     (e, filled-refused (f .0 .0) _ _ _ e)
 
 done : tie.Need-returns-2

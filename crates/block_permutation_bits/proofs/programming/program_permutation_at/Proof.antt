@@ -3,7 +3,7 @@
 use mathlib.Core.Path.{_≡_, sym, _∙_}
 use borrow.Author.Needs.{needs}
 use lib.ListN.{length}
-use Rattle.fault.proofs.BuffersLaws.{none-fails, one-fails}
+use Rattle.fault.proofs.ChecksLaws.{answer-passes, answer-refuses}
 use Rattle.block_program_checks.proofs.BitsLaws.{stored-refused, stored-done}
 use Rattle.block_program_checks.specs.Checks.{programAtFault}
 use Rattle.block_program_checks.proofs.ChecksLaws.{program-passes}
@@ -12,7 +12,7 @@ use Rattle.block_permutation_bits.proofs.programming.program_permutatio
 
 -- where the checks are done, none fails
 none : (c : tie.After-enum-told) → let a = c .before .before .before .before .before .args in 0 ≡ programAtFault (a .n) (a .wanted .now) (a .start) (length (a .program .now))
-none c = none-fails (c .enum-told .given .1) (c .before .before .check-permutation .ensures)
+none c = answer-passes (c .enum-told .given .1) (c .before .before .check-permutation .ensures)
 
 for-bits : tie.Need-program-wanted-requires
 for-bits c κs = let h = program-passes (sym (none (c .before))) in ((h .size, h .wantedOnce), h .fits)
@@ -20,7 +20,7 @@ for-bits c κs = let h = program-passes (sym (none (c .before))) in ((h .size, h
 refused : tie.Need-returns
 refused c =
     let f = c .before .f .given in
-    let e = one-fails (f .1) (c .before .before .before .check-permutation .ensures) in
+    let e = answer-refuses (f .1) (c .before .before .before .check-permutation .ensures) in
     (e, stored-refused (f .0 .0) _ _ _ _ e)
 
 done : tie.Need-returns-2

@@ -1,7 +1,8 @@
 -- `block_permutation_rows::writing::write_permutation` meets its contract: the checks decide, and where none fails P is written. Assumes nothing.
 use mathlib.Core.Path.{sym}
 use borrow.Author.Needs.{needs}
-use Rattle.fault.proofs.BuffersLaws.{none-fails, refuses-both, fills-both}
+use Rattle.fault.proofs.ChecksLaws.{answer-passes}
+use Rattle.fault.proofs.BuffersLaws.{refuses-both, fills-both}
 use Rattle.block_write_checks.proofs.WriteChecksLaws.{write-passes}
 use Rattle.block_permutation_rows.proofs.writing.write_permutation.Statement.{statement}
 use Rattle.block_permutation_rows.proofs.writing.write_permutation.Tie as tie
@@ -9,7 +10,7 @@ use Rattle.block_permutation_rows.proofs.writing.write_permutation.Tie 
 passes : tie.Need-write-checked-permutation-requires
 passes c κs =
     let told = c .before .before in
-    write-passes _ _ _ _ _ (sym (none-fails (told .enum-told .given .1) (told .before .before .check-permutation-write .ensures)))
+    write-passes _ _ _ _ _ (sym (answer-passes (told .enum-told .given .1) (told .before .before .check-permutation-write .ensures)))
 
 refused : tie.Need-returns
 refused c = refuses-both _ _ _ _ (c .before .before .before .check-permutation-write .ensures) (c .before .f .given .1)

@@ -2,8 +2,7 @@
 use mathlib.Core.Path.{_≡_, sym, ap, _∙_}
 use native.Mathlib.Omega.{arith}
 use borrow.Author.Needs.{needs}
-use Rattle.fault.proofs.ChecksLaws.{first-refuses, second-answers}
-use Rattle.fault.proofs.BuffersLaws.{none-fails, one-fails}
+use Rattle.fault.proofs.ChecksLaws.{stop, _then_, answer-passes, answer-refuses}
 use Rattle.block_sizes.proofs.SizesLaws.{size-is}
 use Rattle.block_program_checks.specs.Bits.{bitsAtFault}
 use Rattle.block_program_checks.specs.Checks.{wantedFault}
@@ -13,19 +12,19 @@ use Rattle.block_program_checks.proofs.permutation.check_permutation.Ti
 
 -- where the other checks are done, none fails
 none : (c : tie.After-enum-told) → let a = c .before .before .before .before .args in 0 ≡ wantedFault (a .n) (a .wanted .now)
-none c = none-fails (c .enum-told .given .1) (c .before .before .check-permutation-wanted .ensures)
+none c = answer-passes (c .enum-told .given .1) (c .before .before .check-permutation-wanted .ensures)
 
 few : tie.Need-cast-check-bits
 few c = omega (arith, few-bits (size-is _ (wanted-faultless _ _ .0 (sym (none (c .before))) .0)), c .permutation-count .ensures)
 
 refused : tie.Need-returns
 refused c =
-    first-refuses (c .before .f .given .0 .0) _ _ (one-fails (c .before .f .given .1) (c .before .before .before .check-permutation-wanted .ensures))
+    stop (c .before .f .given .0 .0) _ (answer-refuses (c .before .f .given .1) (c .before .before .before .check-permutation-wanted .ensures))
 
 room : tie.Need-returns-2
 room c =
     let a = c .before .before .before .before .before .before .args in
-    second-answers _ _ _ (none (c .before .before))
+    _then_ (none (c .before .before))
     (c .check-bits .ensures ∙ ap (λ k. bitsAtFault k (a .start) (a .room)) (c .before .permutation-count .ensures))
 
 pub check-permutation-spec : {M : Type 1} → statement M

@@ -2,8 +2,7 @@
 use mathlib.Core.Path.{_≡_, sym}
 use native.Mathlib.Omega.{arith}
 use borrow.Author.Needs.{needs}
-use Rattle.fault.proofs.ChecksLaws.{first-refuses, second-answers}
-use Rattle.fault.proofs.BuffersLaws.{none-fails, one-fails}
+use Rattle.fault.proofs.ChecksLaws.{stop, _then_, answer-passes, answer-refuses}
 use Rattle.block_program_checks.specs.Checks.{selectedFault, sourceFault}
 use Rattle.block_program_checks.proofs.ChecksLaws.{selected-faultless}
 use Rattle.block_program_checks.proofs.permutation.check_sources.Statement.{statement}
@@ -11,7 +10,7 @@ use Rattle.block_program_checks.proofs.permutation.check_sources.Tie as
 
 -- where the ranges are checked, none fails
 none : (c : tie.After-enum-told) → let a = c .before .before .before .before .args in 0 ≡ selectedFault (a .n) (a .wanted .now)
-none c = none-fails (c .enum-told .given .1) (c .before .before .check-selected .ensures)
+none c = answer-passes (c .enum-told .given .1) (c .before .before .check-selected .ensures)
 
 in-range : tie.Need-check-once-requires
 in-range c κs =
@@ -22,11 +21,11 @@ in-range c κs =
 refused : tie.Need-returns
 unfolding sourceFault
 refused c =
-    first-refuses (c .before .f .given .0 .0) _ _ (one-fails (c .before .f .given .1) (c .before .before .before .check-selected .ensures))
+    stop (c .before .f .given .0 .0) _ (answer-refuses (c .before .f .given .1) (c .before .before .before .check-selected .ensures))
 
 once : tie.Need-returns-2
 unfolding sourceFault
-once c = second-answers _ _ _ (none (c .before)) (c .check-once .ensures)
+once c = _then_ (none (c .before)) (c .check-once .ensures)
 
 pub check-sources-spec : {M : Type 1} → statement M
 check-sources-spec = tie.close (tie.spec (λ c κs. search needs) (λ c. search needs) (λ c. search needs) in-range refused once)

@@ -4,7 +4,8 @@ use mathlib.Core.Path.{_≡_, sym, ap, _∙_}
 use native.Mathlib.Omega.{arith}
 use borrow.Author.Needs.{needs}
 use lib.ListN.{length}
-use Rattle.fault.proofs.BuffersLaws.{none-fails, one-fails, filled-refused, is-filled}
+use Rattle.fault.proofs.ChecksLaws.{answer-passes, answer-refuses}
+use Rattle.fault.proofs.BuffersLaws.{filled-refused, is-filled}
 use Rattle.block_elements.specs.Bits.{bytesFor}
 use Rattle.block_networks.specs.Selection.{selectionBits}
 use Rattle.block_networks.proofs.SelectionRouting.{length-selectionBits}
@@ -18,7 +19,7 @@ use Rattle.block_selection_bits.proofs.programming.program_selection.Ti
 module _ (c : tie.After-enum-told) where
   none : let a = c .before .before .before .before .before .args in
       0 ≡ selectionProgramAtFault (a .m) (a .n) (a .wanted .now) 0 (length (a .program .now))
-  none = none-fails (c .enum-told .given .1) (c .before .before .check-selection .ensures)
+  none = answer-passes (c .enum-told .given .1) (c .before .before .check-selection .ensures)
 
   passes : let a = c .before .before .before .before .before .args in SelectionPasses (a .m) (a .n) (a .wanted .now) 0 (length (a .program .now))
   passes = selection-program-passes (sym none)
@@ -38,7 +39,7 @@ refused c =
     let f = c .before .f .given in
     let a = c .before .before .before .before .before .before .args in
     let front = selection-fault-at (a .m) (a .n) (a .wanted .now) (length (a .program .now)) in
-    let e = one-fails (f .1) (c .before .before .before .check-selection .ensures) ∙ front in
+    let e = answer-refuses (f .1) (c .before .before .before .check-selection .ensures) ∙ front in
     (e, filled-refused (f .0 .0) _ _ _ e)
 
 done : tie.Need-returns-2

@@ -4,7 +4,7 @@ use mathlib.Core.Path.{_≡_, sym, _∙_}
 use native.Mathlib.Omega.{arith}
 use borrow.Author.Needs.{needs}
 use lib.ListN.{length}
-use Rattle.fault.proofs.BuffersLaws.{none-fails, one-fails}
+use Rattle.fault.proofs.ChecksLaws.{answer-passes, answer-refuses}
 use Rattle.block_networks.specs.Selection.{selectionBits}
 use Rattle.block_bits.proofs.StoreLaws.{store-from-byte}
 use Rattle.block_program_checks.proofs.BitsLaws.{stored-refused, stored-done}
@@ -18,7 +18,7 @@ use Rattle.block_selection_bits.proofs.programming.program_selection_at
 module _ (c : tie.After-enum-told) where
   none : let a = c .before .before .before .before .before .args in
       0 ≡ selectionProgramAtFault (a .m) (a .n) (a .wanted .now) (a .start) (length (a .program .now))
-  none = none-fails (c .enum-told .given .1) (c .before .before .check-selection .ensures)
+  none = answer-passes (c .enum-told .given .1) (c .before .before .check-selection .ensures)
 
   passes : let a = c .before .before .before .before .before .args in
       SelectionPasses (a .m) (a .n) (a .wanted .now) (a .start) (length (a .program .now))
@@ -39,7 +39,7 @@ for-bits c κs =
 refused : tie.Need-returns
 refused c =
     let f = c .before .f .given in
-    let e = one-fails (f .1) (c .before .before .before .check-selection .ensures) in
+    let e = answer-refuses (f .1) (c .before .before .before .check-selection .ensures) in
     (e, stored-refused (f .0 .0) _ _ _ _ e)
 
 done : tie.Need-returns-2

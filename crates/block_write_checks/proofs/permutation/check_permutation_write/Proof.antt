@@ -7,8 +7,7 @@ use lib.ListN.{length}
 use borrow.Author.Needs.{needs}
 use borrow.Author.Tests.{not-true, not-false, eq-eqb, ne-eqb}
 use Rattle.fault.specs.Checks.{andThen, listFault}
-use Rattle.fault.proofs.ChecksLaws.{first-refuses, second-answers}
-use Rattle.fault.proofs.BuffersLaws.{none-fails, one-fails}
+use Rattle.fault.proofs.ChecksLaws.{stop, _then_, answer-passes, answer-refuses}
 use Rattle.block_networks.specs.Permutation.{permutationCount}
 use Rattle.block_sizes.specs.Sizes.{maxSize, maxLevel, sizeAllowed, levelOf}
 use Rattle.block_sizes.proofs.SizesLaws.{size-is, few-rows}
@@ -56,12 +55,12 @@ rest c =
 wires : tie.Need-returns-3
 wires c =
     let asked = c .before .before .before in
-    first-refuses (c .before .f .given .0 .0) _ _ (one-fails (c .before .f .given .1) (asked .check-wires .ensures)) ∙ rest (asked .before)
+    stop (c .before .f .given .0 .0) _ (answer-refuses (c .before .f .given .1) (asked .check-wires .ensures)) ∙ rest (asked .before)
 
 room : tie.Need-returns-4
 room c =
     let asked = c .before .before .before in
-    second-answers _ _ _ (none-fails (c .before .enum-told .given .1) (asked .check-wires .ensures)) (c .check-room .ensures)
+    _then_ (answer-passes (c .before .enum-told .given .1) (asked .check-wires .ensures)) (c .check-room .ensures)
     ∙ rest (asked .before)
 
 pub check-permutation-write-spec : {M : Type 1} → statement M

@@ -1,8 +1,7 @@
 -- `block_write_checks::selection::check_selection_write` meets its contract: 2 and 4 first, then the others. Assumes nothing.
 use mathlib.Core.Path.{_≡_, sym}
 use borrow.Author.Needs.{needs}
-use Rattle.fault.proofs.ChecksLaws.{first-refuses, second-answers}
-use Rattle.fault.proofs.BuffersLaws.{none-fails, one-fails}
+use Rattle.fault.proofs.ChecksLaws.{stop, _then_, answer-passes, answer-refuses}
 use Rattle.block_sizes.specs.Sizes.{selectionSizesFault}
 use Rattle.block_sizes.proofs.SizesLaws.{selection-sizes-allowed}
 use Rattle.block_write_checks.specs.WriteChecks.{selectionWriteFault}
@@ -11,7 +10,7 @@ use Rattle.block_write_checks.proofs.selection.check_selection_write.Ti
 
 -- where the sizes are allowed
 allowed : (c : tie.After-enum-told) → let a = c .before .before .before .before .args in 0 ≡ selectionSizesFault (a .m) (a .n)
-allowed c = none-fails (c .enum-told .given .1) (c .before .before .check-selection-sizes .ensures)
+allowed c = answer-passes (c .enum-told .given .1) (c .before .before .check-selection-sizes .ensures)
 
 sides : tie.Need-check-wires-and-room-requires
 sides c κs = selection-sizes-allowed _ _ .0 (sym (allowed c))
@@ -19,12 +18,12 @@ sides c κs = selection-sizes-allowed _ _ .0 (sym (allowed c))
 refused : tie.Need-returns
 unfolding selectionWriteFault
 refused c =
-    first-refuses (c .before .f .given .0 .0) _ _
-    (one-fails (c .before .f .given .1) (c .before .before .before .check-selection-sizes .ensures))
+    stop (c .before .f .given .0 .0) _
+    (answer-refuses (c .before .f .given .1) (c .before .before .before .check-selection-sizes .ensures))
 
 asked : tie.Need-returns-2
 unfolding selectionWriteFault
-asked c = second-answers _ _ _ (allowed (c .before)) (c .check-wires-and-room .ensures)
+asked c = _then_ (allowed (c .before)) (c .check-wires-and-room .ensures)
 
 pub check-selection-write-spec : {M : Type 1} → statement M
 check-selection-write-spec =

@@ -5,11 +5,10 @@ use lib.ListN.{length}
 use borrow.Author.Needs.{needs}
 use borrow.Author.Tests.{ne-eqb}
 use Rattle.fault.specs.Number.{answerNumber}
-use Rattle.fault.proofs.ChecksLaws.{first-refuses, second-answers, list-faultless}
+use Rattle.fault.proofs.ChecksLaws.{stop, _then_, list-faultless, answer-passes, answer-refuses}
 use Rattle.block_networks.specs.Selection.{selectionCount, selectionWires}
 use Rattle.block_sizes.proofs.SizesLaws.{few-wires, rows-make}
 use Rattle.fault.specs.Checks.{listFault}
-use Rattle.fault.proofs.BuffersLaws.{none-fails, one-fails}
 use Rattle.block_write_checks.specs.Wires.{wiresFault, buffersFault}
 use Rattle.block_write_checks.proofs.selection.check_wires_and_room.Statement.{statement}
 use Rattle.block_write_checks.proofs.selection.check_wires_and_room.Tie as tie
@@ -54,15 +53,15 @@ roomed c = rw (← c .before .selection-count .ensures) (c .check-room .ensures)
 wires : tie.Need-returns-2
 wires c =
     let asked = c .before .before .before in
-    second-answers _ _ _ (listed (asked .before .before))
-    (first-refuses (c .before .f .given .0 .0) _ _ (one-fails (c .before .f .given .1) (made asked)))
+    _then_ (listed (asked .before .before))
+    (stop (c .before .f .given .0 .0) _ (answer-refuses (c .before .f .given .1) (made asked)))
 
 room : tie.Need-returns-3
 room c =
     let told = c .before .before in
     let asked = told .before .before in
-    second-answers _ _ _ (listed (asked .before .before))
-    (second-answers _ _ _ (none-fails (told .enum-told .given .1) (made asked)) (roomed c))
+    _then_ (listed (asked .before .before))
+    (_then_ (answer-passes (told .enum-told .given .1) (made asked)) (roomed c))
 
 pub check-wires-and-room-spec : {M : Type 1} → statement M
 check-wires-and-room-spec =

@@ -2,7 +2,7 @@
 use mathlib.Core.Path.{_≡_, sym, ap, _∙_}
 use borrow.Author.Needs.{needs}
 use Rattle.fault.specs.Number.{answerNumber}
-use Rattle.fault.proofs.ChecksLaws.{first-refuses, second-answers}
+use Rattle.fault.proofs.ChecksLaws.{stop, _then_}
 use Rattle.plan.specs.Faults.{planFault}
 use Rattle.plan_evaluation_checks.specs.EvaluationChecks.{contactFault}
 use Rattle.equivalence.specs.BothCalls.{bothFault}
@@ -26,20 +26,20 @@ contacted c = ap answerNumber (sym (c .enum-told2 .given .1)) ∙ c .before .bef
 
 faulty : tie.Need-returns
 unfolding bothFault
-faulty c = first-refuses (c .before .f .given .0 .0) _ _ (ap answerNumber (sym (c .before .f .given .1)) ∙ c .before .before .before .plan-fault .ensures)
+faulty c = stop (c .before .f .given .0 .0) _ (ap answerNumber (sym (c .before .f .given .1)) ∙ c .before .before .before .plan-fault .ensures)
 
 no-contact : tie.Need-returns-2
 unfolding bothFault
 no-contact c =
     let asked = c .before .before .before in
-    second-answers _ _ _ (planned (asked .before .before))
-    (first-refuses (c .before .f2 .given .0 .0) _ _ (ap answerNumber (sym (c .before .f2 .given .1)) ∙ asked .contact-fault .ensures))
+    _then_ (planned (asked .before .before))
+    (stop (c .before .f2 .given .0 .0) _ (ap answerNumber (sym (c .before .f2 .given .1)) ∙ asked .contact-fault .ensures))
 
 rooms : tie.Need-returns-3
 unfolding bothFault
 rooms c =
     let told = c .before in
-    second-answers _ _ _ (planned (faultless told)) (second-answers _ _ _ (contacted told) (c .check-both-rooms .ensures))
+    _then_ (planned (faultless told)) (_then_ (contacted told) (c .check-both-rooms .ensures))
 
 pub check-both-spec : {M : Type 1} → statement M
 check-both-spec =

@@ -6,7 +6,7 @@ use borrow.Author.Needs.{needs}
 use borrow.Author.Tests.{le-leb, lt-leb}
 use Rattle.fault.specs.Number.{answerNumber}
 use Rattle.fault.specs.Checks.{firstOf}
-use Rattle.fault.proofs.ChecksLaws.{first-refuses, second-answers}
+use Rattle.fault.proofs.ChecksLaws.{stop, _then_}
 use Rattle.fabric_sizes.specs.Layout.{outputsIn, wiresIn}
 use Rattle.elements.specs.Elements.{maxWires}
 use Rattle.fabric_table_checks.specs.TableFault.{outputWireFault}
@@ -23,11 +23,11 @@ many c =
     let told = c .before in
     let s = told .before .before .before .before in
     let l : maxWires < wiresIn (s .args .table .now) = omega (arith, s .pre .1) in
-    second-answers _ _ _ (made told) (rw (lt-leb (wiresIn (s .args .table .now)) maxWires l))
+    _then_ (made told) (rw (lt-leb (wiresIn (s .args .table .now)) maxWires l))
 
 unmade : tie.Need-returns-2
 unmade c =
-    first-refuses (c .before .f .given .0 .0) _ _
+    stop (c .before .f .given .0 .0) _
     (ap answerNumber (sym (c .before .f .given .1)) ∙ c .before .before .before .check-outputs .ensures)
 
 within : tie.Need-returns-3
@@ -35,7 +35,7 @@ within c =
     let told = c .before in
     let s = told .before .before .before .before in
     let l : wiresIn (s .args .table .now) ≤ maxWires = omega (arith, s .pre .1) in
-    second-answers _ _ _ (made told) (rw (le-leb (wiresIn (s .args .table .now)) maxWires l))
+    _then_ (made told) (rw (le-leb (wiresIn (s .args .table .now)) maxWires l))
 
 pub check-end-spec : {M : Type 1} → statement M
 check-end-spec = tie.close (tie.spec (λ c κs. search needs) (λ c. search needs) (λ c. search needs) many unmade within)

@@ -7,7 +7,7 @@ use native.Mathlib.Omega.{arith}
 use borrow.Author.Needs.{needs}
 use Rattle.fault.specs.Number.{answerNumber}
 use Rattle.fault.specs.Checks.{firstOf}
-use Rattle.fault.proofs.ChecksLaws.{first-refuses, second-answers}
+use Rattle.fault.proofs.ChecksLaws.{stop, _then_}
 use Rattle.fabric_sizes.specs.Layout.{rowsIn}
 use Rattle.fabric_table_checks.specs.TableFault.{headerFault, rowFault, tableFault}
 use Rattle.fabric_table_checks.proofs.TableFaultLaws.{header-faultless}
@@ -48,7 +48,7 @@ bad-header c =
     let asked = c .before .before .before in
     let table = asked .before .before .args .table .now in (
       refused-table (f .0 .0) (tableFault table) table
-          (first-refuses (f .0 .0) _ _ (ap answerNumber (sym (f .1)) ∙ asked .check-header .ensures)),
+          (stop (f .0 .0) _ (ap answerNumber (sym (f .1)) ∙ asked .check-header .ensures)),
       omega arith,
     )
 
@@ -60,7 +60,7 @@ bad-row c =
     let table = asked .before .before .before .before .before .args .table .now in
     let e = refused-by (f .0 .0) (firstOf (rowFault table) (rowsIn table)) table (ap checkOutcome (sym (f .1)) ∙ asked .check-rows .ensures .0) in (
       refused-table (f .0 .0) (tableFault table) table
-          (second-answers _ _ _ (header-passes (asked .before)) (first-refuses (f .0 .0) _ _ e)),
+          (_then_ (header-passes (asked .before)) (stop (f .0 .0) _ e)),
       omega arith,
     )
 
@@ -71,8 +71,8 @@ bad-end c =
     let asked = c .before .before .before in
     let rows = asked .before .before in (
       refused-table (f .0 .0) (tableFault (tableOf rows)) (tableOf rows)
-          (second-answers _ _ _ (header-passes (rows .before .before .before))
-          (second-answers _ _ _ (rows-pass rows .passes) (ap answerNumber (sym (f .1)) ∙ asked .check-end .ensures))),
+          (_then_ (header-passes (rows .before .before .before))
+          (_then_ (rows-pass rows .passes) (ap answerNumber (sym (f .1)) ∙ asked .check-end .ensures))),
       omega arith,
     )
 
@@ -83,8 +83,8 @@ well-formed c =
     let rows = asked .before .before in
     let counts = rows .c .given in (
       counted-table (tableFault (tableOf rows)) (tableOf rows) (counts .0 .0)
-          (second-answers _ _ _ (header-passes (rows .before .before .before))
-          (second-answers _ _ _ (rows-pass rows .passes) (ap answerNumber (sym (c .enum-told2 .given .1)) ∙ asked .check-end .ensures)))
+          (_then_ (header-passes (rows .before .before .before))
+          (_then_ (rows-pass rows .passes) (ap answerNumber (sym (c .enum-told2 .given .1)) ∙ asked .check-end .ensures)))
           (rows-pass rows .counted),
       subst (λ r. checkOutcome r .bits ≤ maxBits) (counts .1) (rows .before .before .check-rows .ensures .1),
     )

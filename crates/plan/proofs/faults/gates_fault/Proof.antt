@@ -41,14 +41,14 @@ found : tie.Need-returns Inv-loop μ-loop
 found c =
     let met = c .before .before .before in
     let loop = met .before .before .before .before .loop in
-    first-fails _ _ (loop .i) _ (omega arith) (loop .inv .1) (answer-refuses (gate-i met) (c .before .f .given .1))
+    first-fails _ _ (loop .i) _ (omega arith) (loop .inv .1) (answer-refuses (c .before .f .given .1) (gate-i met))
     (number-positive (c .before .f .given .0 .0))
 
 again : tie.Need-loop-again Inv-loop μ-loop
 again c =
     let met = c .before .before in
     let loop = met .before .before .before .before .loop in
-    (omega arith, rw (add-one (loop .i)) (next-passes _ (loop .i) (loop .inv .1) (sym (answer-passes (gate-i met) (c .enum-told .given .1)))))
+    (omega arith, rw (add-one (loop .i)) (next-passes _ (loop .i) (loop .inv .1) (sym (answer-passes (c .enum-told .given .1) (gate-i met)))))
 
 none : tie.Need-returns-2 Inv-loop μ-loop
 none c =

@@ -15,26 +15,26 @@ the-plan c = c .before .before .before .before .before .before .args .plan
 -- where the counts pass
 module _ (c : tie.After-enum-told) where
   counts-pass : let p = the-plan c in 0 ≡ countsFault (p .inputs) (p .«gate_count») (p .«output_count»)
-  counts-pass = answer-passes (c .before .before .counts-fault .ensures) (c .enum-told .given .1)
+  counts-pass = answer-passes (c .enum-told .given .1) (c .before .before .counts-fault .ensures)
 
   within : let p = the-plan c in CountsWithin (p .inputs) (p .«gate_count») (p .«output_count»)
   within = counts-within _ _ _ (sym counts-pass)
 
 gates-pass : (c : tie.After-enum-told2) → let p = the-plan (c .before .before .before) in 0 ≡ gatesFault p (p .«gate_count»)
-gates-pass c = answer-passes (c .before .before .gates-fault .ensures) (c .enum-told2 .given .1)
+gates-pass c = answer-passes (c .enum-told2 .given .1) (c .before .before .gates-fault .ensures)
 
 for-outputs : tie.Need-outputs-fault-requires
 for-outputs c κs = within (c .before .before .before .before) .outputs
 
 counts : tie.Need-returns
 unfolding planFault
-counts c = stop (c .before .f .given .0 .0) _ (answer-refuses (c .before .before .before .counts-fault .ensures) (c .before .f .given .1))
+counts c = stop (c .before .f .given .0 .0) _ (answer-refuses (c .before .f .given .1) (c .before .before .before .counts-fault .ensures))
 
 gates : tie.Need-returns-2
 unfolding planFault
 gates c =
     counts-pass (c .before .before .before .before)
-    then stop (c .before .f2 .given .0 .0) _ (answer-refuses (c .before .before .before .gates-fault .ensures) (c .before .f2 .given .1))
+    then stop (c .before .f2 .given .0 .0) _ (answer-refuses (c .before .f2 .given .1) (c .before .before .before .gates-fault .ensures))
 
 outputs : tie.Need-returns-3
 unfolding planFault

@@ -15,7 +15,7 @@ use Rattle.plan_evaluation.proofs.evaluation.evaluate.Tie as tie
 -- where the checks are done, none fails
 none : (c : tie.After-enum-told)
     → let a = c .before .before .before .before .before .args in 0 ≡ evaluateFault (a .plan) (a .row .now) (length (a .result .now))
-none c = answer-passes (c .before .before .check-evaluate .ensures) (c .enum-told .given .1)
+none c = answer-passes (c .enum-told .given .1) (c .before .before .check-evaluate .ensures)
 
 for-wires : tie.Need-gate-wires-requires
 for-wires c κs = evaluation-passes _ _ _ (sym (none (c .before))) .evaluable
@@ -27,7 +27,7 @@ for-outputs c κs =
 
 refused : tie.Need-returns
 refused c =
-    let e = answer-refuses (c .before .before .before .check-evaluate .ensures) (c .before .f .given .1) in
+    let e = answer-refuses (c .before .f .given .1) (c .before .before .before .check-evaluate .ensures) in
     (e, filled-refused (c .before .f .given .0 .0) _ _ _ e)
 
 done : tie.Need-returns-2
