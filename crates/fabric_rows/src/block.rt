@@ -11,9 +11,9 @@ ghost use Rattle.fabric_universal.specs.Fabric.{gateLevel};
 ghost use Rattle.fabric_rows.specs.Block.{middleRows, middlePins, MiddleRoom, UniversalWires, UniversalWriteRoom, UniversalPartsAt};
 use blocks::row_place;
 use elements::FabricWire;
-use fabric_parts::write_selection_on;
 use fabric_parts::write_gate;
 use fabric_parts::write_mix;
+use fabric_parts::write_selection_on;
 use fabric_sizes::pin_counts;
 use fabric_sizes::universal_counts;
 

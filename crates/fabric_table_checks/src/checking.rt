@@ -8,8 +8,8 @@ ghost use Rattle.fabric_table_checks.specs.TableFault.{kindAllowed, head
 ghost use Rattle.fabric_table_checks.specs.Counting.{maxBits};
 ghost use Rattle.fabric_table_checks.specs.Checking.{checkOutcome, countedOr, tableOutcome, RowToCheck, endFault};
 use crate::table::counts_of;
-use crate::table::row_start;
 use crate::table::expected_length;
+use crate::table::row_start;
 use crate::table::wire_of;
 use blocks::wide;
 use elements::KIND_G;
