@@ -9,13 +9,13 @@ use lib.Pow.{pow-pos}
 use lib.Seq.{take-at, drop-at, take-all}
 use borrow.Rule.Slice.PartMut.{midOf, mid-len}
 use Rattle.lists.proofs.ListsLaws.{length-listOf}
+use Rattle.lists.specs.Lists.{listOf}
 use Rattle.block_elements.specs.Bits.{AreBits, setBit, storeBits}
 use Rattle.block_elements.proofs.BitsLaws.{AreBytes, bits-listOf}
+use Rattle.block_bits.proofs.StoreLaws.{store-level}
 use Rattle.block_networks.specs.Permutation.{permutationCount, partner, iterate, walk, key, least, lowest, side, permutationBits}
 use Rattle.block_networks.specs.Wanted.{takerOf}
 use Rattle.block_networks.proofs.Loops.{perm-inj, perm-lt}
-use Rattle.lists.specs.Lists.{listOf}
-use Rattle.block_bits.proofs.StoreLaws.{store-level}
 use Rattle.block_sizes.specs.Sizes.{maxSize, maxLevel}
 use Rattle.block_sizes.proofs.SizesLaws.{power-small}
 use Rattle.block_loops.specs.Mappings.{mapOf, IsPerm, inverseOf, listBits, inputSides, outputSides, halfList, inverseList, sidesOf, Levelled}

@@ -10,9 +10,9 @@ use lib.ListN.{length, getD, set, length-set}
 use lib.Seq.{ext-getD, getD-set-same, getD-set-other}
 use Rattle.lists.specs.Lists.{listOf}
 use Rattle.lists.proofs.ListsLaws.{length-listOf, getD-listOf, getD-listOf-all, listOf-ext}
-use Rattle.block_networks.specs.Permutation.{Perm, side, pick, inHalf, permutationCount, permutationBits}
 use Rattle.block_elements.specs.Bits.{AreBits, storeBits}
 use Rattle.block_elements.proofs.BitsLaws.{bits-listOf}
+use Rattle.block_networks.specs.Permutation.{Perm, side, pick, inHalf, permutationCount, permutationBits}
 use Rattle.block_networks.proofs.Loops.{flipped, perm-inj, perm-lt}
 use Rattle.block_networks.proofs.Halves.{half-perm, side-lt, output-sides}
 use Rattle.block_networks.proofs.Routing.{length-permutationBits, permutationBits-bits}

@@ -4,8 +4,8 @@ use mathlib.Core.Path.{_≡_}
 use mathlib.Core.List.{List, _++_}
 use lib.ListN.{length, getD}
 use Rattle.lists.specs.Lists.{listOf}
-use Rattle.block_networks.specs.Permutation.{Perm, walk, side, permutationBits}
 use Rattle.block_elements.specs.Bits.{storeBits}
+use Rattle.block_networks.specs.Permutation.{Perm, walk, side, permutationBits}
 use Rattle.block_networks.specs.Wanted.{takerOf}
 
 -- the input that output o takes; past the list nothing moves

@@ -9,14 +9,14 @@ use native.Mathlib.Decide.{ℕ-discrete}
 use native.Mathlib.Omega.{arith}
 use borrow.Author.Tests.{eq-eqb, ne-eqb, lt-ltb, le-ltb}
 use lib.Dec.{eqb, ltb}
-use Rattle.block_networks.specs.Permutation.{Perm}
-use Rattle.block_networks.specs.Wanted.{takerOf}
-use Rattle.block_networks.proofs.Loops.{flipped, perm-lt}
-use Rattle.block_networks.proofs.WantedLaws.{taker-perm}
 use Rattle.lists.specs.Counting.{oneIf, countOf}
 use Rattle.lists.proofs.CountingLaws.{passed, both-ways, not-fails, or-le, one-lt, count-none, count-rest, count-before, count-later}
 use Rattle.lists.proofs.CountingLaws.{NthOf, nth-at, count-cover, count-single}
+use Rattle.block_networks.specs.Permutation.{Perm}
+use Rattle.block_networks.specs.Wanted.{takerOf}
 use Rattle.block_networks.specs.Completion.{isTaken, isIdle, isFree, completed, Left, FilledBy, RisingCompletion}
+use Rattle.block_networks.proofs.Loops.{flipped, perm-lt}
+use Rattle.block_networks.proofs.WantedLaws.{taker-perm}
 
 -- no two of the numbers below N have the same place, and the places are below N
 pub record PartialInjection (N : ℕ) (has : ℕ → Bool) (f : ℕ → ℕ) : Type 0 where

@@ -7,15 +7,15 @@ use native.Mathlib.Decide.{ℕ-discrete, decLt}
 use native.Mathlib.Omega.{arith}
 use borrow.Author.Tests.{eq-eqb, lt-ltb, le-ltb, ltb-true}
 use lib.Dec.{eqb, ltb}
-use Rattle.block_networks.specs.Permutation.{Perm}
-use Rattle.block_networks.specs.Wanted.{takerOf}
-use Rattle.block_networks.proofs.Loops.{flipped}
-use Rattle.block_networks.proofs.WantedLaws.{taker-perm}
 use Rattle.lists.specs.Counting.{countOf}
 use Rattle.lists.proofs.CountingLaws.{count-le, count-none, count-before, count-sum, one-more}
-use Rattle.block_networks.proofs.CompletionLaws.{PartialInjection, taken-here, taken-nowhere, completed-perm, completed-rule}
+use Rattle.block_networks.specs.Permutation.{Perm}
+use Rattle.block_networks.specs.Wanted.{takerOf}
 use Rattle.block_networks.specs.Completion.{RisingCompletion}
 use Rattle.block_networks.specs.Selection.{wanting, copies, isWanted, headOf, isHead, positionOf, copyOf}
+use Rattle.block_networks.proofs.Loops.{flipped}
+use Rattle.block_networks.proofs.WantedLaws.{taker-perm}
+use Rattle.block_networks.proofs.CompletionLaws.{PartialInjection, taken-here, taken-nowhere, completed-perm, completed-rule}
 
 module _ (want : ℕ → ℕ) (n : ℕ) where
   -- ---- heads

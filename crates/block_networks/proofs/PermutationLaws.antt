@@ -10,10 +10,10 @@ use lib.Pow.{pow-pos}
 use Rattle.lists.specs.Lists.{listOf, Below, Every, every-none}
 use Rattle.lists.proofs.ListsLaws.{length-listOf, below-listOf, below-append, below-pair, below-more, every-append, every-listOf}
 use Rattle.block_elements.specs.Rows.{Row, X, MadeBefore, made-none, Totals}
-use Rattle.block_networks.proofs.XRun.{IsX, is-X, x-totals, x-madeBefore}
 use Rattle.block_elements.proofs.RowsLaws.{madeBefore-append}
 use Rattle.block_networks.specs.Permutation.{permutationCount, inputRows, outputRows, firsts, seconds, upperNext, lowerNext, outputNext}
 use Rattle.block_networks.specs.Permutation.{permutationOuts, upperOuts, lowerOuts, permutationRows}
+use Rattle.block_networks.proofs.XRun.{IsX, is-X, x-totals, x-madeBefore}
 
 -- ---- rows
 

@@ -16,11 +16,11 @@ use Rattle.block_elements.specs.Rows.{choose}
 use Rattle.block_elements.specs.Bits.{AreBits, pack, unpack}
 use Rattle.block_elements.proofs.BitsLaws.{bits-append, bits-listOf, unpack-pack}
 use Rattle.block_networks.specs.Permutation.{permutationCount}
-use Rattle.block_networks.proofs.Sources.{source, chainSource, chainBits, secondBits, wholeSource, selectionSource}
 use Rattle.block_networks.specs.Wanted.{mapping, takerOf, wantedBits, wantedOf}
 use Rattle.block_networks.specs.Selection.{wholeCount, wanting, copies, isWanted, headOf, isHead, positionOf, copyOf}
 use Rattle.block_networks.specs.Selection.{firstProgram, chainProgram, secondProgram, wholeProgram}
 use Rattle.block_networks.specs.Selection.{selectionLevel, selectionCount, Selected, selectionBits}
+use Rattle.block_networks.proofs.Sources.{source, chainSource, chainBits, secondBits, wholeSource, selectionSource}
 use Rattle.block_networks.proofs.Loops.{perm-lt}
 use Rattle.block_networks.proofs.Routing.{source-perm, source-programmed, length-permutationBits, permutationBits-bits}
 use Rattle.block_networks.proofs.Mappings.{wantedBits-of}

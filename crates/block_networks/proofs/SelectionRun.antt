@@ -14,10 +14,10 @@ use Rattle.block_elements.proofs.RowsLaws.{decode-flat, run-append, run-keeps, 
 use Rattle.block_elements.proofs.YRun.{runY-at}
 use Rattle.block_elements.specs.Bits.{pack, unpack}
 use Rattle.block_networks.specs.Permutation.{permutationCount, permutationRows}
-use Rattle.block_networks.proofs.Sources.{source, chainSource, chainBits, secondBits, wholeSource, selectionSource}
 use Rattle.block_networks.specs.Wanted.{mapping}
 use Rattle.block_networks.specs.Selection.{selectionLevel, padded, chainWire, chainRows, chainNext, secondNext, firstOuts, middleOuts}
 use Rattle.block_networks.specs.Selection.{wholeRows, wholeOuts, selectionRows, selectionOuts, selectionCount, selectionWires, Selected, selectionBits}
+use Rattle.block_networks.proofs.Sources.{source, chainSource, chainBits, secondBits, wholeSource, selectionSource}
 use Rattle.block_networks.proofs.Loops.{perm-lt}
 use Rattle.block_networks.proofs.Routing.{source-perm}
 use Rattle.block_networks.proofs.PermutationRun.{permutation-made, permutation-left, permutation-routes}

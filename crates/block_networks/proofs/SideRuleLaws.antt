@@ -9,13 +9,13 @@ use native.Mathlib.Decide.{decLt}
 use native.Mathlib.Omega.{arith}
 use Rattle.lists.proofs.ListsLaws.{listOf-ext}
 use Rattle.block_networks.specs.Permutation.{Perm, partner, iterate, walk, key, lowest, side, pick, inHalf, permutationBits}
+use Rattle.block_networks.specs.SideRule.{Pair, inputPair, outputPair, Joined, Loop, start, to-input, to-output, Lowest, SideRule}
+use Rattle.block_networks.specs.SideRule.{RuleBits, rule-wire, rule-level}
 use Rattle.block_networks.proofs.Orbits.{Reach, reach-trans, reach-one}
 use Rattle.block_networks.proofs.Loops.{partner-partner, partner-half, partner-even, partner-lt, parity, same-pair, flipped, perm-inj, perm-lt}
 use Rattle.block_networks.proofs.Loops.{KeyAt, in-last, elsewhere, key-at, key-other, walk-lt, walk-sym, lowest-at, lowest-low}
 use Rattle.block_networks.proofs.Loops.{side-partner, side-at, side-straight, side-last}
 use Rattle.block_networks.proofs.Halves.{even-place, odd-place, input-sides, half-perm}
-use Rattle.block_networks.specs.SideRule.{Pair, inputPair, outputPair, Joined, Loop, start, to-input, to-output, Lowest, SideRule}
-use Rattle.block_networks.specs.SideRule.{RuleBits, rule-wire, rule-level}
 
 -- ---- loops are classes of pairs
 

@@ -6,8 +6,8 @@ use mathlib.Core.Bool.{cond}
 use mathlib.Core.List.{List}
 use lib.Dec.{eqb}
 use lib.ListN.{length, getD}
-use Rattle.block_networks.specs.Permutation.{permutationBits}
 use Rattle.lists.specs.Lists.{listOf}
+use Rattle.block_networks.specs.Permutation.{permutationBits}
 
 -- the list names each of the inputs 1 to N once
 pub record Wanted (N : ℕ) (wanted : List ℕ) : Type 0 where

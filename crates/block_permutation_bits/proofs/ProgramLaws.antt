@@ -11,9 +11,9 @@ use Rattle.block_elements.specs.Bits.{storeBits}
 use Rattle.block_networks.specs.Wanted.{Wanted, mapping, wantedBits}
 use Rattle.block_networks.proofs.WantedLaws.{wanted-perm}
 use Rattle.block_sizes.specs.Sizes.{levelOf}
-use Rattle.block_program_checks.proofs.BitsLaws.{stored-done}
 use Rattle.block_loops.specs.Mappings.{IsPerm, listBits}
 use Rattle.block_loops.proofs.MappingsLaws.{perm-listed, bits-listed}
+use Rattle.block_program_checks.proofs.BitsLaws.{stored-done}
 use Rattle.block_program_checks.specs.Checks.{programAtFault}
 use Rattle.block_program_checks.proofs.ChecksLaws.{program-passes}
 use Rattle.block_permutation_bits.specs.ProgramCalls.{programAtResult}

@@ -14,14 +14,14 @@ use Rattle.lists.specs.Lists.{listOf}
 use Rattle.lists.proofs.ListsLaws.{length-listOf, listOf-ext}
 use Rattle.fault.specs.Buffers.{over, partOf, withPart}
 use Rattle.fault.proofs.PartsLaws.{length-over, over-part, over-again, part-lent}
+use Rattle.elements.specs.declared.Kind.{Kind}
+use Rattle.elements.specs.Elements.{maxWires}
 use Rattle.block_elements.specs.Rows.{X, stride, flat, rowOf}
 use Rattle.block_elements.proofs.RowsLaws.{flat-append, length-flat}
 use Rattle.block_networks.proofs.XRun.{x-list}
 use Rattle.block_networks.specs.Permutation.{permutationCount, inputRows, outputRows, firsts, seconds, upperNext, lowerNext, outputNext}
 use Rattle.block_networks.specs.Permutation.{permutationOuts, upperOuts, lowerOuts, permutationRows}
 use Rattle.block_networks.proofs.PermutationLaws.{length-permutationRows, length-permutationOuts, permutation-totals, length-firsts, length-seconds}
-use Rattle.elements.specs.declared.Kind.{Kind}
-use Rattle.elements.specs.Elements.{maxWires}
 use Rattle.block_rows.specs.Rows.{pairRows}
 use Rattle.block_rows.specs.Wires.{wiresPut}
 use Rattle.block_rows.proofs.WiresLaws.{wires-put, wire-after}

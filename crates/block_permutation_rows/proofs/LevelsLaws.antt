@@ -11,9 +11,9 @@ use mir.Val.{Fits}
 use mir.Facts.{fits-below}
 use borrow.Rule.Slice.PartMut.{mid-len}
 use Rattle.lists.specs.Lists.{listOf}
-use Rattle.elements.specs.Elements.{maxWires}
 use Rattle.fault.specs.Buffers.{over, partOf, withPart}
 use Rattle.fault.proofs.PartsLaws.{length-over, over-part, over-again}
+use Rattle.elements.specs.Elements.{maxWires}
 use Rattle.block_elements.specs.Rows.{stride, flat}
 use Rattle.block_networks.specs.Permutation.{permutationCount, inputRows, outputRows, firsts, seconds, upperNext, lowerNext}
 use Rattle.block_networks.specs.Permutation.{permutationOuts, upperOuts, lowerOuts, permutationRows}

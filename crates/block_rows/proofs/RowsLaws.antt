@@ -11,11 +11,11 @@ use Rattle.lists.specs.Lists.{listOf}
 use Rattle.lists.proofs.ListsLaws.{length-listOf, every-listOf}
 use Rattle.fault.specs.Buffers.{over, partOf, withPart}
 use Rattle.fault.proofs.PartsLaws.{over-part}
-use Rattle.block_elements.specs.Rows.{Row, stride, inputsOf, entries, flat, rowOf, InFamily}
-use Rattle.block_elements.proofs.RowsLaws.{flat-append, length-flat}
 use Rattle.elements.specs.declared.Kind.{Kind}
 use Rattle.elements.specs.declared.Kind.the-variants.{X, Y, G}
 use Rattle.elements.specs.Elements.{maxWires, kindNumber}
+use Rattle.block_elements.specs.Rows.{Row, stride, inputsOf, entries, flat, rowOf, InFamily}
+use Rattle.block_elements.proofs.RowsLaws.{flat-append, length-flat}
 use Rattle.block_rows.specs.Rows.{rowPut, pairRows, rowsPut}
 
 -- the entries of a row of a kind

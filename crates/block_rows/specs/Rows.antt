@@ -6,9 +6,9 @@ use lib.Dec.{leb}
 use lib.ListN.{length, getD}
 use Rattle.lists.specs.Lists.{listOf}
 use Rattle.fault.specs.Buffers.{over}
-use Rattle.block_elements.specs.Rows.{Row, stride, flat, rowOf}
 use Rattle.elements.specs.declared.Kind.{Kind}
 use Rattle.elements.specs.Elements.{maxWires, kindNumber}
+use Rattle.block_elements.specs.Rows.{Row, stride, flat, rowOf}
 
 -- a table with one row in front, if there is room for it
 unfoldable pub rowPut : ℕ → ℕ → ℕ → List ℕ → List ℕ

@@ -7,8 +7,8 @@ use native.Mathlib.Decide.{ℕ-discrete}
 use native.Mathlib.Omega.{arith}
 use lib.ListN.{length, getD, set, length-set}
 use lib.Seq.{getD-set-same, getD-set-other}
-use Rattle.block_networks.specs.Wanted.{mapping}
 use Rattle.lists.specs.Counting.{countOf}
+use Rattle.block_networks.specs.Wanted.{mapping}
 use Rattle.block_networks.specs.Selection.{wanting, headOf, copyOf}
 use Rattle.block_networks.proofs.SelectionRouting.{selected-lt}
 use Rattle.block_networks.proofs.Heads.{copy-early, copy-below}

@@ -12,6 +12,8 @@ use lib.Dec.{ltb}
 use lib.ListN.{length, getD, take, length-append}
 use Rattle.lists.specs.Lists.{listOf}
 use Rattle.lists.proofs.ListsLaws.{length-listOf, getD-listOf, listOf-ext}
+use Rattle.lists.specs.Counting.{oneIf}
+use Rattle.lists.proofs.CountingLaws.{passed}
 use Rattle.fault.specs.Buffers.{over}
 use Rattle.powers.specs.Powers.{ceilLog}
 use Rattle.powers.proofs.PowersLaws.{ceilLog-power}
@@ -22,8 +24,6 @@ use Rattle.block_networks.specs.Wanted.{mapping, takerOf, wantedBits, wantedOf}
 use Rattle.block_networks.proofs.WantedLaws.{length-wantedBits}
 use Rattle.block_networks.proofs.Loops.{perm-lt}
 use Rattle.block_networks.proofs.Mappings.{wantedOf-names}
-use Rattle.lists.specs.Counting.{oneIf}
-use Rattle.lists.proofs.CountingLaws.{passed}
 use Rattle.block_networks.specs.Completion.{completed, RisingCompletion}
 use Rattle.block_networks.proofs.CompletionLaws.{taken-here, taken-nowhere}
 use Rattle.block_networks.specs.Selection.{copies, isWanted, headOf, isHead, positionOf, chainProgram, wholeCount, selectionLevel, selectionCount, selectionBits}
@@ -32,9 +32,9 @@ use Rattle.block_networks.proofs.SelectionRouting.{selected-lt, selection-by-li
 use Rattle.block_networks.proofs.Heads.{head-le, first-perm, position-rule}
 use Rattle.block_sizes.specs.Sizes.{maxSize, levelOf, SizeIs}
 use Rattle.block_sizes.proofs.SizesLaws.{size-is, power-allowed, selection-level-small}
-use Rattle.block_permutation_bits.specs.ProgramCalls.{programAtResult}
 use Rattle.block_program_checks.proofs.ChecksLaws.{program-at-succeeds}
 use Rattle.block_program_checks.specs.Checks.{SelectionPasses}
+use Rattle.block_permutation_bits.specs.ProgramCalls.{programAtResult}
 use Rattle.block_permutation_bits.proofs.ProgramLaws.{program-stored}
 use Rattle.block_selection_bits.specs.Arrays.{Demand, PlacesHold, isCounted, headBy, HeadsFit, positionBy, Positioned, NetworkRoom, PositionsFound}
 use Rattle.block_selection_bits.specs.Arrays.{networkBits, chainBitBy, chainBitsBy, firstBits, firstCount, secondNetworkBits}

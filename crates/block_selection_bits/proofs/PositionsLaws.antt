@@ -14,10 +14,10 @@ use lib.Dec.{eqb}
 use lib.ListN.{length, getD, set}
 use lib.Seq.{set-getD}
 use Rattle.lists.specs.Lists.{listOf}
+use Rattle.lists.proofs.CountingLaws.{passed, both-ways}
 use Rattle.fault.specs.Buffers.{over}
 use Rattle.fault.proofs.BuffersLaws.{listOf-over}
 use Rattle.block_networks.specs.Wanted.{takerOf}
-use Rattle.lists.proofs.CountingLaws.{passed, both-ways}
 use Rattle.block_networks.specs.Completion.{FilledBy}
 use Rattle.block_sizes.specs.Sizes.{maxSize}
 use Rattle.block_selection_bits.specs.Arrays.{PlacesHold, Blank, isCounted, headBy, HeadsFit, headInput, positionBy, Positioned, IdleFrom, NextIdle, PlacedNext}

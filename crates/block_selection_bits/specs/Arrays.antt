@@ -8,13 +8,13 @@ use mathlib.Core.List.{List, _++_}
 use lib.Dec.{eqb, ltb}
 use lib.ListN.{length, getD, set, take}
 use Rattle.lists.specs.Lists.{listOf}
+use Rattle.lists.specs.Counting.{oneIf}
+use Rattle.block_elements.specs.Bits.{bitsHeld}
 use Rattle.block_networks.specs.Permutation.{permutationCount, Perm}
 use Rattle.block_networks.specs.Wanted.{Wanted, mapping, takerOf, wantedBits, wantedOf}
-use Rattle.lists.specs.Counting.{oneIf}
 use Rattle.block_networks.specs.Completion.{completed, RisingCompletion}
 use Rattle.block_networks.specs.Selection.{Selected, wanting, copies, headOf, positionOf, copyOf}
 use Rattle.block_sizes.specs.Sizes.{maxSize, levelOf, SizeIs}
-use Rattle.block_elements.specs.Bits.{bitsHeld}
 
 -- the wanted inputs of a block of N positions
 pub record Demand (N : ℕ) (wanted : List ℕ) : Type 0 where

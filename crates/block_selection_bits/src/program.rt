@@ -3,10 +3,10 @@
 ghost use mathlib.Core.Path.{_≡_};
 ghost use Prim.Native.Nat.{_+_, _-_, _^_, _<_, _≤_};
 ghost use lib.ListN.{length};
+ghost use Rattle.lists.specs.Counting.{oneIf};
 ghost use Rattle.block_elements.specs.Bits.{bitsHeld, storeBits};
 ghost use Rattle.block_networks.specs.Permutation.{permutationCount};
 ghost use Rattle.block_networks.specs.Wanted.{Wanted};
-ghost use Rattle.lists.specs.Counting.{oneIf};
 ghost use Rattle.block_networks.specs.Selection.{selectionBits};
 ghost use Rattle.block_sizes.specs.Sizes.{maxSize, levelOf, SizeIs};
 ghost use Rattle.block_program_checks.specs.Checks.{SelectionPasses};

@@ -13,6 +13,7 @@ use mir.Facts.{fits-below}
 use borrow.Rule.Slice.PartMut.{mid-len}
 use Rattle.fault.specs.Buffers.{over, filled, partOf, withPart}
 use Rattle.fault.proofs.PartsLaws.{length-over, over-part, over-again}
+use Rattle.elements.specs.Elements.{maxWires}
 use Rattle.block_elements.specs.Rows.{stride, flat}
 use Rattle.block_elements.proofs.RowsLaws.{flat-append}
 use Rattle.block_networks.specs.Permutation.{permutationCount, permutationRows, permutationOuts}
@@ -20,7 +21,6 @@ use Rattle.block_networks.specs.Selection.{padded, chainRows, chainOuts, chainN
 use Rattle.block_networks.proofs.SelectionLaws.{WholeWires, whole-wires, length-padded, getD-padded, length-wholeOuts}
 use Rattle.block_sizes.specs.Sizes.{maxSize, maxLevel, levelOf}
 use Rattle.block_sizes.proofs.SizesLaws.{few-rows}
-use Rattle.elements.specs.Elements.{maxWires}
 use Rattle.block_rows.proofs.WiresLaws.{wire-after}
 use Rattle.block_write_checks.specs.WriteChecks.{WritePasses}
 use Rattle.block_permutation_rows.proofs.WriteLaws.{length-entries, length-outs}

@@ -12,11 +12,11 @@ use Rattle.lists.specs.Lists.{listOf}
 use Rattle.lists.proofs.ListsLaws.{length-listOf, getD-listOf, listOf-ext}
 use Rattle.fault.specs.Buffers.{over, partOf, withPart}
 use Rattle.fault.proofs.PartsLaws.{over-part}
+use Rattle.elements.specs.declared.Kind.{Kind}
 use Rattle.block_elements.specs.Rows.{stride, flat, Y, rowOf}
 use Rattle.block_elements.proofs.RowsLaws.{length-flat}
 use Rattle.block_networks.specs.Selection.{chainWire, chainRows, chainOuts}
 use Rattle.block_networks.proofs.SelectionLaws.{length-chainRows, chain-totals, length-chainOuts, getD-chainOuts}
-use Rattle.elements.specs.declared.Kind.{Kind}
 use Rattle.block_rows.specs.Wires.{wiresPut}
 use Rattle.block_rows.proofs.WiresLaws.{Progression, wires-put}
 use Rattle.block_rows.specs.Rows.{pairRows, rowsPut}

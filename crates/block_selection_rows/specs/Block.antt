@@ -4,11 +4,11 @@ use mathlib.Core.Path.{_≡_}
 use mathlib.Core.List.{List}
 use lib.ListN.{length}
 use Rattle.lists.specs.Lists.{Below}
+use Rattle.elements.specs.Elements.{maxWires}
 use Rattle.block_elements.specs.Rows.{stride}
 use Rattle.block_networks.specs.Permutation.{permutationCount}
 use Rattle.block_networks.specs.Selection.{chainNext, secondNext, wholeCount, wholeWires}
 use Rattle.block_sizes.specs.Sizes.{levelOf, SizeIs}
-use Rattle.elements.specs.Elements.{maxWires}
 use Rattle.block_selection_rows.specs.declared.block.SelectionParts.{SelectionParts}
 
 -- ---- the block of N positions

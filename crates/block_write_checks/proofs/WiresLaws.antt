@@ -11,8 +11,8 @@ use lib.ListN.{getD}
 use Rattle.lists.specs.Lists.{Below}
 use Rattle.fault.specs.Checks.{roomFault}
 use Rattle.fault.proofs.ChecksLaws.{unless-zero, and-then-zero, first-of-zero}
-use Rattle.block_elements.specs.Rows.{stride}
 use Rattle.elements.specs.Elements.{maxWires}
+use Rattle.block_elements.specs.Rows.{stride}
 use Rattle.block_write_checks.specs.Wires.{unmadeFault, wiresFit, wiresFault, buffersFault}
 
 wires-fit : (made next : ℕ) → wiresFit made next ≡ true → 1 ≤ made → next + made ≤ maxWires

@@ -6,13 +6,13 @@ use native.Mathlib.Omega.{arith}
 use lib.ListN.{length}
 use Rattle.lists.specs.Lists.{Below}
 use Rattle.fault.proofs.ChecksLaws.{unless-zero, and-then-zero, list-faultless}
+use Rattle.elements.specs.Elements.{maxWires}
 use Rattle.powers.proofs.PowersLaws.{ceilLog-power}
 use Rattle.block_elements.specs.Rows.{stride}
 use Rattle.block_networks.specs.Permutation.{permutationCount}
 use Rattle.block_networks.specs.Selection.{selectionCount, selectionWires}
 use Rattle.block_sizes.specs.Sizes.{maxLevel, levelOf, SelectionSizes}
 use Rattle.block_sizes.proofs.SizesLaws.{size-is, power-allowed, selection-sizes-allowed}
-use Rattle.elements.specs.Elements.{maxWires}
 use Rattle.block_write_checks.specs.WriteChecks.{writeFault, selectionWriteFault, SelectionWritePasses, WritePasses}
 use Rattle.block_write_checks.proofs.WiresLaws.{wires-faultless, buffers-faultless}
 

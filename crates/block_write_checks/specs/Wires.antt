@@ -6,8 +6,8 @@ use lib.Dec.{leb, ltb, eqb}
 use lib.ListN.{length, getD}
 use Rattle.fault.specs.declared.Fault.{Fault}
 use Rattle.fault.specs.Checks.{unless, andThen, firstOf, roomFault}
-use Rattle.block_elements.specs.Rows.{stride}
 use Rattle.elements.specs.Elements.{maxWires}
+use Rattle.block_elements.specs.Rows.{stride}
 
 -- 13: an input wire is unmade
 unfoldable pub unmadeFault : List ℕ → ℕ → ℕ

@@ -19,16 +19,16 @@ use Rattle.block_networks.proofs.SelectionLaws.{length-selectionRows, selection
 use Rattle.block_networks.proofs.SelectionRouting.{length-selectionBits, selectionBits-bits, unpack-selection}
 use Rattle.block_networks.proofs.SelectionRun.{selection-delivers}
 use Rattle.block_sizes.specs.Sizes.{levelOf, SizeIs}
+use Rattle.block_program_checks.specs.Checks.{programFault, programAtFault}
+use Rattle.block_program_checks.proofs.ChecksLaws.{fault-at, program-passes, selection-fault-at, selection-program-passes}
+use Rattle.block_permutation_bits.specs.ProgramCalls.{programResult, programAtResult}
 use Rattle.block_write_checks.specs.WriteChecks.{writeFault, selectionWriteFault}
 use Rattle.block_write_checks.proofs.WriteChecksLaws.{write-passes, selection-write-passes, some-wire}
 use Rattle.block_permutation_rows.specs.WriteCalls.{writtenRows, writtenOutputs}
 use Rattle.block_permutation_rows.proofs.WriteLaws.{written-read}
+use Rattle.block_selection_bits.proofs.SelectionProgramLaws.{selection-programmed-read, selection-programmed-at}
 use Rattle.block_selection_rows.specs.WriteCalls.{selectionWrittenRows, selectionWrittenOutputs}
 use Rattle.block_selection_rows.proofs.SelectionWriteLaws.{selection-written-read}
-use Rattle.block_program_checks.specs.Checks.{programFault, programAtFault}
-use Rattle.block_program_checks.proofs.ChecksLaws.{fault-at, program-passes, selection-fault-at, selection-program-passes}
-use Rattle.block_permutation_bits.specs.ProgramCalls.{programResult, programAtResult}
-use Rattle.block_selection_bits.proofs.SelectionProgramLaws.{selection-programmed-read, selection-programmed-at}
 use Rattle.blocks.specs.Promises.{Block, BlockShape, BlockDelivers, permutationBlock, selectionBlock, CallsDeliver, PermutationPromise, SelectionPromise}
 
 -- ---- P and S, for all sizes

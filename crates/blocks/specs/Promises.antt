@@ -12,12 +12,12 @@ use Rattle.block_networks.specs.Permutation.{permutationCount, permutationRows,
 use Rattle.block_networks.specs.Wanted.{mapping, wantedBits}
 use Rattle.block_networks.specs.Selection.{selectionRows, selectionOuts, selectionWires, selectionCount, selectionBits}
 use Rattle.block_sizes.specs.Sizes.{levelOf}
-use Rattle.block_write_checks.specs.WriteChecks.{writeFault, selectionWriteFault}
-use Rattle.block_permutation_rows.specs.WriteCalls.{writtenRows, writtenOutputs}
-use Rattle.block_selection_rows.specs.WriteCalls.{selectionWrittenRows, selectionWrittenOutputs}
 use Rattle.block_program_checks.specs.Checks.{programFault, programAtFault, selectionProgramFault, selectionProgramAtFault}
 use Rattle.block_permutation_bits.specs.ProgramCalls.{programResult, programAtResult}
+use Rattle.block_write_checks.specs.WriteChecks.{writeFault, selectionWriteFault}
+use Rattle.block_permutation_rows.specs.WriteCalls.{writtenRows, writtenOutputs}
 use Rattle.block_selection_bits.specs.ProgramCalls.{selectionProgramResult, selectionProgramAtResult}
+use Rattle.block_selection_rows.specs.WriteCalls.{selectionWrittenRows, selectionWrittenOutputs}
 
 pub record Block (m n : ℕ) : Type 0 where
   pub rows : List ℕ → ℕ → List Row

@@ -1,7 +1,7 @@
 -- The exports' structs in document 01's numbers and values.
 use Rattle.elements.specs.Elements.{CountOutcome}
-use Rattle.capi.specs.declared.Counted.{Counted}
 use Rattle.plan_reading.specs.PlanFile.{ReadOutcome}
+use Rattle.capi.specs.declared.Counted.{Counted}
 use Rattle.capi.specs.declared.Read.{Read}
 
 abbrev pub exportOutcome : Read → ReadOutcome

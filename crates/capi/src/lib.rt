@@ -3,12 +3,12 @@
 ghost use mathlib.Core.Path.{_≡_};
 ghost use lib.ListN.{length};
 ghost use Rattle.elements.specs.Elements.{countOutcome};
+ghost use Rattle.blocks.specs.Calls.{writeFault, selectionWriteFault, writtenRows, writtenOutputs, selectionWrittenRows, selectionWrittenOutputs};
+ghost use Rattle.blocks.specs.Calls.{permutationCounting, selectionCounting, programFault, selectionProgramFault, programResult, selectionProgramResult};
 ghost use Rattle.plan.specs.Faults.{planFault};
 ghost use Rattle.plan_evaluation_checks.specs.EvaluationChecks.{evaluateFault};
 ghost use Rattle.plan_evaluation.specs.Evaluation.{evaluateResult};
 ghost use Rattle.plan_reading.specs.PlanFile.{planRead};
-ghost use Rattle.blocks.specs.Calls.{writeFault, selectionWriteFault, writtenRows, writtenOutputs, selectionWrittenRows, selectionWrittenOutputs};
-ghost use Rattle.blocks.specs.Calls.{permutationCounting, selectionCounting, programFault, selectionProgramFault, programResult, selectionProgramResult};
 ghost use Rattle.fabric.specs.Fabrics.{counting, fabricResult, fabricFault, planProgramFault, planProgramResult, runFault, runWork, runResult};
 ghost use Rattle.capi.specs.Exports.{exportOutcome, countsOf};
 use elements::CountAnswer;

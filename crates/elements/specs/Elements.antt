@@ -7,7 +7,7 @@ use Rattle.elements.specs.declared.Kind.the-variants.{X, Y, G}
 use Rattle.elements.specs.declared.Counts.{Counts}
 use Rattle.elements.specs.declared.CountAnswer.{CountAnswer}
 
--- a fabric has at most so many wires: 0 to 65,535
+-- the most wires of a fabric: 0 to 65,535
 abbrev pub maxWires : ℕ
 maxWires = 65536
 

@@ -15,8 +15,8 @@ use Rattle.fault.proofs.ChecksLaws.{unless-zero, and-then-zero, number-positive
 use Rattle.plan.specs.declared.record.Plan.{Plan}
 use Rattle.plan.specs.Faults.{Accepted}
 use Rattle.plan_evaluation_checks.specs.EvaluationChecks.{contactFault}
-use Rattle.plan_evaluation.specs.Evaluation.{gateBit, planOutputs, evaluateResult}
 use Rattle.plan_evaluation_checks.proofs.EvaluationChecksLaws.{row-length, row-bit}
+use Rattle.plan_evaluation.specs.Evaluation.{gateBit, planOutputs, evaluateResult}
 use Rattle.fabric.specs.Fabrics.{planProgram, planTable, runWires, runOutputs, fabricResult, programLength, planProgramResult, runFault, runWork, runResult}
 use Rattle.fabric.proofs.FabricTableLaws.{fabric-promise}
 use Rattle.fabric.proofs.FabricsLaws.{fabric-written-read, plan-programmed-read}

@@ -14,8 +14,8 @@ use Rattle.plan_evaluation.specs.Evaluation.{gateBit, planOutputs, evaluateResu
 use Rattle.fabric.specs.Fabrics.{planProgram, planTable, runOutputs, tableLength, fabricResult, fabricFault, planProgramFault, runFault, runResult}
 use Rattle.fabric.proofs.FabricTableLaws.{fabric-promise}
 use Rattle.fabric.proofs.FabricsLaws.{fabric-written-read, fabric-succeeds, plan-program-succeeds, plan-programmed-read}
-use Rattle.equivalence.specs.ThirdDemand.{ContactRow, Rooms, planTableLength, entriesWritten, bytesWritten, ThirdDemand}
 use Rattle.fabric.specs.Promise.{FabricPromise}
+use Rattle.equivalence.specs.ThirdDemand.{ContactRow, Rooms, planTableLength, entriesWritten, bytesWritten, ThirdDemand}
 
 -- such a row passes check 12
 pub contacts : {u : ℕ} {row : List ℕ} → ContactRow u row → contactFault u row ≡ 0

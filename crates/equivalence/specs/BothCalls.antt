@@ -2,6 +2,7 @@
 -- outputs stand in `evaluated`, the fabric's in `ran`.
 use Prim.Native.Nat.{ℕ}
 use mathlib.Core.List.{List}
+use mathlib.Core.Path.{_≡_}
 use Rattle.fault.specs.Checks.{andThen, roomFault}
 use Rattle.fault.specs.Buffers.{filled}
 use Rattle.plan.specs.declared.record.Plan.{Plan}
@@ -9,7 +10,6 @@ use Rattle.plan.specs.Faults.{planFault, Accepted}
 use Rattle.plan_evaluation_checks.specs.EvaluationChecks.{contactFault}
 use Rattle.plan_evaluation.specs.Evaluation.{gateBit, planOutputs}
 use Rattle.fabric.specs.Fabrics.{planProgram, planTable, runWires, runOutputs, programLength}
-use mathlib.Core.Path.{_≡_}
 use Rattle.equivalence.specs.declared.both.Lengths.{Lengths}
 use Rattle.equivalence.specs.ThirdDemand.{Rooms, planTableLength, planFabricWires}
 

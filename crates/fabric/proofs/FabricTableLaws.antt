@@ -6,35 +6,35 @@ use mathlib.Core.List.{List, [], _∷_, _++_, append-nil}
 use Prim.Native.Nat.{ℕ, zero, suc, _+_, _*_, _≤_}
 use native.Mathlib.Omega.{arith}
 use lib.ListN.{length, getD}
+use borrow.Author.Tests.{le-leb}
 use Rattle.lists.specs.Lists.{listOf, Below}
 use Rattle.lists.proofs.ListsLaws.{getD-listOf, listOf-ext, below-append, below-more}
+use Rattle.fault.specs.Checks.{roomFault}
+use Rattle.elements.specs.Elements.{maxWires}
+use Rattle.blocks.specs.Elements.{Row, gateBits, flat, run, lineOf, gateOnBits, unpack}
+use Rattle.blocks.proofs.ElementsLaws.{unpack-pack}
 use Rattle.plan.specs.declared.record.Plan.{Plan}
 use Rattle.plan.specs.Record.{gateAt}
 use Rattle.plan.specs.Faults.{countsFault, Accepted}
 use Rattle.plan.proofs.FaultsLaws.{counts-within}
 use Rattle.plan_evaluation_checks.specs.EvaluationChecks.{contactFault}
-use Rattle.plan_evaluation.specs.Evaluation.{valueOn, planWires, namedBy, planOutputs, tableBit, gateBit}
 use Rattle.plan_evaluation_checks.proofs.EvaluationChecksLaws.{row-length, row-bit}
+use Rattle.plan_evaluation.specs.Evaluation.{valueOn, planWires, namedBy, planOutputs, tableBit, gateBit}
 use Rattle.plan_evaluation.proofs.EvaluationLaws.{wire-bit}
-use Rattle.blocks.specs.Elements.{Row, gateBits, flat, run, lineOf, gateOnBits, unpack}
-use Rattle.blocks.proofs.ElementsLaws.{unpack-pack}
 use Rattle.fabric_universal.specs.Universal.{tableProgram}
 use Rattle.fabric_universal.specs.Fabric.{fabricRows, fabricOuts, fabricCount, fabricWires, fabricTakes, fabricTable, planBits, planProgram, planTable}
-use Rattle.fabric_sizes.specs.Layout.{inputsIn, outputsIn, rowsIn, outputWireAt, tableRows, wiresIn, bitsIn}
-use Rattle.elements.specs.Elements.{maxWires}
-use Rattle.fabric_run.specs.Running.{runWires, runOutputs}
-use Rattle.fabric_run_checks.specs.RunFault.{givenProgramFault, runFault}
-use Rattle.fabric_table_checks.specs.TableFault.{tableFault}
-use Rattle.fabric_table_checks.proofs.TableFaultLaws.{table-faultless}
-use Rattle.fabric_run_checks.proofs.RunFaultLaws.{pack-exact}
-use Rattle.fabric_table_checks.proofs.WrittenTables.{tableOf, tableRows-of, output-of, below-cons, flat-below, wiresIn-of, bitsIn-of, well-formed-of}
 use Rattle.fabric_universal.proofs.PlanValues.{actOf}
 use Rattle.fabric_universal.proofs.FabricLaws.{length-fabricRows, fabric-totals, fabric-wires, length-fabricOuts, fabric-below, fabric-madeBefore}
 use Rattle.fabric_universal.proofs.FabricLaws.{length-planBits, planBits-bits, fabric-within}
 use Rattle.fabric_universal.proofs.FabricRun.{fabricStart, fabric-computes}
+use Rattle.fabric_sizes.specs.Layout.{inputsIn, outputsIn, rowsIn, outputWireAt, tableRows, wiresIn, bitsIn}
+use Rattle.fabric_table_checks.specs.TableFault.{tableFault}
+use Rattle.fabric_table_checks.proofs.TableFaultLaws.{table-faultless}
+use Rattle.fabric_table_checks.proofs.WrittenTables.{tableOf, tableRows-of, output-of, below-cons, flat-below, wiresIn-of, bitsIn-of, well-formed-of}
+use Rattle.fabric_run_checks.specs.RunFault.{givenProgramFault, runFault}
+use Rattle.fabric_run_checks.proofs.RunFaultLaws.{pack-exact}
+use Rattle.fabric_run.specs.Running.{runWires, runOutputs}
 use Rattle.fabric.specs.Promise.{FabricPromise}
-use Rattle.fault.specs.Checks.{roomFault}
-use borrow.Author.Tests.{le-leb}
 
 -- ---- the table
 

@@ -9,16 +9,16 @@ use lib.Seq.{ext-getD, getD-drop, getD-append-add}
 use Rattle.lists.specs.Lists.{listOf}
 use Rattle.lists.proofs.ListsLaws.{length-listOf, getD-listOf}
 use Rattle.fault.specs.Buffers.{over}
+use Rattle.blocks.specs.Elements.{operands, choose}
 use Rattle.plan.specs.declared.record.Plan.{Plan}
 use Rattle.plan.specs.Record.{maxGates}
 use Rattle.plan.specs.Faults.{Accepted}
 use Rattle.plan.proofs.FaultsLaws.{accepted-counts}
-use Rattle.blocks.specs.Elements.{operands, choose}
 use Rattle.fabric_universal.specs.Fabric.{planGates}
 use Rattle.fabric_universal.proofs.PlanValues.{padded-spare}
-use Rattle.fabric_sizes.specs.Parts.{maxPins}
 use Rattle.fabric_lists.specs.GateLists.{loadedGates}
 use Rattle.fabric_lists.proofs.GateListsLaws.{all-loaded}
+use Rattle.fabric_sizes.specs.Parts.{maxPins}
 
 -- the lists of a plan's gates, spare ones included
 pub record Loaded (p : Plan) (operandList tables : List ℕ) : Type 0 where

@@ -7,15 +7,15 @@ use native.Mathlib.Omega.{arith}
 use lib.ListN.{length, getD, take, length-append}
 use lib.Pow.{pow-pos}
 use Rattle.lists.proofs.ListsLaws.{length-listOf, getD-listOf, listOf-ext}
-use Rattle.plan.specs.declared.record.Plan.{Plan}
-use Rattle.plan.specs.Record.{maxGates}
-use Rattle.plan.specs.Faults.{Accepted}
-use Rattle.plan.proofs.FaultsLaws.{accepted-counts}
 use Rattle.blocks.specs.Elements.{storeBits}
 use Rattle.blocks.proofs.ElementsLaws.{storeBits-append}
 use Rattle.blocks.specs.Networks.{selectionCount, selectionBits}
 use Rattle.blocks.proofs.NetworksLaws.{length-selectionBits}
 use Rattle.blocks.specs.Calls.{SelectionPasses}
+use Rattle.plan.specs.declared.record.Plan.{Plan}
+use Rattle.plan.specs.Record.{maxGates}
+use Rattle.plan.specs.Faults.{Accepted}
+use Rattle.plan.proofs.FaultsLaws.{accepted-counts}
 use Rattle.fabric_universal.specs.Selector.{pinCount, selection}
 use Rattle.fabric_universal.proofs.SelectorLaws.{selection-shape}
 use Rattle.fabric_universal.specs.Universal.{universalTakes, universalBits}
@@ -23,9 +23,9 @@ use Rattle.fabric_universal.proofs.UniversalLaws.{length-universalBits}
 use Rattle.fabric_universal.specs.Fabric.{gateLevel, fabricTakes, planGates, wantedInput, wantedInputs, wantedOutputs, planBits}
 use Rattle.fabric_universal.proofs.FabricLaws.{fabric-within}
 use Rattle.fabric_universal.proofs.FabricRun.{inputs-selected, outputs-selected}
+use Rattle.fabric_lists.specs.WantedLists.{listedGates, inputsWanted}
 use Rattle.fabric_sizes.proofs.PartsLaws.{few-places, same-level}
 use Rattle.fabric_sizes.specs.Parts.{maxPins}
-use Rattle.fabric_lists.specs.WantedLists.{listedGates, inputsWanted}
 use Rattle.fabric_bits.specs.ProgramParts.{bitLimit, gatesProgram, UniversalProgramRoom, GatesRoom}
 use Rattle.fabric_bits.proofs.LoadedLaws.{Loaded}
 use Rattle.fabric_bits.proofs.UniversalBitsLaws.{SameGates, universal-same}

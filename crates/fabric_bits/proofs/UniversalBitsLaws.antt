@@ -6,23 +6,23 @@ use Prim.Native.Nat.{ℕ, zero, suc, _+_, _*_, _^_, _≤_, _<_}
 use native.Mathlib.Omega.{arith}
 use lib.ListN.{length, take, length-append}
 use Rattle.lists.proofs.ListsLaws.{listOf-ext}
-use Rattle.plan.specs.Record.{maxGates}
+use Rattle.lists.specs.Counting.{oneIf}
 use Rattle.blocks.specs.Elements.{operands, gateBits, storeBits}
 use Rattle.blocks.proofs.ElementsLaws.{storeBits-append}
-use Rattle.lists.specs.Counting.{oneIf}
 use Rattle.blocks.specs.Networks.{selectionCount, selectionBits}
 use Rattle.blocks.proofs.NetworksLaws.{length-selectionBits}
 use Rattle.blocks.specs.Calls.{selectionProgramAtResult, SelectionPasses}
 use Rattle.blocks.proofs.CallsLaws.{selection-program-at-succeeds, stored-done}
+use Rattle.plan.specs.Record.{maxGates}
 use Rattle.fabric_universal.specs.Selector.{pinCount, selection}
 use Rattle.fabric_universal.proofs.SelectorLaws.{double, selection-shape}
 use Rattle.fabric_universal.specs.Universal.{Gates, universalTakes, tableProgram, isOf, wantedGate, wantedGates, mixBits, universalBits}
 use Rattle.fabric_universal.proofs.UniversalLaws.{length-universalBits}
 use Rattle.fabric_universal.proofs.UniversalProgram.{wanted-selected, length-mixBits}
 use Rattle.fabric_universal.specs.Fabric.{gateLevel}
-use Rattle.fabric_sizes.proofs.PartsLaws.{one-gate, Halved}
 use Rattle.fabric_lists.specs.WantedLists.{listedGates, listedOperands, isAmong, wantedAmong}
 use Rattle.fabric_lists.proofs.WantedListsLaws.{among-gates, wanted-among}
+use Rattle.fabric_sizes.proofs.PartsLaws.{one-gate, Halved}
 use Rattle.fabric_bits.specs.ProgramParts.{betweenBits, BetweenRoom, UniversalProgramRoom}
 
 -- ---- U by its halves

@@ -3,15 +3,15 @@ use Prim.Native.Nat.{ℕ, _+_, _*_, _^_, _≤_}
 use mathlib.Core.Path.{_≡_}
 use mathlib.Core.List.{List, _++_}
 use lib.ListN.{length}
-use Rattle.plan.specs.Record.{maxGates}
 use Rattle.blocks.specs.Elements.{operands}
 use Rattle.blocks.specs.Networks.{selectionCount, selectionBits}
 use Rattle.blocks.specs.Calls.{SelectionPasses}
+use Rattle.plan.specs.Record.{maxGates}
 use Rattle.fabric_universal.specs.Selector.{pinCount, selection}
 use Rattle.fabric_universal.specs.Universal.{Gates, universalTakes, wantedGates, mixBits, universalBits}
 use Rattle.fabric_universal.specs.Fabric.{gateLevel}
-use Rattle.fabric_sizes.specs.Parts.{maxPins}
 use Rattle.fabric_lists.specs.WantedLists.{listedGates, inputsWanted}
+use Rattle.fabric_sizes.specs.Parts.{maxPins}
 
 -- above the program bits of every plan: the fabric of 64, 256, 64 takes 32,257
 abbrev pub bitLimit : ℕ

@@ -7,9 +7,9 @@ use lib.ListN.{length, set}
 use Rattle.lists.specs.Lists.{listOf}
 use Rattle.fault.specs.Buffers.{over}
 use Rattle.fault.proofs.BuffersLaws.{list-step}
+use Rattle.blocks.specs.Elements.{operands}
 use Rattle.plan.specs.declared.record.Plan.{Plan}
 use Rattle.plan.specs.Record.{maxGates, gateAt}
-use Rattle.blocks.specs.Elements.{operands}
 use Rattle.fabric_universal.specs.Fabric.{planGates}
 use Rattle.fabric_universal.proofs.PlanValues.{padded-own, first-operand, second-operand}
 use Rattle.fabric_lists.specs.GateLists.{loadedGates}

@@ -5,9 +5,9 @@ use mathlib.Core.List.{List}
 use lib.ListN.{length}
 use Rattle.lists.specs.Lists.{listOf}
 use Rattle.fault.specs.Buffers.{over}
+use Rattle.blocks.specs.Elements.{operands}
 use Rattle.plan.specs.declared.record.Plan.{Plan}
 use Rattle.plan.specs.Record.{maxGates}
-use Rattle.blocks.specs.Elements.{operands}
 use Rattle.fabric_universal.specs.Fabric.{planGates}
 
 -- how many of k gates the record, a list with `operandPlaces` places for operands and one with `tablePlaces` for tables have places for

@@ -3,10 +3,10 @@
 ghost use mathlib.Core.Path.{_≡_};
 ghost use Prim.Native.Nat.{_-_, min};
 ghost use lib.ListN.{length, getD, take};
-ghost use Rattle.fault.specs.Buffers.{over};
-ghost use Rattle.plan.specs.Record.{maxOutputs};
-ghost use Rattle.blocks.specs.Elements.{storeBits};
 ghost use Rattle.lists.specs.Counting.{oneIf};
+ghost use Rattle.fault.specs.Buffers.{over};
+ghost use Rattle.blocks.specs.Elements.{storeBits};
+ghost use Rattle.plan.specs.Record.{maxOutputs};
 ghost use Rattle.fabric_universal.specs.Universal.{wantedGates, mixBits};
 ghost use Rattle.fabric_universal.specs.Fabric.{wantedInput, wantedOutputs};
 ghost use Rattle.fabric_lists.specs.WantedLists.{listedOperands, isAmong, wantedAmong, inputsWanted};

@@ -7,9 +7,9 @@ use native.Mathlib.Nat.{mod-eq-of-lt}
 use lib.Dec.{leb}
 use lib.ListN.{length, getD, take, drop}
 use Rattle.fault.specs.Buffers.{over, partOf, withPart}
-use Rattle.blocks.specs.Elements.{Gate, stride, entries, flat, wiresPut, rowPut, pairRows, rowsPut}
 use Rattle.elements.specs.declared.Kind.{Kind}
 use Rattle.elements.specs.Elements.{maxWires, kindNumber}
+use Rattle.blocks.specs.Elements.{Gate, stride, entries, flat, wiresPut, rowPut, pairRows, rowsPut}
 use Rattle.blocks.proofs.ElementsLaws.{part-within, with-within}
 
 -- ---- G

@@ -4,9 +4,9 @@ use mathlib.Core.List.{List, _++_}
 use Prim.Native.Nat.{ℕ, min}
 use lib.ListN.{length, take}
 use Rattle.fault.specs.Buffers.{over, partOf, withPart}
-use Rattle.plan.specs.Record.{maxOutputs}
 use Rattle.blocks.proofs.ElementsLaws.{take-within, part-within, with-within}
 use Rattle.blocks.specs.Calls.{selectionWrittenRows, selectionWrittenOutputs}
+use Rattle.plan.specs.Record.{maxOutputs}
 use Rattle.fabric_parts.specs.Copied.{copiedAt}
 
 -- S on the first `end` wires of L

@@ -3,8 +3,8 @@ use Prim.Native.Nat.{ℕ}
 use mathlib.Core.List.{List, _++_}
 use lib.ListN.{length, take, drop, replicate}
 use Rattle.fault.specs.Buffers.{over}
-use Rattle.plan.specs.Record.{maxOutputs}
 use Rattle.blocks.specs.Calls.{selectionWrittenRows, selectionWrittenOutputs}
+use Rattle.plan.specs.Record.{maxOutputs}
 
 -- a list with the wires of another from the place `end` on, as far as it has them
 unfoldable pub copiedAt : ℕ → List ℕ → List ℕ → List ℕ

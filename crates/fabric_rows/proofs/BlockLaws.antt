@@ -10,18 +10,18 @@ use Rattle.lists.specs.Lists.{listOf}
 use Rattle.lists.proofs.ListsLaws.{listOf-ext}
 use Rattle.fault.specs.Buffers.{over, partOf, withPart}
 use Rattle.fault.proofs.PartsLaws.{length-over, over-part}
+use Rattle.elements.specs.declared.Kind.{Kind}
+use Rattle.elements.specs.Elements.{maxWires}
+use Rattle.elements.specs.declared.Counts.{Counts}
 use Rattle.blocks.specs.Elements.{Y, Gate, stride, flat, rowOf, wiresPut, pairRows, rowsPut}
 use Rattle.blocks.proofs.ElementsLaws.{flat-append, length-flat, wires-put, wire-after, length-pairRows, length-flat-pairs, rows-put}
 use Rattle.blocks.specs.Networks.{selectionRows, selectionOuts, selectionCount, selectionWires}
 use Rattle.blocks.proofs.NetworksLaws.{length-selectionRows, selection-totals, length-selectionOuts}
-use Rattle.elements.specs.declared.Kind.{Kind}
-use Rattle.elements.specs.Elements.{maxWires}
 use Rattle.blocks.specs.Calls.{selectionWriteFault, SelectionWritePasses, selectionWrittenRows, selectionWrittenOutputs}
 use Rattle.blocks.proofs.CallsLaws.{selection-write-succeeds}
 use Rattle.fabric_universal.specs.Selector.{pinCount, selection}
 use Rattle.fabric_universal.specs.Universal.{mixRows, wiresFrom, universalCount, universalWires, universalOuts, universalRows}
 use Rattle.fabric_universal.specs.Fabric.{gateLevel}
-use Rattle.elements.specs.declared.Counts.{Counts}
 use Rattle.fabric_sizes.specs.Parts.{SelectionIs, UniversalIs}
 use Rattle.fabric_sizes.proofs.PartsLaws.{Halved}
 use Rattle.fabric_rows.specs.declared.block.UniversalParts.{UniversalParts}

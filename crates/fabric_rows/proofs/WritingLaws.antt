@@ -12,14 +12,14 @@ use Rattle.lists.specs.Lists.{listOf}
 use Rattle.lists.proofs.ListsLaws.{listOf-ext}
 use Rattle.fault.specs.Buffers.{over, partOf, withPart}
 use Rattle.fault.proofs.PartsLaws.{length-over, over-part}
-use Rattle.plan.specs.Record.{maxInputs, maxGates, maxOutputs}
-use Rattle.plan.specs.Faults.{CountsWithin}
+use Rattle.elements.specs.declared.Counts.{Counts}
 use Rattle.blocks.specs.Elements.{stride, flat, wiresPut}
 use Rattle.blocks.proofs.ElementsLaws.{flat-append, wires-put}
 use Rattle.blocks.specs.Networks.{selectionRows, selectionOuts, selectionCount, selectionWires}
 use Rattle.blocks.proofs.NetworksLaws.{length-selectionOuts}
 use Rattle.blocks.specs.Calls.{selectionWrittenRows, selectionWrittenOutputs, SelectionWritePasses}
-use Rattle.fabric_parts.specs.Copied.{copiedAt}
+use Rattle.plan.specs.Record.{maxInputs, maxGates, maxOutputs}
+use Rattle.plan.specs.Faults.{CountsWithin}
 use Rattle.fabric_universal.specs.Selector.{pinCount, selection}
 use Rattle.fabric_universal.specs.Universal.{universalCount, universalWires, universalOuts, universalRows}
 use Rattle.fabric_universal.proofs.UniversalLaws.{length-universalOuts}
@@ -27,12 +27,12 @@ use Rattle.fabric_universal.specs.Fabric.{gateLevel, inputWires, fabricPins, un
 use Rattle.fabric_universal.specs.Fabric.{fabricCount, fabricWires, fabricTable}
 use Rattle.fabric_universal.proofs.FabricLaws.{length-inputWires, inputs-below, gates-below, fabric-within}
 use Rattle.fabric_sizes.specs.Layout.{header, rowStart}
-use Rattle.elements.specs.declared.Counts.{Counts}
 use Rattle.fabric_sizes.specs.Counting.{tableLength}
 use Rattle.fabric_sizes.specs.Parts.{maxPins, PlacesAre, SelectionIs, UniversalIs}
 use Rattle.fabric_sizes.proofs.PartsLaws.{few-places, same-level}
-use Rattle.fabric_rows.specs.declared.writing.Layout.{Layout}
 use Rattle.fabric_sizes.specs.FabricChecks.{FabricPasses}
+use Rattle.fabric_parts.specs.Copied.{copiedAt}
+use Rattle.fabric_rows.specs.declared.writing.Layout.{Layout}
 use Rattle.fabric_rows.specs.Writing.{LayoutIs, PinRoom}
 use Rattle.fabric_rows.specs.Block.{UniversalWriteRoom}
 use Rattle.fabric_rows.proofs.BlockLaws.{selection-put, length-selection, over-behind}

@@ -3,11 +3,11 @@ use Prim.Native.Nat.{ℕ, suc, _+_, _*_, _^_, _<_, _≤_}
 use mathlib.Core.Path.{_≡_}
 use mathlib.Core.List.{List, _++_}
 use lib.ListN.{take}
-use Rattle.plan.specs.Record.{maxGates}
+use Rattle.elements.specs.Elements.{maxWires}
 use Rattle.blocks.specs.Elements.{Row, operands, stride}
 use Rattle.blocks.specs.Networks.{selectionRows, selectionOuts, selectionCount}
 use Rattle.blocks.specs.Calls.{SelectionWritePasses}
-use Rattle.elements.specs.Elements.{maxWires}
+use Rattle.plan.specs.Record.{maxGates}
 use Rattle.fabric_universal.specs.Selector.{selection}
 use Rattle.fabric_universal.specs.Universal.{mixRows, wiresFrom, universalCount, universalWires, selectNext, mixNext, lowerHalfNext}
 use Rattle.fabric_universal.specs.Fabric.{gateLevel}

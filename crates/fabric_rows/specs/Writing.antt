@@ -1,11 +1,11 @@
 -- What the functions under the call require of their parts.
 use Prim.Native.Nat.{ℕ, suc, _+_, _*_, _^_, _<_, _≤_}
 use mathlib.Core.Path.{_≡_}
-use Rattle.plan.specs.Record.{maxInputs, maxGates}
+use Rattle.elements.specs.Elements.{maxWires}
 use Rattle.blocks.specs.Elements.{stride}
 use Rattle.blocks.specs.Networks.{selectionCount, selectionWires}
-use Rattle.elements.specs.Elements.{maxWires}
 use Rattle.blocks.specs.Calls.{SelectionWritePasses}
+use Rattle.plan.specs.Record.{maxInputs, maxGates}
 use Rattle.fabric_universal.specs.Selector.{pinCount, selection}
 use Rattle.fabric_universal.specs.Universal.{universalCount}
 use Rattle.fabric_universal.specs.Fabric.{gateLevel, inputWires, universalNext, fabricOutputNext, fabricCount}

@@ -11,12 +11,12 @@ use Rattle.fault.proofs.ChecksLaws.{and-then-zero, unless-zero}
 use Rattle.fault.specs.Buffers.{over}
 use Rattle.plan_evaluation_checks.proofs.EvaluationChecksLaws.{row-length, row-bit}
 use Rattle.fabric_sizes.specs.Layout.{inputsIn, outputsIn, outputWireAt, wiresIn}
-use Rattle.fabric_run.specs.Running.{runWires, runOutputs}
 use Rattle.fabric_table_checks.specs.TableFault.{WellFormed}
 use Rattle.fabric_table_checks.proofs.TableFaultLaws.{table-faultless}
-use Rattle.fabric_run.proofs.RunningLaws.{length-runWires}
 use Rattle.fabric_run_checks.specs.RunFault.{runFault}
+use Rattle.fabric_run.specs.Running.{runWires, runOutputs}
 use Rattle.fabric_run.specs.RunRows.{Runnable, ResultRoom, outputsOn}
+use Rattle.fabric_run.proofs.RunningLaws.{length-runWires}
 
 -- the outputs' bits, read from the work buffer
 pub outputs-read : (table program row work : List ℕ) {after : List ℕ} → WellFormed table → length row ≡ inputsIn table

@@ -8,17 +8,17 @@ use lib.ListN.{length, getD, drop, length-append, List·getD-append}
 use lib.Seq.{sets, length-sets}
 use Rattle.lists.specs.Lists.{listOf}
 use Rattle.fault.specs.Buffers.{over}
+use Rattle.elements.specs.Elements.{maxWires}
 use Rattle.blocks.specs.Elements.{makes, total, rowOf, outputs, step, run, gateOnBits, unpack, AreBits, State}
 use Rattle.blocks.proofs.ElementsLaws.{run-append, run-wires, run-bits, unpack-bits}
 use Rattle.fabric_sizes.specs.Layout.{inputsIn, rowsIn, kindAt, leftAt, rightAt, rowAt, rowsTo, wiresBefore, bitsBefore, wiresIn, bitsIn, rowStart}
-use Rattle.elements.specs.Elements.{maxWires}
-use Rattle.fabric_run.specs.Running.{runStart, runWires}
 use Rattle.fabric_sizes.proofs.LayoutLaws.{wires-more, bits-more}
-use Rattle.fabric_run.proofs.RunningLaws.{run-areBits}
 use Rattle.fabric_table_checks.specs.declared.table.RowCounts.{RowCounts}
 use Rattle.fabric_table_checks.specs.Counting.{kindWires, CountsOf}
 use Rattle.fabric_table_checks.proofs.CountingLaws.{CountedBefore, of-kind, wires-mono, bits-mono, counted-few, counted-one-more}
+use Rattle.fabric_run.specs.Running.{runStart, runWires}
 use Rattle.fabric_run.specs.RunRows.{rowState, rowDone, leftOf, rightOf, RowRoom, Runnable}
+use Rattle.fabric_run.proofs.RunningLaws.{run-areBits}
 use Rattle.fabric_run.proofs.RowLaws.{sees-row}
 use Rattle.fabric_run.proofs.WorkLaws.{sets-over, over-longer}
 

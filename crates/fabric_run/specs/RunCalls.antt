@@ -3,8 +3,8 @@ use mathlib.Core.List.{List}
 use Prim.Native.Nat.{ℕ}
 use lib.ListN.{length}
 use Rattle.fault.specs.Buffers.{filled}
-use Rattle.fabric_run.specs.Running.{runWires, runOutputs}
 use Rattle.fabric_run_checks.specs.RunFault.{runFault}
+use Rattle.fabric_run.specs.Running.{runWires, runOutputs}
 
 -- every wire's bit
 abbrev pub runWork : List ℕ → List ℕ → List ℕ → List ℕ → List ℕ → List ℕ

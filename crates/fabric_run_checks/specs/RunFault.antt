@@ -1,14 +1,14 @@
 -- Document 01, the checks of the run of a table with a program on a row of input contacts, in their order.
 use Prim.Native.Nat.{ℕ, _+_, _-_, _*_}
 use mathlib.Core.List.{List}
+use lib.Dec.{eqb}
+use lib.ListN.{length}
 use Rattle.fault.specs.Checks.{andThen, roomFault, unless, firstOf}
+use Rattle.fault.specs.declared.Fault.{Fault}
+use Rattle.blocks.specs.Elements.{bytesFor, bitAt}
 use Rattle.plan_evaluation_checks.specs.EvaluationChecks.{contactFault}
 use Rattle.fabric_sizes.specs.Layout.{inputsIn, outputsIn, wiresIn, bitsIn}
 use Rattle.fabric_table_checks.specs.TableFault.{tableFault}
-use lib.Dec.{eqb}
-use lib.ListN.{length}
-use Rattle.fault.specs.declared.Fault.{Fault}
-use Rattle.blocks.specs.Elements.{bytesFor, bitAt}
 
 -- 11: a work buffer of `work` entries is shorter than the number of wires, or a result of `result` entries than that of outputs
 abbrev pub roomsFault : ℕ → ℕ → ℕ → ℕ → ℕ

@@ -3,8 +3,8 @@
 ghost use mathlib.Core.Path.{_≡_};
 ghost use Prim.Native.Nat.{_≤_};
 ghost use Rattle.fault.specs.Number.{answerNumber};
-ghost use Rattle.fabric_run_checks.specs.RunFault.{givenProgramFault, roomsFault, runFault};
 ghost use Rattle.fabric_table_checks.specs.Counting.{maxBits};
+ghost use Rattle.fabric_run_checks.specs.RunFault.{givenProgramFault, roomsFault, runFault};
 use blocks::bytes_for;
 use blocks::read_bit;
 use blocks::wide;

@@ -1,9 +1,9 @@
 -- The fabric's counts are those of its parts, and what counting answers.
 use Prim.Native.Nat.{ℕ, _+_, _^_}
 use native.Mathlib.Omega.{arith}
+use Rattle.elements.specs.declared.Counts.{Counts}
 use Rattle.fabric_universal.specs.Selector.{pinCount}
 use Rattle.fabric_universal.specs.Fabric.{gateLevel, fabricCount, fabricWires, fabricTakes}
-use Rattle.elements.specs.declared.Counts.{Counts}
 use Rattle.fabric_sizes.specs.Counting.{FabricCounts}
 use Rattle.fabric_sizes.specs.Parts.{SelectionIs, UniversalIs}
 

@@ -5,9 +5,9 @@ use native.Mathlib.Nat.{mul-le-mul}
 use native.Mathlib.Omega.{arith}
 use lib.Pow.{pow-mono, pow-pos}
 use Rattle.powers.proofs.PowersLaws.{ceilLog-least, ceilLog-power}
-use Rattle.plan.specs.Record.{maxGates}
 use Rattle.blocks.specs.Networks.{selectionLevel, selectionCount, selectionWires}
 use Rattle.blocks.proofs.NetworksLaws.{level-least, selection-count, selection-made}
+use Rattle.plan.specs.Record.{maxGates}
 use Rattle.fabric_universal.specs.Selector.{selection}
 use Rattle.fabric_universal.proofs.SelectorLaws.{double}
 use Rattle.fabric_universal.specs.Universal.{universalCount, universalWires, universalTakes}

@@ -1,10 +1,10 @@
 -- Document 01, "Counting: 2, 3, 4": what counting answers; and the length of the fabric's table.
 use Prim.Native.Nat.{ℕ, _+_}
+use Rattle.elements.specs.declared.Counts.{Counts}
+use Rattle.elements.specs.Elements.{CountOutcome, countsUnless, CountsAre}
 use Rattle.plan.specs.Faults.{countsFault}
 use Rattle.fabric_universal.specs.Fabric.{fabricCount, fabricWires, fabricTakes}
 use Rattle.fabric_sizes.specs.Layout.{rowStart}
-use Rattle.elements.specs.declared.Counts.{Counts}
-use Rattle.elements.specs.Elements.{CountOutcome, countsUnless, CountsAre}
 
 -- counting: 2, 3, 4
 abbrev pub counting : ℕ → ℕ → ℕ → CountOutcome

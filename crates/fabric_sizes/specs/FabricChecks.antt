@@ -1,9 +1,9 @@
 -- Document 01, "Counting and fabric: 2, 3, 4, and for the fabric 11" and "Program bits: plan faults, 11": the checks in their order.
 use Prim.Native.Nat.{ℕ, _≤_}
 use Rattle.fault.specs.Checks.{andThen, roomFault}
+use Rattle.blocks.specs.Elements.{bytesFor}
 use Rattle.plan.specs.declared.record.Plan.{Plan}
 use Rattle.plan.specs.Faults.{countsFault, planFault, CountsWithin}
-use Rattle.blocks.specs.Elements.{bytesFor}
 use Rattle.fabric_universal.specs.Fabric.{fabricTakes}
 use Rattle.fabric_sizes.specs.Counting.{tableLength}
 

@@ -1,13 +1,13 @@
 -- The counts of a fabric's parts: the rows of a block, the wires that they make, and their program bits.
 use Prim.Native.Nat.{ℕ, suc, _*_, _^_, _≤_}
 use mathlib.Core.Path.{_≡_}
-use Rattle.plan.specs.Record.{maxGates}
+use Rattle.elements.specs.declared.Counts.{Counts}
 use Rattle.blocks.specs.Elements.{operands}
 use Rattle.blocks.specs.Networks.{selectionCount, selectionWires}
+use Rattle.plan.specs.Record.{maxGates}
 use Rattle.fabric_universal.specs.Selector.{selection}
 use Rattle.fabric_universal.specs.Universal.{universalCount, universalWires, universalTakes}
 use Rattle.fabric_universal.specs.Fabric.{gateLevel}
-use Rattle.elements.specs.declared.Counts.{Counts}
 
 -- the pins of the largest U of a plan, two for each gate
 abbrev pub maxPins : ℕ

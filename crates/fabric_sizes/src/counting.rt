@@ -1,8 +1,8 @@
 // Counting: the rows, wires and program bits of the fabric of three counts, and the stated lengths that follow from them.
 ghost use mathlib.Core.Path.{_≡_};
+ghost use Rattle.elements.specs.Elements.{countOutcome};
 ghost use Rattle.blocks.specs.Elements.{bytesFor};
 ghost use Rattle.fabric_universal.specs.Fabric.{fabricTakes};
-ghost use Rattle.elements.specs.Elements.{countOutcome};
 ghost use Rattle.fabric_sizes.specs.Counting.{counting, FabricCounts, tableLength};
 use crate::layout::HEADER;
 use crate::parts::output_counts;

@@ -9,8 +9,8 @@ use Rattle.fault.proofs.ChecksLaws.{number-positive}
 use Rattle.fabric_sizes.specs.Layout.{rowsIn}
 use Rattle.fabric_table_checks.specs.declared.checking.TableCounts.{TableCounts}
 use Rattle.fabric_table_checks.specs.declared.checking.TableCheck.{TableCheck}
-use Rattle.fabric_table_checks.proofs.CountingLaws.{CountedBefore}
 use Rattle.fabric_table_checks.specs.Checking.{checkOutcome, countedOr}
+use Rattle.fabric_table_checks.proofs.CountingLaws.{CountedBefore}
 
 -- a refusal
 pub refused-table : (f : Fault) (n : ℕ) (table : List ℕ) → faultNumber f ≡ n → checkOutcome (TableCheck.Refused f) ≡ countedOr n table

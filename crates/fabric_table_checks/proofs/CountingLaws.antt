@@ -6,10 +6,10 @@ use native.Mathlib.Omega.{arith}
 use native.Mathlib.Numerals.{add-one}
 use native.Mathlib.Decide.{ℕ-discrete}
 use Rattle.lists.specs.Lists.{listOf}
-use Rattle.plan.specs.Record.{maxInputs}
-use Rattle.blocks.specs.Elements.{X, Y, Gate, gateBits, makes, takes, total, rowOf}
-use Rattle.fabric_sizes.specs.Layout.{inputsIn, kindAt, leftAt, rightAt, rowAt, wiresBefore, bitsBefore}
 use Rattle.elements.specs.Elements.{maxWires}
+use Rattle.blocks.specs.Elements.{X, Y, Gate, gateBits, makes, takes, total, rowOf}
+use Rattle.plan.specs.Record.{maxInputs}
+use Rattle.fabric_sizes.specs.Layout.{inputsIn, kindAt, leftAt, rightAt, rowAt, wiresBefore, bitsBefore}
 use Rattle.fabric_sizes.proofs.LayoutLaws.{wires-more, bits-more}
 use Rattle.fabric_table_checks.specs.declared.table.RowCounts.{RowCounts}
 use Rattle.fabric_table_checks.specs.Counting.{kindWires, kindBits, CountsOf, maxBits}

@@ -5,8 +5,8 @@ use mathlib.Core.Bool.{and-eq-true-iff}
 use mathlib.Core.List.{List}
 use Prim.Native.Nat.{ℕ}
 use Rattle.fault.proofs.ChecksLaws.{unless-zero, and-then-zero, first-of-zero, eqb-iff, leb-iff}
-use Rattle.plan.specs.Rules.{countAllowed}
 use Rattle.blocks.specs.Elements.{outputs}
+use Rattle.plan.specs.Rules.{countAllowed}
 use Rattle.fabric_table_checks.specs.TableFault.{WellFormed, HeaderWithin, kindAllowed, headerFault, rowFault, outputWireFault, tableFault, RowWithin}
 
 pub header-faultless : (table : List ℕ) → (headerFault table ≡ 0) ↔ HeaderWithin table

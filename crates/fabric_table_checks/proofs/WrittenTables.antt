@@ -11,11 +11,11 @@ use lib.ListN.{length, getD, length-append, List·getD-append}
 use lib.Seq.{getD-append-add}
 use Rattle.lists.specs.Lists.{listOf, Below, Every, every-none, every-more}
 use Rattle.lists.proofs.ListsLaws.{listOf-ext, listOf-getD, below-append, below-more}
-use Rattle.plan.specs.Record.{maxInputs, maxOutputs}
+use Rattle.elements.specs.Elements.{maxWires}
 use Rattle.blocks.specs.Elements.{Row, X, Y, Gate, stride, inputsOf, makes, takes, total, entries, flat, rowOf, InFamily, MadeBefore, made-none, made-more}
 use Rattle.blocks.proofs.ElementsLaws.{length-flat, decode-flat, decode-at}
+use Rattle.plan.specs.Record.{maxInputs, maxOutputs}
 use Rattle.fabric_sizes.specs.Layout.{header, kindAt, leftAt, rightAt, rowAt, outputWireAt, rowsTo, tableRows, wiresBefore, bitsBefore, wiresIn, bitsIn}
-use Rattle.elements.specs.Elements.{maxWires}
 use Rattle.fabric_table_checks.specs.TableFault.{WellFormed, RowWithin}
 
 -- the table of these rows and output wires

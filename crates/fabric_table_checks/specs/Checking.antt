@@ -6,8 +6,8 @@ use lib.Dec.{leb}
 use Rattle.fault.specs.declared.Fault.{Fault}
 use Rattle.fault.specs.Number.{faultNumber}
 use Rattle.fault.specs.Checks.{unless, andThen, firstOf}
-use Rattle.fabric_sizes.specs.Layout.{outputsIn, rowsIn, wiresBefore, wiresIn, bitsIn}
 use Rattle.elements.specs.Elements.{maxWires}
+use Rattle.fabric_sizes.specs.Layout.{outputsIn, rowsIn, wiresBefore, wiresIn, bitsIn}
 use Rattle.fabric_table_checks.specs.TableFault.{outputWireFault, tableFault, HeaderWithin}
 use Rattle.fabric_table_checks.specs.declared.checking.TableCheck.{TableCheck}
 

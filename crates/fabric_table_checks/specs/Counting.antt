@@ -1,8 +1,8 @@
 -- Wires and program bits, as the code counts them through the rows.
 use Prim.Native.Nat.{ℕ, _*_, _≤_}
 use mathlib.Core.Path.{_≡_}
-use Rattle.blocks.specs.Elements.{gateBits, makes, takes, rowOf}
 use Rattle.elements.specs.Elements.{maxWires}
+use Rattle.blocks.specs.Elements.{gateBits, makes, takes, rowOf}
 use Rattle.fabric_table_checks.specs.declared.table.RowCounts.{RowCounts}
 
 -- the program bits of the longest table, which has fewer than 65,536 rows

@@ -4,14 +4,14 @@ use mathlib.Core.Bool.{Bool, _&&_}
 use mathlib.Core.List.{List}
 use lib.Dec.{leb, ltb, eqb}
 use lib.ListN.{length}
+use mathlib.Core.Path.{_≡_}
 use Rattle.fault.specs.declared.Fault.{Fault}
 use Rattle.fault.specs.Checks.{unless, andThen, firstOf}
-use Rattle.plan.specs.Record.{maxInputs, maxOutputs}
-use Rattle.plan.specs.Rules.{countAllowed}
-use mathlib.Core.Path.{_≡_}
-use Rattle.fabric_sizes.specs.Layout.{outputWireAt, leftAt, wiresIn, header, rowStart, rowsIn, wiresBefore, rightAt, outputsIn, kindAt, inputsIn}
 use Rattle.elements.specs.Elements.{maxWires, kindNumber}
 use Rattle.elements.specs.declared.Kind.{Kind}
+use Rattle.plan.specs.Record.{maxInputs, maxOutputs}
+use Rattle.plan.specs.Rules.{countAllowed}
+use Rattle.fabric_sizes.specs.Layout.{outputWireAt, leftAt, wiresIn, header, rowStart, rowsIn, wiresBefore, rightAt, outputsIn, kindAt, inputsIn}
 
 -- a kind: 1 to 3
 unfoldable pub kindAllowed : ℕ → Bool

@@ -2,9 +2,9 @@
 ghost use mathlib.Core.Path.{_≡_};
 ghost use Prim.Native.Nat.{_+_, _*_, _≤_};
 ghost use lib.ListN.{length};
+ghost use Rattle.elements.specs.Elements.{maxWires};
 ghost use Rattle.blocks.specs.Elements.{stride};
 ghost use Rattle.fabric_sizes.specs.Layout.{header, rowStart, outputsIn, rowsIn};
-ghost use Rattle.elements.specs.Elements.{maxWires};
 ghost use Rattle.fabric_table_checks.specs.Counting.{CountsOf};
 use blocks::wide;
 use elements::FabricWire;

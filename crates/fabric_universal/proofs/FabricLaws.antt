@@ -14,25 +14,25 @@ use Rattle.lists.specs.Lists.{listOf, Below}
 use Rattle.lists.proofs.ListsLaws.{length-listOf, getD-listOf, listOf-ext, below-listOf}
 use Rattle.powers.specs.Powers.{ceilPower}
 use Rattle.powers.proofs.PowersLaws.{ceilLog-least}
-use Rattle.plan.specs.declared.record.Plan.{Plan}
-use Rattle.plan.specs.declared.record.PlanWire.{PlanWire}
-use Rattle.plan.specs.Record.{gateAt, outputAt}
-use Rattle.plan.specs.Faults.{CountsWithin}
-use Rattle.plan.proofs.AgreeLaws.{Agree}
 use Rattle.blocks.specs.Elements.{stride, flat, makes, total, MadeBefore, Totals, AreBits, bytesFor}
 use Rattle.blocks.proofs.ElementsLaws.{madeBefore-append, totals-append, length-flat, bits-append, length-pack}
 use Rattle.blocks.specs.Networks.{selectionLevel, selectionWires}
 use Rattle.blocks.proofs.NetworksLaws.{level-least, selection-count, selection-made, length-selectionRows, selection-totals, length-selectionOuts}
 use Rattle.blocks.proofs.NetworksLaws.{length-selectionBits, selectionBits-bits}
+use Rattle.blocks.proofs.PromisesLaws.{selection-block-shape}
+use Rattle.plan.specs.declared.record.Plan.{Plan}
+use Rattle.plan.specs.declared.record.PlanWire.{PlanWire}
+use Rattle.plan.specs.Record.{gateAt, outputAt}
+use Rattle.plan.specs.Faults.{CountsWithin}
+use Rattle.plan.proofs.AgreeLaws.{Agree}
 use Rattle.fabric_universal.specs.Selector.{pinCount, selection}
 use Rattle.fabric_universal.specs.Universal.{universalWires, Gates}
-use Rattle.fabric_universal.proofs.SelectorLaws.{double, selection-shape}
-use Rattle.fabric_universal.proofs.UniversalLaws.{length-universalRows, universal-totals, universal-below, length-universalBits, length-universalOuts}
-use Rattle.fabric_universal.proofs.UniversalLaws.{universalBits-bits, fed-below, Fed, universal-madeBefore, universal-takes, universal-count, universal-made}
 use Rattle.fabric_universal.specs.Fabric.{gateLevel, inputWires, fabricPins, universalNext, fabricOutputNext, gateOuts, fabricRows, fabricOuts, planProgram}
 use Rattle.fabric_universal.specs.Fabric.{fabricCount, fabricWires, fabricTakes, fabricTable, spareGate, paddedGate, gatesOf, planGates}
 use Rattle.fabric_universal.specs.Fabric.{wantedInput, wantedInputs, wantedOutputs, planBits}
-use Rattle.blocks.proofs.PromisesLaws.{selection-block-shape}
+use Rattle.fabric_universal.proofs.SelectorLaws.{double, selection-shape}
+use Rattle.fabric_universal.proofs.UniversalLaws.{length-universalRows, universal-totals, universal-below, length-universalBits, length-universalOuts}
+use Rattle.fabric_universal.proofs.UniversalLaws.{universalBits-bits, fed-below, Fed, universal-madeBefore, universal-takes, universal-count, universal-made}
 
 -- K is document 01's: the smallest power of two not below k
 pub gate-places : (k : ℕ) → 2 ^ gateLevel k ≡ ceilPower k

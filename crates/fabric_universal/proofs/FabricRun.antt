@@ -11,26 +11,26 @@ use lib.ListN.{length, getD}
 use Rattle.lists.specs.Lists.{listOf}
 use Rattle.lists.proofs.ListsLaws.{length-listOf, getD-listOf, listOf-ext}
 use Rattle.powers.proofs.PowersLaws.{ceilLog-fits}
+use Rattle.blocks.specs.Elements.{Row, makes, total, State, on, run, Delivered}
+use Rattle.blocks.proofs.ElementsLaws.{run-append, run-keeps, run-wires}
+use Rattle.blocks.specs.Networks.{mapping, Selected, selectionRows, selectionWires, selectionBits}
+use Rattle.blocks.proofs.NetworksLaws.{selection-totals, selected-at, selected-lt}
+use Rattle.blocks.proofs.PromisesLaws.{selection-block-delivers}
 use Rattle.plan.specs.declared.record.Plan.{Plan}
 use Rattle.plan.specs.Record.{outputAt}
 use Rattle.plan.specs.Faults.{Accepted}
 use Rattle.plan.proofs.FaultsLaws.{accepted-counts, accepted-output}
 use Rattle.plan_evaluation.specs.Evaluation.{planWires, planOutputs}
-use Rattle.blocks.specs.Elements.{Row, makes, total, State, on, run, Delivered}
-use Rattle.blocks.proofs.ElementsLaws.{run-append, run-keeps, run-wires}
-use Rattle.blocks.specs.Networks.{mapping, Selected, selectionRows, selectionWires, selectionBits}
-use Rattle.blocks.proofs.NetworksLaws.{selection-totals, selected-at, selected-lt}
-use Rattle.fabric_universal.proofs.Views.{View, views}
-use Rattle.fabric_universal.proofs.ViewsLaws.{views-append, views-none}
 use Rattle.fabric_universal.specs.Selector.{pinCount, selection}
 use Rattle.fabric_universal.specs.Universal.{universalRows, universalWires, wireOf, universalBits}
-use Rattle.fabric_universal.proofs.SelectorLaws.{selection-shape, selection-keeps}
-use Rattle.fabric_universal.proofs.UniversalRun.{gateView, Starts, Computes, universal-computes}
 use Rattle.fabric_universal.specs.Fabric.{gateLevel, inputWires, fabricPins, universalNext, fabricOutputNext, gateOuts, fabricRows, fabricOuts, fabricWires}
 use Rattle.fabric_universal.specs.Fabric.{planGates, wantedInput, wantedInputs, wantedOutputs, planBits}
+use Rattle.fabric_universal.proofs.Views.{View, views}
+use Rattle.fabric_universal.proofs.ViewsLaws.{views-append, views-none}
+use Rattle.fabric_universal.proofs.SelectorLaws.{selection-shape, selection-keeps}
+use Rattle.fabric_universal.proofs.UniversalRun.{gateView, Starts, Computes, universal-computes}
 use Rattle.fabric_universal.proofs.FabricLaws.{getD-inputWires, inputs-below, fabric-wires, pins-fed, gates-below, length-inputWires}
 use Rattle.fabric_universal.proofs.PlanValues.{operand-within, actOf, planValue, value-own, value-input, plan-values}
-use Rattle.blocks.proofs.PromisesLaws.{selection-block-delivers}
 use Rattle.fabric_universal.proofs.UniversalLaws.{length-universalOuts}
 
 -- ---- what the two selection networks are programmed for

@@ -10,16 +10,16 @@ use borrow.Author.Tests.{lt-ltb, le-ltb, le-leb, lt-leb}
 use lib.Dec.{leb}
 use lib.ListN.{length, getD, List·getD-append}
 use lib.Seq.{getD-at}
+use Rattle.blocks.specs.Elements.{operands, choose}
 use Rattle.plan.specs.declared.record.Plan.{Plan}
 use Rattle.plan.specs.Record.{gateAt, gateWire}
 use Rattle.plan.specs.Faults.{Accepted}
 use Rattle.plan.proofs.FaultsLaws.{accepted-counts, accepted-gate}
 use Rattle.plan_evaluation.specs.Evaluation.{valueOn, planWires}
 use Rattle.plan_evaluation.proofs.EvaluationLaws.{length-planWires}
-use Rattle.blocks.specs.Elements.{operands, choose}
 use Rattle.fabric_universal.specs.Universal.{tableProgram}
-use Rattle.fabric_universal.proofs.UniversalRun.{Values}
 use Rattle.fabric_universal.specs.Fabric.{spareGate, paddedGate, planGates}
+use Rattle.fabric_universal.proofs.UniversalRun.{Values}
 
 -- ---- evaluation
 

@@ -6,8 +6,8 @@ use native.Mathlib.Nat.{pow-suc}
 use native.Mathlib.Omega.{arith}
 use Rattle.blocks.specs.Networks.{selectionLevel}
 use Rattle.blocks.proofs.NetworksLaws.{level-power, selection-count, selection-made}
-use Rattle.fabric_universal.specs.Selector.{pinCount, SelectorShape, SelectorDelivers, selection}
 use Rattle.blocks.proofs.PromisesLaws.{selection-block-shape, selection-block-delivers}
+use Rattle.fabric_universal.specs.Selector.{pinCount, SelectorShape, SelectorDelivers, selection}
 
 -- twice the gates of a half
 pub double : (n : ℕ) → 2 ^ suc n ≡ 2 * 2 ^ n

@@ -7,18 +7,18 @@ use native.Mathlib.Nat.{mul-add, mul-assoc, mul-comm, mul-suc, suc-mul}
 use native.Mathlib.Omega.{arith}
 use lib.ListN.{length, getD, take, length-append}
 use lib.Seq.{getD-take}
+use lib.Pow.{pow-pos}
 use Rattle.lists.specs.Lists.{Below}
 use Rattle.lists.proofs.ListsLaws.{length-listOf, getD-listOf, below-append, below-more, below-pair}
+use Rattle.lists.proofs.CountingLaws.{one-lt}
 use Rattle.blocks.specs.Elements.{inputsOf, operands, gateBits, MadeBefore, made-none, made-more, Totals, AreBits}
 use Rattle.blocks.proofs.ElementsLaws.{madeBefore-append, totals-append, gate-totals, y-list, y-madeBefore, bits-append, bits-listOf}
-use Rattle.lists.proofs.CountingLaws.{one-lt}
 use Rattle.fabric_universal.specs.Selector.{pinCount, Selector, SelectorShape, selection}
-use Rattle.fabric_universal.proofs.SelectorLaws.{double, selection-shape, half-count, half-made}
 use Rattle.fabric_universal.specs.Universal.{mixRows, wiresFrom}
 use Rattle.fabric_universal.specs.Universal.{universalCount, universalWires, universalTakes, selectNext, mixNext, lowerHalfNext, universalOuts, selectedOuts}
 use Rattle.fabric_universal.specs.Universal.{lowerPins, universalRows, Gates, tableProgram, isOf, mixBits, universalBits}
+use Rattle.fabric_universal.proofs.SelectorLaws.{double, selection-shape, half-count, half-made}
 use Rattle.fabric_universal.proofs.UniversalProgram.{wanted-selected}
-use lib.Pow.{pow-pos}
 
 -- ---- what the closed forms need: K times (n + 1)², and twice the half's
 

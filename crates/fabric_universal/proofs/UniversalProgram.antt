@@ -10,9 +10,9 @@ use lib.Dec.{leb, ltb}
 use lib.ListN.{length, getD, List·getD-append}
 use Rattle.lists.specs.Lists.{listOf}
 use Rattle.lists.proofs.ListsLaws.{length-listOf, getD-listOf}
+use Rattle.lists.specs.Counting.{oneIf}
 use Rattle.blocks.specs.Elements.{operands, gateBits}
 use Rattle.blocks.specs.Networks.{mapping, Selected}
-use Rattle.lists.specs.Counting.{oneIf}
 use Rattle.blocks.proofs.NetworksLaws.{selected-at}
 use Rattle.fabric_universal.specs.Selector.{Selector}
 use Rattle.fabric_universal.specs.Universal.{Gates, wireOf, tableProgram, isOf, wantedGate, wantedGates, mixBits, universalBits}

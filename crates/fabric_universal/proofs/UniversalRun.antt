@@ -13,15 +13,15 @@ use lib.Pow.{pow-pos}
 use lib.Seq.{getD-append-add, getD-take, take-at, drop-at}
 use Rattle.lists.specs.Lists.{listOf}
 use Rattle.lists.proofs.ListsLaws.{listOf-ext}
+use Rattle.lists.specs.Counting.{oneIf}
 use Rattle.blocks.specs.Elements.{Row, Gate, tableBits, operands, gateBits, choose, State, on, outputs, step, run, Delivered}
 use Rattle.blocks.proofs.ElementsLaws.{run-append, run-keeps, run-wires, run-bits, run-gates, y-list, runY-made, runY-left, runY-at}
 use Rattle.blocks.specs.Networks.{mapping}
-use Rattle.lists.specs.Counting.{oneIf}
-use Rattle.fabric_universal.proofs.Views.{View, viewOf, views}
-use Rattle.fabric_universal.proofs.ViewsLaws.{views-append, views-none}
 use Rattle.fabric_universal.specs.Selector.{pinCount, Selector, SelectorShape, SelectorDelivers}
 use Rattle.fabric_universal.specs.Universal.{mixRows, universalWires, selectNext, mixNext, lowerHalfNext, universalOuts, selectedOuts, lowerPins}
 use Rattle.fabric_universal.specs.Universal.{universalRows, Gates, wireOf, tableProgram, isOf, wantedGates, mixBits, universalBits}
+use Rattle.fabric_universal.proofs.Views.{View, viewOf, views}
+use Rattle.fabric_universal.proofs.ViewsLaws.{views-append, views-none}
 use Rattle.fabric_universal.proofs.SelectorLaws.{double}
 use Rattle.fabric_universal.proofs.UniversalProgram.{not-of, wanted-selected, wants, mixBits-at, length-mixBits, program-parts, length-table}
 use Rattle.fabric_universal.proofs.UniversalLaws.{length-universalOuts, universal-below, universal-totals, length-universalBits}

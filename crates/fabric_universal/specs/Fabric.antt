@@ -6,11 +6,11 @@ use mathlib.Core.List.{List, _∷_, _++_}
 use lib.Dec.{leb, ltb}
 use Rattle.lists.specs.Lists.{listOf}
 use Rattle.powers.specs.Powers.{ceilLog}
+use Rattle.blocks.specs.Elements.{Row, operands, choose, flat, pack}
+use Rattle.blocks.specs.Networks.{selectionRows, selectionOuts, selectionWires, selectionCount, selectionBits}
 use Rattle.plan.specs.declared.record.Gate.{Gate}
 use Rattle.plan.specs.declared.record.Plan.{Plan}
 use Rattle.plan.specs.Record.{wire, gateAt, outputAt}
-use Rattle.blocks.specs.Elements.{Row, operands, choose, flat, pack}
-use Rattle.blocks.specs.Networks.{selectionRows, selectionOuts, selectionWires, selectionCount, selectionBits}
 use Rattle.fabric_universal.specs.Selector.{pinCount, selection}
 use Rattle.fabric_universal.specs.Universal.{universalRows, universalOuts, universalWires, universalCount, universalTakes, Gates, universalBits}
 

@@ -6,8 +6,8 @@ use mathlib.Core.List.{List, [], _∷_, _++_}
 use lib.Dec.{leb, ltb}
 use lib.ListN.{getD, take}
 use Rattle.lists.specs.Lists.{listOf}
-use Rattle.blocks.specs.Elements.{Row, Y, Gate, operands, gateBits, bitOf}
 use Rattle.lists.specs.Counting.{oneIf}
+use Rattle.blocks.specs.Elements.{Row, Y, Gate, operands, gateBits, bitOf}
 use Rattle.fabric_universal.specs.Selector.{pinCount, Selector}
 
 -- ---- rows

@@ -11,8 +11,8 @@ use Rattle.lists.proofs.ListsLaws.{length-listOf}
 use Rattle.fault.specs.declared.Fault.{Fault}
 use Rattle.fault.specs.declared.Answer.{Answer}
 use Rattle.fault.specs.Number.{faultNumber, answerNumber}
-use Rattle.fault.proofs.ChecksLaws.{number-positive, answer-passes, answer-refuses}
 use Rattle.fault.specs.Buffers.{over, filled}
+use Rattle.fault.proofs.ChecksLaws.{number-positive, answer-passes, answer-refuses}
 
 -- one entry more
 pub over-more : {A : Type 0} (new old : List A) (x : A) → length new < length old → set (over new old) (length new) x ≡ over (new ++ (x ∷ [])) old

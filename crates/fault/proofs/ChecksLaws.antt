@@ -6,14 +6,14 @@ use lib.Dec.{lit≤, eqb, leb}
 use Prim.Native.Nat.{ℕ, zero, suc, _<_, _≤_}
 use native.Mathlib.Omega.{arith}
 use native.Mathlib.Decide.{ℕ-discrete}
+use mathlib.Core.List.{List}
+use borrow.Author.Tests.{eqb-true, eq-eqb, le-leb, lt-leb, leb-true}
+use lib.ListN.{length}
 use Rattle.fault.specs.declared.Fault.{Fault}
 use Rattle.fault.specs.declared.Fault.the-variants.{Stub, Inputs, Gates, Outputs, Cut, Map, Operand, Table, Source, Tail, Short, Contact, Fabric, Program}
 use Rattle.fault.specs.declared.Answer.{Answer}
 use Rattle.fault.specs.Number.{faultNumber, answerNumber}
 use Rattle.fault.specs.Checks.{unless, andThen, firstOf, roomFault, listFault}
-use mathlib.Core.List.{List}
-use borrow.Author.Tests.{eqb-true, eq-eqb, le-leb, lt-leb, leb-true}
-use lib.ListN.{length}
 
 -- no word has the number 0
 pub number-positive : (f : Fault) → 1 ≤ faultNumber f

@@ -2,10 +2,10 @@
 use Prim.Native.Nat.{ℕ, zero, suc}
 use mathlib.Core.Bool.{Bool, cond}
 use lib.Dec.{leb, eqb}
-use Rattle.fault.specs.declared.Fault.{Fault}
-use Rattle.fault.specs.Number.{faultNumber}
 use mathlib.Core.List.{List}
 use lib.ListN.{length}
+use Rattle.fault.specs.declared.Fault.{Fault}
+use Rattle.fault.specs.Number.{faultNumber}
 
 -- the fault's number unless the test holds
 abbrev pub unless : Bool → Fault → ℕ

@@ -2,19 +2,11 @@
 use Prim.Native.Nat.{ℕ}
 use mathlib.Core.List.{List, [], _∷_, _++_}
 use lib.ListN.{length, replicate}
-use Rattle.plan.specs.declared.record.Gate.{Gate}
-use Rattle.plan.specs.declared.record.PlanWire.{PlanWire}
-use Rattle.plan.specs.declared.record.Plan.{Plan}
-use Rattle.plan.specs.Record.{places, zeroPlan}
-use Rattle.plan.specs.Rules.{countAllowed, mapAllowed, operandAllowed, tableAllowed, sourceAllowed}
-use Rattle.plan_fields.specs.Parsing.{field, inOrder}
-use Rattle.plan_fields.specs.Fields.{gateStep}
-use Rattle.plan_reading.specs.PlanFile.{notStub, atEnd, planFile, ReadOutcome, planRead}
 use Rattle.lists.specs.Lists.{listOf}
 use Rattle.fault.specs.Checks.{firstOf, roomFault, listFault}
-use Rattle.plan.specs.Faults.{countsFault, gateFault, outputFault, planFault}
 use Rattle.powers.specs.Powers.{firstFit, ceilLog, ceilPower}
 use Rattle.block_elements.specs.Bits.{setBit, storeBits, pack}
+use Rattle.block_elements.specs.Rows.{entries}
 use Rattle.block_networks.specs.Permutation.{permutationCount}
 use Rattle.block_networks.specs.Wanted.{wantedBits}
 use Rattle.block_networks.specs.Selection.{selectionLevel, wholeCount, wholeWires, selectionCount, selectionWires, selectionBits}
@@ -23,13 +15,21 @@ use Rattle.block_program_checks.specs.Bits.{bitsFault}
 use Rattle.block_program_checks.specs.Checks.{selectedFault, notAmong, twiceFault, sourceFault, wantedFault, programFault, selectionWantedFault, selectionProgramFault}
 use Rattle.block_permutation_bits.specs.ProgramCalls.{programResult}
 use Rattle.block_selection_bits.specs.ProgramCalls.{selectionProgramResult}
-use Rattle.block_elements.specs.Rows.{entries}
+use Rattle.plan.specs.declared.record.Gate.{Gate}
+use Rattle.plan.specs.declared.record.PlanWire.{PlanWire}
+use Rattle.plan.specs.declared.record.Plan.{Plan}
+use Rattle.plan.specs.Record.{places, zeroPlan}
+use Rattle.plan.specs.Rules.{countAllowed, mapAllowed, operandAllowed, tableAllowed, sourceAllowed}
+use Rattle.plan.specs.Faults.{countsFault, gateFault, outputFault, planFault}
+use Rattle.plan_fields.specs.Parsing.{field, inOrder}
+use Rattle.plan_fields.specs.Fields.{gateStep}
+use Rattle.plan_reading.specs.PlanFile.{notStub, atEnd, planFile, ReadOutcome, planRead}
 use Rattle.fabric_universal.specs.Universal.{universalCount, universalWires, universalTakes}
 use Rattle.fabric_universal.specs.Fabric.{fabricCount, fabricWires, fabricTakes}
 use Rattle.fabric_sizes.specs.Counting.{counting}
-use Rattle.fabric_rows.specs.FabricCalls.{fabricResult}
 use Rattle.fabric_sizes.specs.FabricChecks.{fabricFault, planProgramFault}
 use Rattle.fabric_bits.specs.ProgramCalls.{planProgramResult}
+use Rattle.fabric_rows.specs.FabricCalls.{fabricResult}
 use Rattle.figures.specs.Figure.{Figure}
 
 -- a record as a row of numbers: the counts, every gate's place, every output's place
@@ -73,7 +73,7 @@ selects m n wanted bits = record {
   stated = 0 ∷ (bits ++ pack bits);
 }
 
--- the fabric of three counts has so many rows, wires and program bits
+-- the fabric of three counts has these numbers of rows, wires and program bits
 unfoldable pub counts : ℕ → ℕ → ℕ → ℕ → ℕ → ℕ → Figure
 unfolding countAllowed countsFault fabricCount fabricWires fabricTakes universalCount universalWires universalTakes selectionLevel wholeCount
     wholeWires selectionCount selectionWires permutationCount
@@ -82,7 +82,7 @@ counts u k v rows wires bits = record {
   stated = 0 ∷ rows ∷ wires ∷ bits ∷ [];
 }
 
--- writing the fabric of three counts succeeds in an empty table of so many entries, and makes it these entries
+-- writing the fabric of three counts succeeds in a table of zeros that is as long as these entries, and makes it these
 unfoldable pub fabricates : ℕ → ℕ → ℕ → List ℕ → Figure
 unfolding fabricFault roomFault
 fabricates u k v entries = record {

@@ -1,4 +1,4 @@
--- Counting the numbers that pass a test, and finding the one that passes after so many others.
+-- Counting the numbers that pass a test, and finding the n-th of them.
 use Prim.Native.Nat.{ℕ, zero, suc, _+_}
 use mathlib.Core.Bool.{Bool, cond, _&&_}
 use lib.Dec.{eqb}

@@ -10,8 +10,8 @@ use Rattle.plan.specs.declared.record.Gate.{Gate}
 use Rattle.plan.specs.declared.record.Plan.{Plan}
 use Rattle.plan.specs.Record.{maxInputs, maxGates, maxOutputs, gateAt, outputAt, gateWire}
 use Rattle.plan.specs.Rules.{countAllowed, operandAllowed, maxTable, tableAllowed, sourceAllowed}
-use Rattle.plan.proofs.RulesLaws.{count-bounds, operand-bounds, table-bound, source-bounds}
 use Rattle.plan.specs.Faults.{countsFault, gateFault, outputFault, planFault, Accepted, CountsWithin}
+use Rattle.plan.proofs.RulesLaws.{count-bounds, operand-bounds, table-bound, source-bounds}
 
 -- the gate whose own wire is `own` has allowed operands and an allowed table
 pub record AllowedGate (own : ℕ) (g : Gate) : Type 0 where

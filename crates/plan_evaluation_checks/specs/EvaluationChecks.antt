@@ -3,11 +3,11 @@ use Prim.Native.Nat.{ℕ}
 use mathlib.Core.List.{List}
 use lib.Dec.{leb, eqb}
 use lib.ListN.{length, getD}
+use mathlib.Core.Path.{_≡_}
 use Rattle.fault.specs.declared.Fault.{Fault}
 use Rattle.fault.specs.Checks.{unless, andThen, firstOf, roomFault}
 use Rattle.plan.specs.declared.record.Plan.{Plan}
 use Rattle.plan.specs.Faults.{planFault, Accepted}
-use mathlib.Core.Path.{_≡_}
 
 -- 12: the row is not of length u, or an entry is not 0 or 1
 unfoldable pub contactFault : ℕ → List ℕ → ℕ

@@ -16,8 +16,8 @@ use Rattle.lists.specs.Lists.{listOf}
 use Rattle.fault.specs.declared.Fault.{Fault}
 use Rattle.fault.proofs.ChecksLaws.{number-positive}
 use Rattle.plan_fields.specs.Parsing.{Parsed, got, refused, Step, followed, field, wordAt, byteAt, standing, inOrder}
-use Rattle.plan_files.proofs.ListLaws.{joined-same}
 use Rattle.plan_files.specs.Encoding.{byte, word, joinedBytes, whereStanding, OfBytes}
+use Rattle.plan_files.proofs.ListLaws.{joined-same}
 
 -- the bytes e stand in s from the cursor `at` to the cursor `next`
 pub record BytesStand (s : List ℕ) (at : ℕ) (e : List ℕ) (next : ℕ) : Type 0 where

@@ -9,11 +9,11 @@ use Rattle.fault.proofs.ChecksLaws.{stop, _then_}
 use Rattle.plan_evaluation_checks.specs.EvaluationChecks.{contactFault}
 use Rattle.fabric_sizes.specs.Layout.{inputsIn, bitsIn}
 use Rattle.fabric_table_checks.specs.TableFault.{tableFault, WellFormed}
-use Rattle.fabric_run_checks.specs.RunFault.{givenProgramFault, roomsFault, runFault}
 use Rattle.fabric_table_checks.proofs.TableFaultLaws.{table-faultless}
 use Rattle.fabric_table_checks.specs.Counting.{maxBits}
 use Rattle.fabric_table_checks.specs.Checking.{checkOutcome}
 use Rattle.fabric_table_checks.proofs.CheckingLaws.{refused-by, CountedBy, counted-by}
+use Rattle.fabric_run_checks.specs.RunFault.{givenProgramFault, roomsFault, runFault}
 use Rattle.fabric_run_checks.proofs.check_run.Statement.{statement}
 use Rattle.fabric_run_checks.proofs.check_run.Tie as tie
 

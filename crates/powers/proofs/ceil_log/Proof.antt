@@ -3,9 +3,9 @@
 use native.Mathlib.Omega.{arith}
 use Prim.Native.Nat.{_-_}
 use lib.Count.{leading-le, leading-length}
+use borrow.Author.Needs.{needs}
 use Rattle.powers.specs.Powers.{ceilLog, firstFit}
 use Rattle.powers.proofs.PowersLaws.{ceilLog-between}
-use borrow.Author.Needs.{needs}
 use Rattle.powers.proofs.ceil_log.Statement.{statement}
 use Rattle.powers.proofs.ceil_log.Tie as tie
 

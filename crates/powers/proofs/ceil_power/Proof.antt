@@ -5,9 +5,9 @@ use Prim.Native.Nat.{_^_, _≤_}
 use native.Mathlib.Nat.{one-mul}
 use lib.Pow.{shl-exact}
 use lib.Dec.{lit<}
+use borrow.Author.Needs.{needs}
 use Rattle.powers.specs.Powers.{ceilPower}
 use Rattle.powers.proofs.PowersLaws.{ceilLog-least}
-use borrow.Author.Needs.{needs}
 use Rattle.powers.proofs.ceil_power.Statement.{statement}
 use Rattle.powers.proofs.ceil_power.Tie as tie
 

@@ -6,8 +6,8 @@ use borrow.Author.Needs.{needs}
 use lib.ListN.{length, getD, length-set}
 use lib.Seq.{sets}
 use Rattle.lists.specs.Lists.{listOf}
-use Rattle.block_loops.specs.Mappings.{halfEntry}
 use Rattle.block_bits.proofs.StoreLaws.{set-none, set-step}
+use Rattle.block_loops.specs.Mappings.{halfEntry}
 use Rattle.block_permutation_bits.proofs.level.half_map.Statement.{statement}
 use Rattle.block_permutation_bits.proofs.level.half_map.Tie as tie
 

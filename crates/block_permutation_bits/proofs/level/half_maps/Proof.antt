@@ -5,8 +5,8 @@ use borrow.Author.Needs.{needs}
 use lib.ListN.{length}
 use lib.Seq.{sets}
 use Rattle.lists.proofs.ListsLaws.{length-listOf}
-use Rattle.block_loops.specs.Mappings.{halfList, halfEntry}
 use Rattle.block_bits.proofs.StoreLaws.{sets-halves}
+use Rattle.block_loops.specs.Mappings.{halfList, halfEntry}
 use Rattle.block_permutation_bits.proofs.level.half_maps.Statement.{statement}
 use Rattle.block_permutation_bits.proofs.level.half_maps.Tie as tie
 

@@ -6,8 +6,8 @@ use borrow.Author.Needs.{needs}
 use lib.ListN.{length}
 use Rattle.lists.specs.Lists.{listOf}
 use Rattle.block_elements.specs.Bits.{storeBits}
-use Rattle.block_loops.specs.Mappings.{outputSide}
 use Rattle.block_bits.proofs.StoreLaws.{store-none, store-step}
+use Rattle.block_loops.specs.Mappings.{outputSide}
 use Rattle.block_permutation_bits.proofs.level.store_output_bits.Statement.{statement}
 use Rattle.block_permutation_bits.proofs.level.store_output_bits.Tie as tie
 

@@ -7,10 +7,10 @@ use lib.ListN.{length}
 use Rattle.fault.proofs.ChecksLaws.{answer-passes, answer-refuses}
 use Rattle.fault.proofs.BuffersLaws.{filled-refused, is-filled}
 use Rattle.block_elements.specs.Bits.{bytesFor}
+use Rattle.block_bits.proofs.StoreLaws.{store-cleared}
 use Rattle.block_networks.specs.Wanted.{wantedBits}
 use Rattle.block_networks.proofs.WantedLaws.{length-wantedBits}
 use Rattle.block_sizes.specs.Sizes.{levelOf}
-use Rattle.block_bits.proofs.StoreLaws.{store-cleared}
 use Rattle.block_program_checks.specs.Checks.{programAtFault}
 use Rattle.block_program_checks.proofs.ChecksLaws.{ProgramPasses, program-passes, fault-at}
 use Rattle.block_permutation_bits.proofs.programming.program_permutation.Statement.{statement}

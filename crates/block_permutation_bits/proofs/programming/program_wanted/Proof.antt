@@ -8,9 +8,9 @@ use borrow.Rule.Slice.PartMut.{midOf, putMid}
 use lib.ListN.{length, take, replicate}
 use lib.Seq.{length-take-le}
 use Rattle.block_elements.specs.Bits.{storeBits}
+use Rattle.block_bits.proofs.StoreLaws.{store-from-byte}
 use Rattle.block_networks.specs.Wanted.{wantedBits}
 use Rattle.block_sizes.specs.Sizes.{maxSize, levelOf}
-use Rattle.block_bits.proofs.StoreLaws.{store-from-byte}
 use Rattle.block_loops.specs.Mappings.{listBits}
 use Rattle.block_program_checks.proofs.ChecksLaws.{few-bits}
 use Rattle.block_permutation_bits.proofs.ProgramLaws.{front-perm, front-bits}

@@ -3,8 +3,8 @@ use native.Mathlib.Omega.{arith}
 use mathlib.Core.Path.{ap, _∙_}
 use borrow.Author.Needs.{needs}
 use Rattle.fault.specs.Buffers.{over, partOf}
-use Rattle.block_elements.specs.Rows.{flat}
 use Rattle.elements.specs.declared.Kind.{Kind}
+use Rattle.block_elements.specs.Rows.{flat}
 use Rattle.block_rows.proofs.RowsLaws.{length-pairRows, rows-put}
 use Rattle.block_permutation_rows.proofs.HalvesLaws.{gap-rows}
 use Rattle.block_permutation_rows.proofs.level.put_switches.Statement.{statement}

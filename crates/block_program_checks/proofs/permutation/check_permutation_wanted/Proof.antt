@@ -2,8 +2,8 @@
 use mathlib.Core.Path.{sym, _∙_}
 use borrow.Author.Needs.{needs}
 use borrow.Author.Tests.{eq-eqb, ne-eqb, not-true, not-false}
-use Rattle.block_sizes.proofs.SizesLaws.{size-is}
 use Rattle.fault.specs.Checks.{listFault}
+use Rattle.block_sizes.proofs.SizesLaws.{size-is}
 use Rattle.block_program_checks.specs.Checks.{wantedFault}
 use Rattle.block_program_checks.proofs.permutation.check_permutation_wanted.Statement.{statement}
 use Rattle.block_program_checks.proofs.permutation.check_permutation_wanted.Tie as tie

@@ -3,8 +3,8 @@ use mathlib.Core.Path.{_≡_}
 use borrow.Author.Needs.{needs}
 use borrow.Author.Tests.{eq-eqb, ne-eqb}
 use Rattle.fault.proofs.ChecksLaws.{stop, _then_, answer-passes, answer-refuses}
-use Rattle.block_sizes.specs.Sizes.{selectionSizesFault}
 use Rattle.fault.specs.Checks.{listFault}
+use Rattle.block_sizes.specs.Sizes.{selectionSizesFault}
 use Rattle.block_program_checks.specs.Checks.{selectionWantedFault}
 use Rattle.block_program_checks.proofs.selection.check_selection_wanted.Statement.{statement}
 use Rattle.block_program_checks.proofs.selection.check_selection_wanted.Tie as tie

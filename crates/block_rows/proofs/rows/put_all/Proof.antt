@@ -6,8 +6,8 @@ use Prim.Native.Nat.{_+_, _*_, _-_, _^_, _≤_}
 use lib.ListN.{length, getD}
 use borrow.Author.Needs.{needs}
 use borrow.Rule.Slice.PartMut.{mid-len}
-use Rattle.fault.specs.Buffers.{partOf, over}
 use Rattle.lists.specs.Lists.{listOf}
+use Rattle.fault.specs.Buffers.{partOf, over}
 use Rattle.block_elements.specs.Rows.{stride, flat}
 use Rattle.block_rows.specs.Rows.{pairRows}
 use Rattle.block_rows.proofs.RowsLaws.{row-on, pairs-more}

@@ -6,9 +6,9 @@ use Prim.Native.Nat.{ℕ, _%_, _<_, _≤_}
 use borrow.Author.Tests.{le-leb, lt-leb}
 use lib.ListN.{length, set, length-set}
 use borrow.Author.Needs.{needs}
-use Rattle.block_elements.specs.Rows.{stride}
 use Rattle.fault.specs.Buffers.{over}
 use Rattle.elements.specs.Elements.{maxWires}
+use Rattle.block_elements.specs.Rows.{stride}
 use Rattle.block_rows.specs.Rows.{rowPut}
 use Rattle.block_rows.proofs.rows.put_row.Statement.{statement}
 use Rattle.block_rows.proofs.rows.put_row.Tie as tie

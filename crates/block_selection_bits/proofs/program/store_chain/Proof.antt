@@ -5,8 +5,8 @@ use native.Mathlib.Omega.{arith}
 use borrow.Author.Needs.{needs}
 use lib.ListN.{length, getD}
 use Rattle.lists.specs.Lists.{listOf}
-use Rattle.block_elements.specs.Bits.{storeBits}
 use Rattle.lists.proofs.CountingLaws.{one-lt}
+use Rattle.block_elements.specs.Bits.{storeBits}
 use Rattle.block_bits.proofs.StoreLaws.{store-none, store-step}
 use Rattle.block_selection_bits.specs.Arrays.{isCounted, chainBitBy}
 use Rattle.block_selection_bits.proofs.program.store_chain.Statement.{statement}

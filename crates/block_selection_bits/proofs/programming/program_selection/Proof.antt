@@ -7,9 +7,9 @@ use lib.ListN.{length}
 use Rattle.fault.proofs.ChecksLaws.{answer-passes, answer-refuses}
 use Rattle.fault.proofs.BuffersLaws.{filled-refused, is-filled}
 use Rattle.block_elements.specs.Bits.{bytesFor}
+use Rattle.block_bits.proofs.StoreLaws.{store-cleared}
 use Rattle.block_networks.specs.Selection.{selectionBits}
 use Rattle.block_networks.proofs.SelectionRouting.{length-selectionBits}
-use Rattle.block_bits.proofs.StoreLaws.{store-cleared}
 use Rattle.block_program_checks.specs.Checks.{selectionProgramAtFault, SelectionPasses}
 use Rattle.block_program_checks.proofs.ChecksLaws.{selection-program-passes, selection-fault-at}
 use Rattle.block_selection_bits.proofs.programming.program_selection.Statement.{statement}

@@ -5,8 +5,8 @@ use native.Mathlib.Omega.{arith}
 use borrow.Author.Needs.{needs}
 use lib.ListN.{length}
 use Rattle.fault.proofs.ChecksLaws.{answer-passes, answer-refuses}
-use Rattle.block_networks.specs.Selection.{selectionBits}
 use Rattle.block_bits.proofs.StoreLaws.{store-from-byte}
+use Rattle.block_networks.specs.Selection.{selectionBits}
 use Rattle.block_program_checks.proofs.BitsLaws.{stored-refused, stored-done}
 use Rattle.block_program_checks.specs.Checks.{selectionProgramAtFault, SelectionPasses}
 use Rattle.block_program_checks.proofs.ChecksLaws.{selection-program-passes}

@@ -6,9 +6,9 @@ use borrow.Author.Needs.{needs}
 use borrow.Author.Tests.{ne-eqb}
 use Rattle.fault.specs.Number.{answerNumber}
 use Rattle.fault.proofs.ChecksLaws.{stop, _then_, list-faultless, answer-passes, answer-refuses}
+use Rattle.fault.specs.Checks.{listFault}
 use Rattle.block_networks.specs.Selection.{selectionCount, selectionWires}
 use Rattle.block_sizes.proofs.SizesLaws.{few-wires, rows-make}
-use Rattle.fault.specs.Checks.{listFault}
 use Rattle.block_write_checks.specs.Wires.{wiresFault, buffersFault}
 use Rattle.block_write_checks.proofs.selection.check_wires_and_room.Statement.{statement}
 use Rattle.block_write_checks.proofs.selection.check_wires_and_room.Tie as tie

@@ -3,8 +3,8 @@ use native.Mathlib.Omega.{arith}
 use Prim.Native.Nat.{_*_, _<_, _≤_}
 use borrow.Author.Needs.{needs}
 use borrow.Author.Tests.{le-leb, lt-leb}
-use Rattle.block_elements.specs.Rows.{stride}
 use Rattle.fault.specs.Checks.{roomFault}
+use Rattle.block_elements.specs.Rows.{stride}
 use Rattle.block_write_checks.specs.Wires.{buffersFault}
 use Rattle.block_write_checks.proofs.wires.check_room.Statement.{statement}
 use Rattle.block_write_checks.proofs.wires.check_room.Tie as tie

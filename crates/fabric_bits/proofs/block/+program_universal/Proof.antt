@@ -11,14 +11,14 @@ use lib.ListN.{length}
 use lib.Pow.{pow-pos}
 use Rattle.blocks.specs.Elements.{storeBits}
 use Rattle.fabric_universal.specs.Fabric.{gateLevel}
-use Rattle.fabric_sizes.proofs.PartsLaws.{halved}
 use Rattle.fabric_lists.specs.WantedLists.{listedGates, listedOperands}
+use Rattle.fabric_lists.proofs.store_table.Reads as store-table-reads
+use Rattle.fabric_sizes.proofs.PartsLaws.{halved}
 use Rattle.fabric_bits.proofs.UniversalBitsLaws.{takes-half, upper-program-room, between-room, lower-program-room, length-between, between-listed, gate-takes, gate-stored, halves-stored}
 use Rattle.fabric_bits.proofs.block.program_universal.Reads as program-universal
 use Rattle.fabric_bits.proofs.block.program_universal.Kinds as program-universal-kinds
 use Rattle.fabric_bits.proofs.block.+program_universal.Lts-program_universal as program-universal-lts
 use Rattle.fabric_bits.proofs.block.program_between.Reads as program-between-reads
-use Rattle.fabric_lists.proofs.store_table.Reads as store-table-reads
 use Rattle.fabric_bits.proofs.block.+program_universal.{statement}
 use Rattle.fabric_bits.proofs.block.+program_universal.Tie.{close}
 

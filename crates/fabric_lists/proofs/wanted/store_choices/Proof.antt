@@ -6,9 +6,9 @@ use native.Mathlib.Omega.{arith}
 use borrow.Author.Needs.{needs}
 use lib.ListN.{length, getD}
 use Rattle.lists.specs.Lists.{listOf}
-use Rattle.blocks.specs.Elements.{storeBits}
 use Rattle.lists.specs.Counting.{oneIf}
 use Rattle.lists.proofs.CountingLaws.{one-lt}
+use Rattle.blocks.specs.Elements.{storeBits}
 use Rattle.blocks.proofs.ElementsLaws.{store-none, store-step}
 use Rattle.fabric_universal.specs.Universal.{isOf, mixBits}
 use Rattle.fabric_lists.specs.WantedLists.{listedOperands}

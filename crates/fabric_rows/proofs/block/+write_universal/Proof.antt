@@ -10,6 +10,7 @@ use borrow.Fn.PlainCycle.{Measures, is, falls, and}
 use lib.ListN.{length}
 use Rattle.fault.specs.Buffers.{withPart}
 use Rattle.fault.proofs.PartsLaws.{length-with}
+use Rattle.fabric_parts.proofs.write_gate.Reads as write-gate-reads
 use Rattle.fabric_rows.specs.declared.block.UniversalParts.{UniversalParts}
 use Rattle.fabric_rows.proofs.UniversalWriteLaws.{UniversalWritten, UniversalBegun, UpperDone, MiddleDone, LowerDone}
 use Rattle.fabric_rows.proofs.UniversalWriteLaws.{upper-write-room, middle-room, select-start, outs-start, lower-start, pins-start, lower-write-room, universal-written, gate-written}
@@ -17,7 +18,6 @@ use Rattle.fabric_rows.proofs.block.write_universal.Reads as write-univ
 use Rattle.fabric_rows.proofs.block.write_universal.Kinds as write-universal-kinds
 use Rattle.fabric_rows.proofs.block.+write_universal.Lts-write_universal as write-universal-lts
 use Rattle.fabric_rows.proofs.block.universal_parts.Reads as universal-parts-reads
-use Rattle.fabric_parts.proofs.write_gate.Reads as write-gate-reads
 use Rattle.fabric_rows.proofs.block.write_middle.Reads as write-middle-reads
 use Rattle.fabric_rows.proofs.block.+write_universal.{statement}
 use Rattle.fabric_rows.proofs.block.+write_universal.Tie.{close}

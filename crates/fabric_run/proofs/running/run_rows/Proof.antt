@@ -9,8 +9,8 @@ use mir.Val.{Fits}
 use mir.Facts.{fits-below}
 use lib.Dec.{lit<}
 use lib.ListN.{length, getD}
-use Rattle.blocks.specs.Elements.{stride, gateBits}
 use Rattle.elements.specs.Elements.{maxWires}
+use Rattle.blocks.specs.Elements.{stride, gateBits}
 use Rattle.fabric_sizes.specs.Layout.{header, inputsPlace, rowsPlace, rowStart, rowsIn, kindAt}
 use Rattle.fabric_table_checks.specs.TableFault.{WellFormed}
 use Rattle.fabric_table_checks.proofs.CountingLaws.{counted-first, counted-few, Countable}

@@ -3,9 +3,9 @@ use native.Mathlib.Omega.{arith}
 use mathlib.Core.Path.{_≡_, sym, ap, _∙_}
 use borrow.Author.Needs.{needs}
 use Rattle.fault.specs.Number.{answerNumber}
+use Rattle.elements.proofs.CountLaws.{refused-counts, given-counts}
 use Rattle.plan.specs.Faults.{countsFault, CountsWithin}
 use Rattle.plan.proofs.FaultsLaws.{counts-within}
-use Rattle.elements.proofs.CountLaws.{refused-counts, given-counts}
 use Rattle.fabric_sizes.proofs.counting.count_fabric.Statement.{statement}
 use Rattle.fabric_sizes.proofs.counting.count_fabric.Tie as tie
 

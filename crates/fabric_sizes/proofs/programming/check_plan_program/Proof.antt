@@ -1,7 +1,7 @@
 -- `fabric_sizes::programming::check_plan_program` meets its contract: plan faults first, then 11. Assumes nothing.
 use borrow.Author.Needs.{needs}
-use Rattle.fabric_sizes.specs.FabricChecks.{planProgramFault}
 use Rattle.fault.proofs.ChecksLaws.{answer-passes, answer-refuses, room-passes, room-refuses, _then_, stop}
+use Rattle.fabric_sizes.specs.FabricChecks.{planProgramFault}
 use Rattle.fabric_sizes.proofs.programming.check_plan_program.Statement.{statement}
 use Rattle.fabric_sizes.proofs.programming.check_plan_program.Tie as tie
 

@@ -2,10 +2,10 @@
 use native.Mathlib.Omega.{arith}
 use mathlib.Core.Path.{sym}
 use borrow.Author.Needs.{needs}
+use Rattle.fault.proofs.ChecksLaws.{answer-passes, answer-refuses, room-passes, room-refuses, _then_, stop}
 use Rattle.plan.specs.Faults.{CountsWithin}
 use Rattle.plan.proofs.FaultsLaws.{counts-within}
 use Rattle.fabric_sizes.specs.FabricChecks.{fabricFault}
-use Rattle.fault.proofs.ChecksLaws.{answer-passes, answer-refuses, room-passes, room-refuses, _then_, stop}
 use Rattle.fabric_sizes.proofs.writing.check_fabric.Statement.{statement}
 use Rattle.fabric_sizes.proofs.writing.check_fabric.Tie as tie
 

@@ -7,8 +7,8 @@ use borrow.Author.Tests.{le-leb, lt-leb}
 use Rattle.fault.specs.Number.{answerNumber}
 use Rattle.fault.specs.Checks.{firstOf}
 use Rattle.fault.proofs.ChecksLaws.{stop, _then_}
-use Rattle.fabric_sizes.specs.Layout.{outputsIn, wiresIn}
 use Rattle.elements.specs.Elements.{maxWires}
+use Rattle.fabric_sizes.specs.Layout.{outputsIn, wiresIn}
 use Rattle.fabric_table_checks.specs.TableFault.{outputWireFault}
 use Rattle.fabric_table_checks.proofs.checking.check_end.Statement.{statement}
 use Rattle.fabric_table_checks.proofs.checking.check_end.Tie as tie

@@ -9,8 +9,8 @@ use lib.ListN.{getD}
 use Rattle.fault.specs.Number.{answerNumber}
 use Rattle.fault.specs.Checks.{firstOf}
 use Rattle.fault.proofs.ChecksLaws.{next-passes, first-fails, number-positive}
-use Rattle.fabric_sizes.specs.Layout.{rowsIn}
 use Rattle.elements.specs.Elements.{maxWires}
+use Rattle.fabric_sizes.specs.Layout.{rowsIn}
 use Rattle.fabric_table_checks.specs.TableFault.{rowFault}
 use Rattle.fabric_table_checks.specs.Counting.{CountsOf}
 use Rattle.fabric_table_checks.proofs.CountingLaws.{CountedBefore, Countable, counted-first, counted-one-more, counted-few}

@@ -10,9 +10,9 @@ use Rattle.fault.specs.Checks.{firstOf}
 use Rattle.fault.proofs.ChecksLaws.{stop, _then_}
 use Rattle.fabric_sizes.specs.Layout.{rowsIn}
 use Rattle.fabric_table_checks.specs.TableFault.{headerFault, rowFault, tableFault}
-use Rattle.fabric_table_checks.proofs.TableFaultLaws.{header-faultless}
 use Rattle.fabric_table_checks.specs.Counting.{maxBits}
 use Rattle.fabric_table_checks.specs.Checking.{checkOutcome}
+use Rattle.fabric_table_checks.proofs.TableFaultLaws.{header-faultless}
 use Rattle.fabric_table_checks.proofs.CheckingLaws.{refused-table, refused-by, counted-table, CountedBy, counted-by}
 use Rattle.fabric_table_checks.proofs.checking.check_table.Statement.{statement}
 use Rattle.fabric_table_checks.proofs.checking.check_table.Tie as tie

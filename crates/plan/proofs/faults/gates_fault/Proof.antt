@@ -9,8 +9,8 @@ use Rattle.fault.specs.Number.{answerNumber}
 use Rattle.fault.specs.Checks.{firstOf}
 use Rattle.fault.proofs.ChecksLaws.{next-passes, first-fails, number-positive, answer-passes, answer-refuses}
 use Rattle.plan.specs.Record.{gateAt, gateWire}
-use Rattle.plan.proofs.RecordLaws.{wire-fits}
 use Rattle.plan.specs.Faults.{gateFault, gatesFault}
+use Rattle.plan.proofs.RecordLaws.{wire-fits}
 use Rattle.plan.proofs.faults.gates_fault.Statement.{statement}
 use Rattle.plan.proofs.faults.gates_fault.Tie as tie
 

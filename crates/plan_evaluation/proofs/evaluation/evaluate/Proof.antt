@@ -6,8 +6,8 @@ use Rattle.fault.proofs.ChecksLaws.{answer-passes, answer-refuses}
 use Rattle.fault.specs.Buffers.{over}
 use Rattle.fault.proofs.BuffersLaws.{filled-refused, filled-done}
 use Rattle.plan_evaluation_checks.specs.EvaluationChecks.{evaluateFault}
-use Rattle.plan_evaluation.specs.Evaluation.{namedBy}
 use Rattle.plan_evaluation_checks.proofs.EvaluationChecksLaws.{evaluation-passes}
+use Rattle.plan_evaluation.specs.Evaluation.{namedBy}
 use Rattle.plan_evaluation.proofs.EvaluationLaws.{named-wires, named-places}
 use Rattle.plan_evaluation.proofs.evaluation.evaluate.Statement.{statement}
 use Rattle.plan_evaluation.proofs.evaluation.evaluate.Tie as tie

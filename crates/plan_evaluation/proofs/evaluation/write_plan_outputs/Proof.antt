@@ -5,10 +5,10 @@ use mathlib.Core.Path.{_≡_, refl, ap, _∙_}
 use Prim.Native.Nat.{_≤_, _-_}
 use borrow.Author.Needs.{needs}
 use lib.ListN.{length, getD, set, length-set}
+use Rattle.lists.specs.Lists.{listOf}
 use Rattle.fault.specs.Buffers.{over}
 use Rattle.fault.proofs.BuffersLaws.{listOf-over}
 use Rattle.plan.specs.Record.{wire}
-use Rattle.lists.specs.Lists.{listOf}
 use Rattle.plan_evaluation.specs.Evaluation.{valueOn, NamedWire}
 use Rattle.plan_evaluation.proofs.evaluation.write_plan_outputs.Statement.{statement}
 use Rattle.plan_evaluation.proofs.evaluation.write_plan_outputs.Tie as tie
