@@ -37,10 +37,10 @@ cargo test --quiet --release --manifest-path host/Cargo.toml
 cargo run --quiet --release --manifest-path host/Cargo.toml --bin compare
 cargo run --quiet --release --manifest-path host/Cargo.toml --bin check_twintest target/bin/twintest
 
-# The block library goes to the relay-card maker by itself: a copy that holds nothing but blocks and the crates under it, with what rt ci proved
-# of them, lacks nothing.
+# The block library goes to the relay-card maker by itself: a copy that holds nothing but the foundations and the block library, with what rt ci
+# proved of them, lacks nothing.
 mkdir -p "$copy/crates" "$copy/target/rlib" "$copy/target/stamp"
-for crate in $(sed -n 's/^blocks: *//p' crates.txt) blocks; do
+for crate in $(sed -nE 's/^(lists|fault|powers|elements|block[a-z_]*):.*/\1/p' crates.txt); do
     cp -r "crates/$crate" "$copy/crates/"
     cp -r "target/rlib/$crate.rlib" "$copy/target/rlib/"
     cp "target/stamp/$crate" "$copy/target/stamp/"
