@@ -11,6 +11,8 @@ ghost use Rattle.fabric_run_checks.specs.RunFault.{runFault};
 ghost use Rattle.fabric_run.specs.Running.{runWires};
 ghost use Rattle.fabric_run.specs.RunCalls.{runWork, runResult};
 ghost use Rattle.fabric_run.specs.RunRows.{Runnable, RowRoom, ResultRoom, outputsOn, leftOf, rightOf, rowDone};
+use blocks::LEFT_PLACE;
+use blocks::RIGHT_PLACE;
 use blocks::read_bit;
 use blocks::wide;
 use elements::FabricWire;
@@ -18,9 +20,7 @@ use elements::KIND_X;
 use elements::KIND_Y;
 use fabric_run_checks::check_run;
 use fabric_sizes::INPUTS;
-use fabric_sizes::LEFT;
 use fabric_sizes::OUTPUTS;
-use fabric_sizes::RIGHT;
 use fabric_sizes::ROWS;
 use fabric_table_checks::counts_of;
 use fabric_table_checks::row_start;
@@ -127,8 +127,8 @@ fn run_g(table: &[u16], at: usize, program: &[u8], bit: usize, made: usize, work
     requires { ⌜ RowRoom 1 (now table) at bit made (now work) ⌝ }
     ensures { λ _. ⌜ now (work .exit) ≡ rowDone (Gate (leftOf (now (table .entry)) at ∷ rightOf (now (table .entry)) at ∷ [])) (now (program .entry)) bit made (now (work .entry)) ⌝ }
 {
-    let a = work[wire_of(table[at + LEFT]).0 as usize];
-    let b = work[wire_of(table[at + RIGHT]).0 as usize];
+    let a = work[wire_of(table[at + LEFT_PLACE]).0 as usize];
+    let b = work[wire_of(table[at + RIGHT_PLACE]).0 as usize];
     work[made] = read_bit(program, bit + (2 * a + b) as usize);
 }
 
@@ -138,7 +138,7 @@ fn chosen(table: &[u16], at: usize, b: u8) -> FabricWire
     requires { ⌜ (at + 2 < length (now table)) × (b ≤ 1) ⌝ }
     ensures { λ r. ⌜ r .0 ≡ choose b (leftOf (now (table .entry)) at) (rightOf (now (table .entry)) at) ⌝ }
 {
-    wire_of(table[at + LEFT + b as usize])
+    wire_of(table[at + LEFT_PLACE + b as usize])
 }
 
 // The bits on the output wires, into the first entries of the result.

@@ -11,15 +11,15 @@ use crate::table::counts_of;
 use crate::table::expected_length;
 use crate::table::row_start;
 use crate::table::wire_of;
+use blocks::LEFT_PLACE;
+use blocks::RIGHT_PLACE;
 use blocks::wide;
 use elements::KIND_G;
 use elements::KIND_X;
 use elements::MAX_WIRES;
 use fabric_sizes::HEADER;
 use fabric_sizes::INPUTS;
-use fabric_sizes::LEFT;
 use fabric_sizes::OUTPUTS;
-use fabric_sizes::RIGHT;
 use fabric_sizes::ROWS;
 use fault::Answer;
 use fault::Fault;
@@ -111,11 +111,11 @@ fn check_row(table: &[u16], i: u16, wires: usize) -> Answer
     if !kind_allowed(table[at]) {
         return Answer::Refused(Fault::Fabric);
     }
-    let left = wire_of(table[at + LEFT]);
+    let left = wire_of(table[at + LEFT_PLACE]);
     if wires <= left.0 as usize {
         return Answer::Refused(Fault::Fabric);
     }
-    let right = wire_of(table[at + RIGHT]);
+    let right = wire_of(table[at + RIGHT_PLACE]);
     if wires <= right.0 as usize {
         return Answer::Refused(Fault::Fabric);
     }

@@ -5,13 +5,14 @@ use crate::line::put_byte;
 use crate::line::put_entries;
 use crate::print_refusal;
 use equivalence::run_both;
+use blocks::STRIDE;
 use fabric::HEADER;
 use fault::Answer;
 use fault::Fault;
 use plan::Plan;
 
 // The entries of the table for u, k and v of 64, whose fabric has 5,185 rows of three entries.
-const TABLE: usize = HEADER + 3 * 5185 + Plan::MAX_OUTPUTS;
+const TABLE: usize = HEADER + STRIDE * 5185 + Plan::MAX_OUTPUTS;
 
 // The bytes of its programs, of 5,377 bits.
 const PROGRAM: usize = (5377 + 7) / 8;
