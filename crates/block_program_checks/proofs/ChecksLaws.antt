@@ -211,7 +211,7 @@ pub selection-program-passes : {m n : ℕ} {wanted : List ℕ} {start room : ℕ
 selection-program-passes {m} {n} {wanted} {start} {room} e =
     let h = and-then-zero (selectionWantedFault m n wanted) (bitsAtFault (selectionCount m n) start room) .0 e in
     let w = selection-wanted-faultless m n wanted .0 (h .0) in
-    record { sides = w .0; selected = w .1; fits = bits-faultless (selectionCount m n) start room .0 (h .1) }
+    record { sizes = w .0; selected = w .1; fits = bits-faultless (selectionCount m n) start room .0 (h .1) }
 
 -- success from plain bounds
 pub selection-program-at-succeeds : (m n : ℕ) {wanted : List ℕ} (start room : ℕ) → 1 ≤ m → m ≤ maxSize → 1 ≤ n → n ≤ maxSize

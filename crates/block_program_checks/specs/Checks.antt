@@ -74,6 +74,6 @@ selectionProgramAtFault m n wanted start room = andThen (selectionWantedFault m 
 
 -- what is known where all checks pass
 pub record SelectionPasses (m n : ℕ) (wanted : List ℕ) (start room : ℕ) : Type 0 where
-  pub sides : SelectionSizes m n
+  pub sizes : SelectionSizes m n
   pub selected : Selected m n wanted
   pub fits : start + selectionCount m n ≤ bitsHeld room

@@ -196,7 +196,7 @@ module _ {N : ℕ} {wanted counts heads list : List ℕ} (F : PositionsFound N w
 
 module _ {m n : ℕ} {wanted : List ℕ} {start room : ℕ} (P : SelectionPasses m n wanted start room) {N : ℕ} (e : N ≡ 2 ^ selectionLevel m n) where
   pub size-allowed : SizeIs N
-  size-allowed = rw e (size-is _ (power-allowed (selectionLevel m n) (selection-level-small (P .sides))))
+  size-allowed = rw e (size-is _ (power-allowed (selectionLevel m n) (selection-level-small (P .sizes))))
 
   pub demand : Demand N wanted
   demand =

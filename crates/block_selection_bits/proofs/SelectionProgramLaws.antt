@@ -24,7 +24,7 @@ pub passes-in-part : {m n : ℕ} {wanted : List ℕ} (program : List ℕ) {start
 passes-in-part program {byte} P eb ep =
     let size : length (midOf byte (length program - byte) program) ≡ length program - byte =
     length-take-le (length program - byte) (drop byte program) (omega (arith, length-drop byte program)) in
-    record { sides = P .sides; selected = P .selected; fits = rw size (omega (arith, P .fits, eb, ep)) }
+    record { sizes = P .sizes; selected = P .selected; fits = rw size (omega (arith, P .fits, eb, ep)) }
 
 -- ---- after success
 

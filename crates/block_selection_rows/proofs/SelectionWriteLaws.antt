@@ -91,7 +91,7 @@ module _ (m n : ℕ) (ins : List ℕ) (next rows outputs N : ℕ) (A : List ℕ)
   level-is = ap levelOf size ∙ ceilLog-power level
 
   few : N ≤ maxSize
-  few = rw size (power-small level (selection-level-small (passes .sides)))
+  few = rw size (power-small level (selection-level-small (passes .sizes)))
 
   wires-are : A ≡ padded maxSize ins
   wires-are =
@@ -101,7 +101,7 @@ module _ (m n : ℕ) (ins : List ℕ) (next rows outputs N : ℕ) (A : List ℕ)
   unfolding selectionWires selectionCount
   block-room = record {
     made = record {
-      size = rw size (size-is (2 ^ level) (power-allowed level (selection-level-small (passes .sides))));
+      size = rw size (size-is (2 ^ level) (power-allowed level (selection-level-small (passes .sizes))));
       wires = rw level-is (passes .wires);
     };
     some = some-wire passes;

@@ -75,7 +75,7 @@ module _ (m n : ℕ) (ins : List ℕ) (next rows outputs : ℕ) where
       let wires = h .1 .1 .0 in
       let room = h .1 .1 .1 in
       record {
-        sides = h .0;
+        sizes = h .0;
         inputs = h .1 .0;
         made = wires .given;
         wires = wires .new;
@@ -87,9 +87,9 @@ module _ (m n : ℕ) (ins : List ℕ) (next rows outputs : ℕ) where
   pub selection-write-succeeds : SelectionSizes m n → length ins ≡ m → Below next ins → (1 ≤ selectionWires m n → next + selectionWires m n ≤ maxWires)
       → stride * selectionCount m n ≤ rows → n ≤ outputs → selectionWriteFault m n ins next rows outputs ≡ 0
   unfolding selectionWriteFault
-  selection-write-succeeds sides inputs made wires rowRoom outputRoom =
+  selection-write-succeeds sizes inputs made wires rowRoom outputRoom =
       simp (and-then-zero, selection-sizes-allowed, list-faultless, wires-faultless, buffers-faultless)
-      (sides, (inputs, (record { given = made; new = wires }, record { rowRoom = rowRoom; outputRoom = outputRoom })))
+      (sizes, (inputs, (record { given = made; new = wires }, record { rowRoom = rowRoom; outputRoom = outputRoom })))
 
 -- wire 0 is made
 pub some-wire : {m n : ℕ} {ins : List ℕ} {next rows outputs : ℕ} → SelectionWritePasses m n ins next rows outputs → 0 < next

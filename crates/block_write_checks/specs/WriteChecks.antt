@@ -40,7 +40,7 @@ pub record WritePasses (N : ℕ) (ins : List ℕ) (next rows outputs : ℕ) : Ty
 
 -- what holds where no check fails
 pub record SelectionWritePasses (m n : ℕ) (ins : List ℕ) (next rows outputs : ℕ) : Type 0 where
-  pub sides : SelectionSizes m n
+  pub sizes : SelectionSizes m n
   pub inputs : length ins ≡ m
   pub made : Below next ins
   pub wires : 1 ≤ selectionWires m n → next + selectionWires m n ≤ maxWires

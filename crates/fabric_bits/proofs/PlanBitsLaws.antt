@@ -109,7 +109,7 @@ module _ (p : Plan) {operandList tables : List ℕ} (L : Loaded p operandList ta
         let takes = ap (universalTakes selection) same in
         record {
           inputs = record {
-            sides = record { someInputs = c .someInputs; inputs = omega (arith, c .inputs); someOutputs = omega arith; outputs = omega (arith, few-gates) };
+            sizes = record { someInputs = c .someInputs; inputs = omega (arith, c .inputs); someOutputs = omega arith; outputs = omega (arith, few-gates) };
             selected = rw loaded-wanted (inputs-selected p accepted);
             fits = omega arith;
           };
@@ -160,7 +160,7 @@ outputs-pass p accepted wanted em ew fits =
     let c = accepted-counts p accepted in
     let few = few-places (p .«gate_count») (c .gates) in
     rw (em, ew) (record {
-      sides = record { someInputs = pow-pos n; inputs = omega arith; someOutputs = c .someOutputs; outputs = omega (arith, c .outputs) };
+      sizes = record { someInputs = pow-pos n; inputs = omega arith; someOutputs = c .someOutputs; outputs = omega (arith, c .outputs) };
       selected = outputs-selected p accepted;
       fits = fits;
     })

@@ -77,7 +77,7 @@ module _ {gates base tables wanted start room half : ℕ} (R : UniversalProgramR
 pub selection-stored : {m n start : ℕ} {wanted : List ℕ} (program : List ℕ) → SelectionPasses m n wanted start (length program)
     → selectionProgramAtResult m n wanted start program ≡ storeBits program start (selectionBits m n wanted)
 selection-stored {m} {n} {start} {wanted} program P =
-    let s = P .sides in
+    let s = P .sizes in
     let none = selection-program-at-succeeds m n start (length program) (s .someInputs) (s .inputs) (s .someOutputs) (s .outputs) (P .selected) (P .fits) in
     sym (stored-done _ start (selectionBits m n wanted) program (sym none))
 
@@ -92,7 +92,7 @@ length-between G base h =
 pub between-passes : {h w start room : ℕ} (G : Gates) (base : ℕ) (wanted : List ℕ) → BetweenRoom h w start room → take (2 * h) wanted ≡ wantedGates G base h
     → SelectionPasses h (2 * h) (take (2 * h) wanted) start room
 between-passes {h} G base wanted R e = record {
-  sides = record { someInputs = R .some; inputs = omega arith; someOutputs = omega arith; outputs = omega arith };
+  sizes = record { someInputs = R .some; inputs = omega arith; someOutputs = omega arith; outputs = omega arith };
   selected = rw e (wanted-selected G base h (R .some));
   fits = omega (arith, R .fits);
 }

@@ -117,7 +117,7 @@ pub selection-put : (m n : ℕ) (ins : List ℕ) (next : ℕ) (R₀ T₀ R T : L
     → (R ≡ over (flat (selectionRows m n ins next)) R₀) × (T ≡ over (selectionOuts m n ins next) T₀)
 selection-put m n ins next R₀ T₀ R T w e =
     let none : selectionWriteFault m n ins next (length R₀) (length T₀) ≡ 0 =
-    selection-write-succeeds m n ins next (length R₀) (length T₀) (w .sides) (w .inputs) (w .made) (w .wires) (w .rowRoom) (w .outputRoom) in
+    selection-write-succeeds m n ins next (length R₀) (length T₀) (w .sizes) (w .inputs) (w .made) (w .wires) (w .rowRoom) (w .outputRoom) in
     rw none at e
 
 pub length-selection : (m n : ℕ) (ins : List ℕ) (next : ℕ) → length (flat (selectionRows m n ins next)) ≡ stride * selectionCount m n

@@ -157,7 +157,7 @@ module _ {gates next : ℕ} {p : UniversalParts} {R₀ P₀ O₀ : List ℕ} (be
         let mixAt : p .mix ≡ stride * selectionCount (p .half) (p .pins) = omega (arith, at .mixAt, count-is) in
         record {
           select = record {
-            sides = record {
+            sizes = record {
               someInputs = at .some;
               inputs = omega arith;
               someOutputs = omega (arith, at .some);

@@ -190,7 +190,7 @@ module _ {u k v : ℕ} {l : Layout} {T₀ T₁ : List ℕ} (begun : FabricBegun 
         inputs = counts .inputs;
         fewGates = at .fewGates;
         passes = record {
-          sides = record {
+          sizes = record {
             someInputs = counts .someInputs;
             inputs = omega (arith, counts .inputs);
             someOutputs = omega (arith, at .someGates);
@@ -296,7 +296,7 @@ module _ {u k v : ℕ} {l : Layout} {T₀ T₁ : List ℕ} (begun : FabricBegun 
           mid-len (l .outputs) (length T₃) T₃ (omega arith) ∙ ap (λ m. m - l .outputs) length-T₃ in
           record {
             passes = record {
-              sides = record {
+              sizes = record {
                 someInputs = at .someGates;
                 inputs = omega (arith, at .fewGates);
                 someOutputs = counts .someOutputs;

@@ -32,7 +32,7 @@ for-bits : tie.Need-store-program-requires
 for-bits c κs =
     let cleared = c .before .before .before in
     let h = passes (checked cleared) in
-    (record { sides = h .sides; selected = h .selected; fits = rw (cleared .fill-bytes .kept .0) (h .fits) }, omega arith)
+    (record { sizes = h .sizes; selected = h .selected; fits = rw (cleared .fill-bytes .kept .0) (h .fits) }, omega arith)
 
 refused : tie.Need-returns
 refused c =

@@ -16,7 +16,7 @@ small : tie.Need-cast-size
 small c =
     let start = c .before .before .before .before in
     let a = start .args in
-    omega (arith, c .selection-positions .ensures, power-small (selectionLevel (a .m) (a .n)) (selection-level-small (start .pre .sides)))
+    omega (arith, c .selection-positions .ensures, power-small (selectionLevel (a .m) (a .n)) (selection-level-small (start .pre .sizes)))
 
 -- the way back from the block to the copied input wires, and to the block's size
 abbrev copied : tie.After-to → tie.After-copy-wires
@@ -44,7 +44,7 @@ outputs-part c =
     let block = c .before .before .before .before .before in
     let start = sized (copied (block .before)) .before .before .before .before in
     let kept = block .write-block .kept .1 .1 .1 .1 .0 in
-    sym (length-take-le (start .args .n) (block .write-block .last .1 .1 .1 .1 .0) (omega (arith, start .pre .sides .outputs)))
+    sym (length-take-le (start .args .n) (block .write-block .last .1 .1 .1 .1 .0) (omega (arith, start .pre .sizes .outputs)))
 
 written : tie.Need-returns
 written c =

@@ -12,8 +12,8 @@ use Rattle.block_write_checks.proofs.selection.check_selection_write.Ti
 allowed : (c : tie.After-enum-told) → let a = c .before .before .before .before .args in 0 ≡ selectionSizesFault (a .m) (a .n)
 allowed c = answer-passes (c .enum-told .given .1) (c .before .before .check-selection-sizes .ensures)
 
-sides : tie.Need-check-wires-and-room-requires
-sides c κs = selection-sizes-allowed _ _ .0 (sym (allowed c))
+sizes : tie.Need-check-wires-and-room-requires
+sizes c κs = selection-sizes-allowed _ _ .0 (sym (allowed c))
 
 refused : tie.Need-returns
 unfolding selectionWriteFault
@@ -28,4 +28,4 @@ asked c = _then_ (allowed (c .before)) (c .check-wires-and-room .ensures)
 pub check-selection-write-spec : {M : Type 1} → statement M
 check-selection-write-spec =
     tie.close
-    (tie.spec (λ c κs. search needs) (λ c. search needs) (λ c. search needs) sides refused asked)
+    (tie.spec (λ c κs. search needs) (λ c. search needs) (λ c. search needs) sizes refused asked)
