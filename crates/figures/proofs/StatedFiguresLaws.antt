@@ -2,12 +2,16 @@
 use mathlib.Core.Path.{refl}
 use Rattle.lists.specs.Counting.{countOf, nthOf}
 use Rattle.block_elements.specs.Rows.{entries, flat, choose}
-use Rattle.block_networks.specs.Permutation.{permutationCount, inputRows, outputRows, firsts, seconds, permutationRows, permutationOuts, partner, iterate, walk, key, least, lowest, side, pick, inHalf, permutationBits}
+use Rattle.block_networks.specs.Permutation.{permutationCount, inputRows, outputRows, firsts, seconds, permutationRows, permutationOuts, partner, iterate}
+use Rattle.block_networks.specs.Permutation.{walk, key, least, lowest, side, pick, inHalf, permutationBits}
 use Rattle.block_networks.specs.Wanted.{mapping, takerOf, inverse, wantedBits}
 use Rattle.block_networks.specs.Completion.{isTaken, completed}
-use Rattle.block_networks.specs.Selection.{selectionLevel, padded, chainWire, chainRows, chainOuts, wholeRows, wholeOuts, wholeCount, selectionRows, selectionOuts, selectionCount, wanting, headOf, copyOf, wholeProgram, selectionBits}
-use Rattle.fabric_universal.specs.Universal.{mixRows, wiresFrom, universalRows, universalOuts, tableProgram, isOf, wantedGate, wantedGates, mixBits, universalBits}
-use Rattle.fabric_universal.specs.Fabric.{inputWires, fabricRows, fabricOuts, fabricTable, paddedGate, wantedInput, wantedInputs, wantedOutputs, planBits, planProgram}
+use Rattle.block_networks.specs.Selection.{selectionLevel, padded, chainWire, chainRows, chainOuts, wholeRows, wholeOuts, wholeCount, selectionRows}
+use Rattle.block_networks.specs.Selection.{selectionOuts, selectionCount, wanting, headOf, copyOf, wholeProgram, selectionBits}
+use Rattle.fabric_universal.specs.Universal.{mixRows, wiresFrom, universalRows, universalOuts, tableProgram, isOf, wantedGate, wantedGates, mixBits}
+use Rattle.fabric_universal.specs.Universal.{universalBits}
+use Rattle.fabric_universal.specs.Fabric.{inputWires, fabricRows, fabricOuts, fabricTable, paddedGate, wantedInput, wantedInputs, wantedOutputs, planBits}
+use Rattle.fabric_universal.specs.Fabric.{planProgram}
 use Rattle.figures.specs.Figure.{Holds}
 use Rattle.figures.specs.StatedFigures.{programs, selects, planned, fabricates, statedFigures, refuses, counts}
 use Rattle.figures.proofs.FigureLaws.{passes, passes-holds}
