@@ -65,9 +65,9 @@ extern "C" {
 
 /*
  * The rows, wires and program bits of P(n), of S(m, n), and of the fabric of u, k and v, which
- * mkd_permutation_count, mkd_selection_count and mkd_count give at run time. The wires of P and S are those that their rows make: after a block
- * the next unmade wire is as many higher. The wires of a fabric are all, with wire 0 and the
- * inputs.
+ * mkd_permutation_count, mkd_selection_count and mkd_count give at run time. The wires of P and S
+ * are those that their rows make: after a block the next unmade wire is as many higher. The wires
+ * of a fabric are all, with wire 0 and the inputs.
  *
  * These too are constant expressions where their arguments are, but evaluate an argument several
  * times. They hold for arguments that the calls do not refuse.
@@ -198,7 +198,7 @@ uint32_t mkd_plan_evaluate(struct mkd_plan plan, const uint8_t *row, size_t row_
 struct mkd_counts {
     uint32_t number; /* 0, or the refusal */
     uint32_t rows;
-    uint32_t wires; /* of a block those that its rows make; of a fabric all, with wire 0 and the inputs */
+    uint32_t wires; /* those that the rows make; of a fabric wire 0 and the inputs too */
     uint32_t bits;  /* program bits */
 };
 
