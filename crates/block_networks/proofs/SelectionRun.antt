@@ -2,17 +2,16 @@
 -- programmed for a wanted list it carries what the input that it wants carried. By the parts: P, the chain, P; a Y passes the value of
 -- the position before it on, or its own.
 use mathlib.Core.Path.{_≡_, refl, sym, ap, ap₂, _∙_}
-use mathlib.Core.List.{List, [], _++_, append-nil}
+use mathlib.Core.List.{List, [], _++_}
 use Prim.Native.Nat.{ℕ, zero, suc, _+_, _-_, _*_, _^_, _≤_, _<_}
 use native.Mathlib.Nat.{le-refl, add-zero}
 use native.Mathlib.Omega.{arith}
 use lib.ListN.{length, getD, drop}
 use lib.Seq.{drop-at}
 use Rattle.lists.specs.Lists.{Below}
-use Rattle.block_elements.specs.Rows.{Row, flat, decode, choose, State, on, run, Delivered}
-use Rattle.block_elements.proofs.RowsLaws.{decode-flat, run-append, run-keeps, run-wires, run-bits, run-gates}
+use Rattle.block_elements.specs.Rows.{choose, State, on, run, Delivered}
+use Rattle.block_elements.proofs.RowsLaws.{run-append, run-keeps, run-wires, run-bits, run-gates}
 use Rattle.block_elements.proofs.YRun.{runY-at}
-use Rattle.block_elements.specs.Bits.{pack, unpack}
 use Rattle.block_networks.specs.Permutation.{permutationCount, permutationRows}
 use Rattle.block_networks.specs.Wanted.{mapping}
 use Rattle.block_networks.specs.Selection.{selectionLevel, padded, chainWire, chainRows, chainNext, secondNext, firstOuts, middleOuts}
@@ -22,7 +21,7 @@ use Rattle.block_networks.proofs.Loops.{perm-lt}
 use Rattle.block_networks.proofs.Routing.{source-perm}
 use Rattle.block_networks.proofs.PermutationRun.{permutation-made, permutation-left, permutation-routes}
 use Rattle.block_networks.proofs.SelectionLaws.{selection-outputs-fit, getD-padded, chain-totals, getD-chainOuts, whole-wires, selection-totals, getD-selectionOuts}
-use Rattle.block_networks.proofs.SelectionRouting.{chainSource-le, selectionSource-lt, selection-programmed, length-selectionBits, unpack-selection}
+use Rattle.block_networks.proofs.SelectionRouting.{chainSource-le, selectionSource-lt, selection-programmed, length-selectionBits}
 
 wire-after : (w : List ℕ) (next i : ℕ) → chainWire w next (suc i) ≡ next + i
 unfolding chainWire
@@ -163,14 +162,3 @@ module _ {A : Type 0} (none : A) (gate : ℕ → List ℕ → List A → A) wher
         bits = d .bits ∙ rw bits (drop-at (selectionBits m n wanted) rest (selectionCount m n) (length-selectionBits m n wanted));
         gates = d .gates;
       }
-
-  -- packed bits and written entries: what is read back from them runs as S does
-  pub packed-selection-delivers : {m n : ℕ} {wanted : List ℕ} → Selected m n wanted → (ins : List ℕ) (next : ℕ) (values : List A)
-      → 0 < next → Below next ins → length values ≡ next → (o : ℕ) → o < n
-      → let bits : List ℕ = unpack (selectionCount m n) (pack (selectionBits m n wanted)) in
-      let rows : List Row = decode (flat (selectionRows m n ins next)) in
-      on none (run none gate rows (record { wires = values; bits = bits; gates = 0 })) (getD (selectionOuts m n ins next) o 0)
-      ≡ getD values (getD ins (mapping wanted o) 0) none
-  packed-selection-delivers {m} {n} {wanted} W ins next values z b e o l =
-      let bits = unpack-selection m n wanted ∙ sym (append-nil (selectionBits m n wanted)) in
-      rw (decode-flat (selection-totals m n ins next .family)) (selection-delivers W ins next _ [] z b e bits .carried o l)

@@ -3,7 +3,7 @@
 use mathlib.Core.Path.{_≡_, refl, sym, ap, _∙_}
 use mathlib.Core.Logic.{_≢_, _⊎_, inl, inr}
 use mathlib.Core.Bool.{cond}
-use mathlib.Core.List.{List, [], _++_, append-nil}
+use mathlib.Core.List.{List, [], _++_}
 use Prim.Native.Nat.{ℕ, zero, suc, _-_, _^_, _≤_, _<_}
 use native.Mathlib.Nat.{not-suc-le-zero, le-refl, le-step, le-of-suc-le-suc, eq-or-lt-of-le}
 use native.Mathlib.Decide.{ℕ-discrete, decLt}
@@ -15,13 +15,11 @@ use Rattle.lists.specs.Lists.{Below}
 use Rattle.lists.proofs.ListsLaws.{getD-any}
 use Rattle.block_elements.specs.Bits.{AreBits, pack, unpack}
 use Rattle.block_elements.proofs.BitsLaws.{unpack-pack}
-use Rattle.block_elements.specs.Rows.{Row, State, on, run, flat, decode}
-use Rattle.block_elements.proofs.RowsLaws.{decode-flat}
-use Rattle.block_networks.specs.Permutation.{permutationCount, permutationOuts, permutationRows, Perm}
+use Rattle.block_elements.specs.Rows.{State}
+use Rattle.block_networks.specs.Permutation.{permutationCount, Perm}
 use Rattle.block_networks.specs.Wanted.{Wanted, mapping, takerOf, inverse, wantedBits}
 use Rattle.block_networks.proofs.Orbits.{Found, Search, find, Clash, pigeonhole}
 use Rattle.block_networks.proofs.Routing.{length-permutationBits, permutationBits-bits}
-use Rattle.block_networks.proofs.PermutationLaws.{permutation-totals}
 use Rattle.block_networks.proofs.PermutationRun.{PermutationDelivers, permutation-delivers}
 
 -- ---- the inverse of an injective map of the numbers below N into themselves
@@ -144,14 +142,3 @@ pub wanted-delivers : {A : Type 0} (none : A) (gate : ℕ → List ℕ → List 
     → PermutationDelivers none gate n (mapping wanted) ins next s rest
 unfolding wantedBits
 wanted-delivers none gate n W ins next s rest e b m bits = permutation-delivers none gate n (wanted-perm W) ins next s rest e b m bits
-
--- packed bits and written entries: what is read back from them runs as P does
-pub packed-delivers : {A : Type 0} (none : A) (gate : ℕ → List ℕ → List A → A) (n : ℕ) {wanted : List ℕ} → Wanted (2 ^ n) wanted
-    → (ins : List ℕ) (next : ℕ) (values : List A) → length ins ≡ 2 ^ n → Below next ins → length values ≡ next → (o : ℕ) → o < 2 ^ n
-    → let bits : List ℕ = unpack (permutationCount n) (pack (wantedBits n wanted)) in
-    let rows : List Row = decode (flat (permutationRows n ins next)) in
-    on none (run none gate rows (record { wires = values; bits = bits; gates = 0 })) (getD (permutationOuts n ins next) o 0)
-    ≡ getD values (getD ins (mapping wanted o) 0) none
-packed-delivers none gate n {wanted} W ins next values e b m o l =
-    let bits = unpack-wanted n W ∙ sym (append-nil (wantedBits n wanted)) in
-    rw (decode-flat (permutation-totals n ins next .family)) (wanted-delivers none gate n W ins next _ [] e b m bits .carried o l)

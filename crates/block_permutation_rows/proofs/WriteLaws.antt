@@ -35,7 +35,6 @@ length-outs N ins next size e = length-permutationOuts (levelOf N) ins next (e �
 
 -- after success the lent buffers begin with the rows and the output wires
 pub record Written (N : ℕ) (ins : List ℕ) (next : ℕ) (rows outputs : List ℕ) : Type 0 where
-  pub entriesRead : take (stride * permutationCount (levelOf N)) (writtenRows N ins next rows outputs) ≡ flat (permutationRows (levelOf N) ins next)
   pub rowsRead : decode (take (stride * permutationCount (levelOf N)) (writtenRows N ins next rows outputs)) ≡ permutationRows (levelOf N) ins next
   pub outputsRead : take N (writtenOutputs N ins next rows outputs) ≡ permutationOuts (levelOf N) ins next
 
@@ -48,7 +47,6 @@ written-read N ins next rows outputs e =
     let front : take (stride * permutationCount (levelOf N)) (writtenRows N ins next rows outputs) ≡ es =
     rw e (take-at es (drop (length es) rows) (stride * permutationCount (levelOf N)) (length-entries N ins next)) in
     record {
-      entriesRead = front;
       rowsRead = ap decode front ∙ decode-flat (permutation-totals (levelOf N) ins next .family);
       outputsRead = rw e (take-at outs (drop (length outs) outputs) N (length-outs N ins next (w .size) (w .inputs)));
     }

@@ -30,7 +30,6 @@ length-entries m n ins next = length-flat (selection-totals m n ins next .family
 
 -- after success the lent buffers begin with the rows and the output wires
 pub record SelectionWritten (m n : ℕ) (ins : List ℕ) (next : ℕ) (rows outputs : List ℕ) : Type 0 where
-  pub entriesRead : take (stride * selectionCount m n) (selectionWrittenRows m n ins next rows outputs) ≡ flat (selectionRows m n ins next)
   pub rowsRead : decode (take (stride * selectionCount m n) (selectionWrittenRows m n ins next rows outputs)) ≡ selectionRows m n ins next
   pub outputsRead : take n (selectionWrittenOutputs m n ins next rows outputs) ≡ selectionOuts m n ins next
 
@@ -42,7 +41,6 @@ module _ (m n : ℕ) (ins : List ℕ) (next : ℕ) (rows outputs : List ℕ) whe
       let front : take (stride * selectionCount m n) (selectionWrittenRows m n ins next rows outputs) ≡ es =
       rw e (take-at es (drop (length es) rows) (stride * selectionCount m n) (length-entries m n ins next)) in
       record {
-        entriesRead = front;
         rowsRead = ap decode front ∙ decode-flat (selection-totals m n ins next .family);
         outputsRead = rw e (take-at outs (drop (length outs) outputs) n (length-selectionOuts m n ins next));
       }
