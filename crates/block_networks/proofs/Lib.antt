@@ -19,7 +19,7 @@ pub mod PermutationLaws
 pub mod PermutationRun
 -- a list of distinct wanted inputs is a one-to-one mapping, and P delivers it
 pub mod WantedLaws
--- a mapping is fixed by what it does below N, and P programmed for it as for its list
+-- a mapping is fixed by what it does below N, P programmed for it as for its list, and the rule fixes every bit
 pub mod Mappings
 -- a completed partial injection is one to one, and the rule fixes it
 pub mod CompletionLaws

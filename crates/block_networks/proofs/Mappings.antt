@@ -1,6 +1,7 @@
 -- A one-to-one mapping of N places is fixed by what it does below N, and its inverse by it. So P is programmed for a mapping as for the
 -- list of the inputs, counted from 1, that it gives to the outputs.
-use mathlib.Core.Path.{_≡_, sym, ap, ap₂, _∙_, fun-ext}
+use mathlib.Core.Path.{_≡_, refl, sym, ap, ap₂, _∙_, fun-ext}
+use mathlib.Core.List.{List}
 use Prim.Native.Nat.{ℕ, suc, _-_, _^_, _<_}
 use native.Mathlib.Decide.{decLt}
 use native.Mathlib.Omega.{arith}
@@ -9,7 +10,9 @@ use Rattle.lists.specs.Lists.{listOf}
 use Rattle.lists.proofs.ListsLaws.{length-listOf, getD-listOf, getD-listOf-all}
 use Rattle.block_networks.specs.Permutation.{Perm, permutationBits}
 use Rattle.block_networks.specs.Wanted.{Wanted, mapping, inverse, wantedBits, wantedOf}
+use Rattle.block_networks.specs.SideRule.{WantedRule, rule-wanted}
 use Rattle.block_networks.proofs.Loops.{perm-inj, perm-lt}
+use Rattle.block_networks.proofs.SideRuleLaws.{permutation-follows, permutation-fixed}
 use Rattle.block_networks.proofs.WantedLaws.{wanted-perm}
 
 pub perm-ext : {N : ℕ} {π ρ π′ ρ′ : ℕ → ℕ} → Perm N π ρ → Perm N π′ ρ′ → ((o : ℕ) → o < N → π o ≡ π′ o) → π ≡ π′
@@ -44,3 +47,13 @@ module _ {N : ℕ} {π ρ : ℕ → ℕ} (P : Perm N π ρ) where
 pub wantedBits-of : (level : ℕ) {π ρ : ℕ → ℕ} → Perm (2 ^ level) π ρ → wantedBits level (wantedOf (2 ^ level) π) ≡ permutationBits level π ρ
 unfolding wantedBits
 wantedBits-of level P = ap₂ (permutationBits level) (mapping-wantedOf P) (inverse-wantedOf P)
+
+-- "This fixes every bit": the bits for the wanted inputs follow the rule for their loops, and no other bits do
+module _ (n : ℕ) {wanted : List ℕ} (W : Wanted (2 ^ n) wanted) where
+  pub wanted-follows : WantedRule n wanted (wantedBits n wanted)
+  unfolding wantedBits
+  wanted-follows = rule-wanted (wanted-perm W) (permutation-follows n (wanted-perm W))
+
+  pub wanted-fixed : {bits : List ℕ} → WantedRule n wanted bits → bits ≡ wantedBits n wanted
+  unfolding wantedBits
+  wanted-fixed (rule-wanted P R) = permutation-fixed P R ∙ ap (permutationBits n (mapping wanted)) (inverse-only P (wanted-perm W) refl)

@@ -99,7 +99,7 @@ pub whole-count : (level : ℕ) → wholeCount level + 2 ^ level ≡ 2 * (level 
 unfolding wholeCount
 whole-count level = omega (arith, permutation-count level, pow-pos level)
 
--- 4N log N - 3N + 3 wires
+-- 4N log N - 3N + 3 wires. A row makes as many as its kind counts in 003's size, X 2 and Y 1: this is that size for m = n = N
 whole-made : (level : ℕ) → wholeWires level + 3 * 2 ^ level ≡ 4 * (level * 2 ^ level) + 3
 unfolding wholeWires
 whole-made level = omega (arith, permutation-count level, pow-pos level)
@@ -161,6 +161,7 @@ pub selection-count : (m n : ℕ) → let level : ℕ = selectionLevel m n in se
 unfolding selectionCount
 selection-count m n = whole-count (selectionLevel m n)
 
+-- S's wires, which with X counted as 2 are 003's size
 pub selection-made : (m n : ℕ) → let level : ℕ = selectionLevel m n in selectionWires m n + 3 * 2 ^ level ≡ 4 * (level * 2 ^ level) + 3
 unfolding selectionWires
 selection-made m n = whole-made (selectionLevel m n)

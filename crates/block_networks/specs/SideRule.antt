@@ -6,7 +6,8 @@ use mathlib.Core.Logic.{_≢_}
 use mathlib.Core.List.{List, [], _++_}
 use Prim.Native.Nat.{ℕ, suc, _+_, _-_, _*_, _/_, _^_, _≤_, _<_}
 use Rattle.lists.specs.Lists.{listOf}
-use Rattle.block_networks.specs.Permutation.{partner, inHalf}
+use Rattle.block_networks.specs.Permutation.{Perm, partner, inHalf}
+use Rattle.block_networks.specs.Wanted.{mapping}
 
 -- an input pair or an output pair, by its number
 pub data Pair : Type 0 where
@@ -43,3 +44,7 @@ pub data RuleBits : ℕ → (ℕ → ℕ) → (ℕ → ℕ) → List ℕ → Typ
       → RuleBits n (inHalf π s 0) (inHalf ρ (λ x. s (ρ x)) 0) upper
       → RuleBits n (inHalf π s 1) (inHalf ρ (λ x. s (ρ x)) 1) lower
       → RuleBits (suc n) π ρ (listOf (2 ^ n) (λ j. s (ρ (2 * j))) ++ (upper ++ (lower ++ listOf (2 ^ n - 1) (λ i. s (2 * i)))))
+
+-- the bits of a P(2 ^ n) that is programmed by the rule for the list of wanted inputs: for the loops of its mapping, ρ being the mapping's inverse
+pub data WantedRule (n : ℕ) (wanted : List ℕ) : List ℕ → Type 0 where
+  rule-wanted : {ρ : ℕ → ℕ} {bits : List ℕ} → Perm (2 ^ n) (mapping wanted) ρ → RuleBits n (mapping wanted) ρ bits → WantedRule n wanted bits

@@ -1,9 +1,9 @@
--- What holds where the checks pass, and that the two results are then equal.
+-- Where the checks pass: when they do, what holds then, and that the two results are then equal.
 use mathlib.Core.Path.{_≡_, refl, sym, ap₂, _∙_}
 use mathlib.Core.List.{List}
 use Prim.Native.Nat.{ℕ, _<_}
 use native.Mathlib.Omega.{arith}
-use borrow.Author.Tests.{leb-true}
+use borrow.Author.Tests.{leb-true, le-leb}
 use lib.ListN.{length, getD, take, drop, List·getD-append}
 use Rattle.lists.proofs.ListsLaws.{length-listOf}
 use Rattle.fault.specs.Number.{faultNumber}
@@ -21,8 +21,8 @@ use Rattle.fabric.specs.Fabrics.{planProgram, planTable, runWires, runOutputs, 
 use Rattle.fabric.proofs.FabricTableLaws.{fabric-promise}
 use Rattle.fabric.proofs.FabricsLaws.{fabric-written-read, plan-programmed-read}
 use Rattle.equivalence.specs.ThirdDemand.{planTableLength, planFabricWires, ContactRow, ThirdDemand}
-use Rattle.equivalence.specs.BothCalls.{bothRoomFault, bothFault, bothEvaluated, bothRan, BothPasses}
-use Rattle.equivalence.proofs.ThirdDemandLaws.{fabric-unrefused, third-demand, counts-pass}
+use Rattle.equivalence.specs.BothCalls.{bothRoomFault, bothFault, bothEvaluated, bothRan, BothPasses, BothSucceeds}
+use Rattle.equivalence.proofs.ThirdDemandLaws.{contacts, counts-pass, run-unrefused, third-demand}
 
 pub both-passes : {p : Plan} {row : List ℕ} {table program work evaluated ran : ℕ} → bothFault p row table program work evaluated ran ≡ 0
     → BothPasses p row table program work evaluated ran
@@ -41,6 +41,19 @@ both-passes {p} {row} {table} {program} {work} {evaluated} {ran} e =
         ranRoom = leb-true (p .«output_count») ran (rooms .1 .1 .1 .1);
       };
     }
+
+pub both-succeeds : BothSucceeds
+unfolding bothFault bothRoomFault roomFault
+both-succeeds p row table program work evaluated ran accepted contact rooms =
+    rw (
+      accepted,
+      contacts contact,
+      le-leb (planTableLength p) table (rooms .tableRoom),
+      le-leb (programLength p) program (rooms .programRoom),
+      le-leb (planFabricWires p) work (rooms .workRoom),
+      le-leb (p .«output_count») evaluated (rooms .evaluatedRoom),
+      le-leb (p .«output_count») ran (rooms .ranRoom),
+    )
 
 -- a row that passes check 12 is a row of input contacts
 pub contact-row : (u : ℕ) (row : List ℕ) → contactFault u row ≡ 0 → ContactRow u row
@@ -96,7 +109,7 @@ module _ (p : Plan) (row table program work evaluated ran : List ℕ)
     bytes-read = ap₂ take to programmed ∙ plan-programmed-read p program (demand .programs)
 
     unrefused : runFault (planTable p) (planProgram p) row (length work) (length ran) ≡ 0
-    unrefused = fabric-unrefused p row table program work evaluated ran (passes .accepted) (contact-row u row (passes .contact)) (passes .rooms)
+    unrefused = run-unrefused p row table program work evaluated ran (passes .accepted) (contact-row u row (passes .contact)) (passes .rooms)
 
     pub made-work : {W : List ℕ} → W ≡ runWork (take entries T) (take bytes P) row work ran → W ≡ over (runWires (planTable p) (planProgram p) row) work
     made-work e =

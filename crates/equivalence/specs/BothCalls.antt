@@ -11,7 +11,7 @@ use Rattle.plan_evaluation_checks.specs.EvaluationChecks.{contactFault}
 use Rattle.plan_evaluation.specs.Evaluation.{gateBit, planOutputs}
 use Rattle.fabric.specs.Fabrics.{planProgram, planTable, runWires, runOutputs, programLength}
 use Rattle.equivalence.specs.declared.both.Lengths.{Lengths}
-use Rattle.equivalence.specs.ThirdDemand.{Rooms, planTableLength, planFabricWires}
+use Rattle.equivalence.specs.ThirdDemand.{planTableLength, planFabricWires, ContactRow, Rooms}
 
 module _ (p : Plan) where
   -- 11 for lent buffers of these lengths: table, program, work, and the two results
@@ -53,3 +53,8 @@ pub record BothPasses (p : Plan) (row : List ℕ) (table program work evaluated 
   pub accepted : Accepted p
   pub contact : contactFault (p .inputs) row ≡ 0
   pub rooms : Rooms p table program work evaluated ran
+
+-- the third demand's "none of these calls refuses", of this call: accepted plan, row of input contacts and enough room give the answer 0
+abbrev pub BothSucceeds : Type 0
+BothSucceeds = (p : Plan) (row : List ℕ) (table program work evaluated ran : ℕ) → Accepted p → ContactRow (p .inputs) row
+    → Rooms p table program work evaluated ran → bothFault p row table program work evaluated ran ≡ 0

@@ -1,4 +1,5 @@
--- "A refusal gives its number and changes no buffer. On success entries past the stated length are unchanged."
+-- "A refusal gives its number and changes no buffer. A record that would have been made is then all zero, and one that was handed over comes back as
+-- it went in. On success entries past the stated length are unchanged." Records are said by each call's own answer.
 use Prim.Native.Nat.{ℕ, zero, suc, _-_}
 use mathlib.Core.List.{List, _++_}
 use lib.ListN.{length, drop}

@@ -1,16 +1,16 @@
 -- A plan is accepted exactly if its counts, each of its gates and each of its outputs are allowed: each check of the plan's faults is
--- replaced by what it tests. Then that as bounds, for the code that uses an accepted plan.
+-- replaced by what it tests. Then that as bounds, both ways.
 use mathlib.Core.Path.{_≡_}
 use mathlib.Core.Logic.{_↔_}
 use mathlib.Core.Bool.{true}
-use Prim.Native.Nat.{ℕ, _+_, _<_, _≤_}
+use Prim.Native.Nat.{ℕ, _<_}
 use native.Mathlib.Omega.{arith}
 use Rattle.fault.proofs.ChecksLaws.{unless-zero, and-then-zero, first-of-zero}
 use Rattle.plan.specs.declared.record.Gate.{Gate}
 use Rattle.plan.specs.declared.record.Plan.{Plan}
 use Rattle.plan.specs.Record.{maxInputs, maxGates, maxOutputs, gateAt, outputAt, gateWire}
-use Rattle.plan.specs.Rules.{countAllowed, operandAllowed, maxTable, tableAllowed, sourceAllowed}
-use Rattle.plan.specs.Faults.{countsFault, gateFault, outputFault, planFault, Accepted, CountsWithin}
+use Rattle.plan.specs.Rules.{countAllowed, operandAllowed, tableAllowed, sourceAllowed}
+use Rattle.plan.specs.Faults.{countsFault, gateFault, outputFault, planFault, Accepted, CountsWithin, GateWithin, OutputWithin, PlanWithin}
 use Rattle.plan.proofs.RulesLaws.{count-bounds, operand-bounds, table-bound, source-bounds}
 
 -- the gate whose own wire is `own` has allowed operands and an allowed table
@@ -43,25 +43,12 @@ accepted-allowed p =
       λ a. ((a .inputs, (a .gates, a .outputs)), (a .gate, a .output)),
     )
 
--- the bounds of a gate whose own wire is `own`
-pub record GateWithin (own : ℕ) (g : Gate) : Type 0 where
-  pub someFirst : 1 ≤ g .first .0
-  pub first : g .first .0 < own
-  pub someSecond : 1 ≤ g .second .0
-  pub second : g .second .0 < own
-  pub table : g .table ≤ maxTable
-
--- the bounds of an output wire w, in a plan with u inputs and k gates
-pub record OutputWithin (u k w : ℕ) : Type 0 where
-  pub above : u < w
-  pub upTo : w ≤ u + k
-
 counts-in : (u k v : ℕ) → countAllowed maxInputs u ≡ true → countAllowed maxGates k ≡ true → countAllowed maxOutputs v ≡ true
     → CountsWithin u k v
 counts-in u k v a b c =
-    let (u₁, u₂) = count-bounds maxInputs u a in
-    let (k₁, k₂) = count-bounds maxGates k b in
-    let (v₁, v₂) = count-bounds maxOutputs v c in
+    let (u₁, u₂) = count-bounds maxInputs u .0 a in
+    let (k₁, k₂) = count-bounds maxGates k .0 b in
+    let (v₁, v₂) = count-bounds maxOutputs v .0 c in
     record { someInputs = u₁; inputs = u₂; someGates = k₁; gates = k₂; someOutputs = v₁; outputs = v₂ }
 
 -- counts without a fault are within their limits
@@ -81,12 +68,33 @@ module _ (p : Plan) (accepted : Accepted p) where
   pub accepted-gate : (i : ℕ) → i < p .«gate_count» → GateWithin (gateWire (p .inputs) i) (gateAt p i)
   accepted-gate i h =
       let a = allowed .gate i h in
-      let (f₁, f₂) = operand-bounds _ _ (a .first) in
-      let (s₁, s₂) = operand-bounds _ _ (a .second) in
-      record { someFirst = f₁; first = f₂; someSecond = s₁; second = s₂; table = table-bound _ (a .table) }
+      let (f₁, f₂) = operand-bounds _ _ .0 (a .first) in
+      let (s₁, s₂) = operand-bounds _ _ .0 (a .second) in
+      record { someFirst = f₁; first = f₂; someSecond = s₁; second = s₂; table = table-bound _ .0 (a .table) }
 
   -- its outputs
   pub accepted-output : (j : ℕ) → j < p .«output_count» → OutputWithin (p .inputs) (p .«gate_count») (outputAt p j .0)
   accepted-output j h =
-      let (low, high) = source-bounds _ _ _ (allowed .output j h) in
+      let (low, high) = source-bounds _ _ _ .0 (allowed .output j h) in
       record { above = omega arith; upTo = high }
+
+-- a gate within its bounds is allowed
+gate-allowed : (own : ℕ) (g : Gate) → GateWithin own g → AllowedGate own g
+gate-allowed own g w = record {
+  first = operand-bounds own (g .first .0) .1 (w .someFirst, w .first);
+  second = operand-bounds own (g .second .0) .1 (w .someSecond, w .second);
+  table = table-bound (g .table) .1 (w .table);
+}
+
+-- a plan is accepted exactly if it is within its bounds
+pub accepted-bounds : (p : Plan) → Accepted p ↔ PlanWithin p
+accepted-bounds p = (
+  λ a. record { counts = accepted-counts p a; gate = accepted-gate p a; output = accepted-output p a },
+  λ w. let c = w .counts in accepted-allowed p .1 (record {
+    inputs = count-bounds maxInputs (p .inputs) .1 (c .someInputs, c .inputs);
+    gates = count-bounds maxGates (p .«gate_count») .1 (c .someGates, c .gates);
+    outputs = count-bounds maxOutputs (p .«output_count») .1 (c .someOutputs, c .outputs);
+    gate = λ i h. gate-allowed (gateWire (p .inputs) i) (gateAt p i) (w .gate i h);
+    output = λ j h. source-bounds (p .inputs) (p .«gate_count») (outputAt p j .0) .1 (omega (arith, w .output j h .above), w .output j h .upTo);
+  }),
+)

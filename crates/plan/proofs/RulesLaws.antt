@@ -1,6 +1,7 @@
 -- The rules as orders between numbers.
 use mathlib.Core.Path.{_≡_}
-use mathlib.Core.Bool.{true, false, and-eq-true-iff}
+use mathlib.Core.Logic.{_↔_}
+use mathlib.Core.Bool.{Bool, true, false, _&&_, and-eq-true-iff}
 use Prim.Native.Nat.{ℕ, _+_, _-_, _<_, _≤_}
 use native.Mathlib.Omega.{arith}
 use native.Mathlib.Decide.{decLe}
@@ -8,28 +9,37 @@ use borrow.Author.Tests.{le-leb, lt-leb, lt-ltb, leb-true, ltb-true}
 use lib.Dec.{leb, ltb}
 use Rattle.plan.specs.Rules.{countAllowed, maxMap, mapAllowed, operandAllowed, maxTable, tableAllowed, sourceAllowed}
 
+-- two tests that both pass
+both-bounds : {a b : Bool} {P Q : Type 0} → (a ≡ true) ↔ P → (b ≡ true) ↔ Q → (a && b ≡ true) ↔ (P × Q)
+both-bounds {a} {b} p q =
+    (λ h. let (low, high) = and-eq-true-iff a b .0 h in (p .0 low, q .0 high), λ h. and-eq-true-iff a b .1 (p .1 (h .0), q .1 (h .1)))
+
+at-most : (a b : ℕ) → (leb a b ≡ true) ↔ (a ≤ b)
+at-most a b = (leb-true a b, le-leb a b)
+
+below : (a b : ℕ) → (ltb a b ≡ true) ↔ (a < b)
+below a b = (ltb-true a b, lt-ltb a b)
+
 -- what the rules allow, as bounds
-pub count-bounds : (limit n : ℕ) → countAllowed limit n ≡ true → (1 ≤ n) × (n ≤ limit)
+pub count-bounds : (limit n : ℕ) → (countAllowed limit n ≡ true) ↔ ((1 ≤ n) × (n ≤ limit))
 unfolding countAllowed
-count-bounds limit n h = let (low, high) = and-eq-true-iff (leb 1 n) (leb n limit) .0 h in (leb-true 1 n low, leb-true n limit high)
+count-bounds limit n = both-bounds (at-most 1 n) (at-most n limit)
 
-pub map-bound : (m : ℕ) → mapAllowed m ≡ true → m ≤ maxMap
+pub map-bound : (m : ℕ) → (mapAllowed m ≡ true) ↔ (m ≤ maxMap)
 unfolding mapAllowed
-map-bound m h = leb-true m maxMap h
+map-bound m = at-most m maxMap
 
-pub operand-bounds : (own w : ℕ) → operandAllowed own w ≡ true → (1 ≤ w) × (w < own)
+pub operand-bounds : (own w : ℕ) → (operandAllowed own w ≡ true) ↔ ((1 ≤ w) × (w < own))
 unfolding operandAllowed
-operand-bounds own w h = let (low, high) = and-eq-true-iff (leb 1 w) (ltb w own) .0 h in (leb-true 1 w low, ltb-true w own high)
+operand-bounds own w = both-bounds (at-most 1 w) (below w own)
 
-pub table-bound : (t : ℕ) → tableAllowed t ≡ true → t ≤ maxTable
+pub table-bound : (t : ℕ) → (tableAllowed t ≡ true) ↔ (t ≤ maxTable)
 unfolding tableAllowed
-table-bound t h = leb-true t maxTable h
+table-bound t = at-most t maxTable
 
-pub source-bounds : (u k w : ℕ) → sourceAllowed u k w ≡ true → (u + 1 ≤ w) × (w ≤ u + k)
+pub source-bounds : (u k w : ℕ) → (sourceAllowed u k w ≡ true) ↔ ((u + 1 ≤ w) × (w ≤ u + k))
 unfolding sourceAllowed
-source-bounds u k w h =
-    let (low, high) = and-eq-true-iff (leb (u + 1) w) (leb w (u + k)) .0 h in
-    (leb-true (u + 1) w low, leb-true w (u + k) high)
+source-bounds u k w = both-bounds (at-most (u + 1) w) (at-most w (u + k))
 
 -- the wire just before a gate is an allowed operand
 pub default-allowed : (own : ℕ) → 2 ≤ own → operandAllowed own (own - 1) ≡ true

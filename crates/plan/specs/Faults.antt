@@ -1,13 +1,13 @@
 -- Document 01, "Plan faults, for a plan handed over in memory: 2, 3, 4, per gate 7 for both operands and 8, then 9". Unused places are
 -- not looked at.
-use Prim.Native.Nat.{ℕ, _≤_}
+use Prim.Native.Nat.{ℕ, _+_, _<_, _≤_}
 use mathlib.Core.Path.{_≡_}
 use Rattle.fault.specs.declared.Fault.{Fault}
 use Rattle.fault.specs.Checks.{unless, andThen, firstOf}
 use Rattle.plan.specs.declared.record.Gate.{Gate}
 use Rattle.plan.specs.declared.record.Plan.{Plan}
 use Rattle.plan.specs.Record.{maxInputs, maxGates, maxOutputs, gateAt, outputAt, gateWire}
-use Rattle.plan.specs.Rules.{countAllowed, operandAllowed, tableAllowed, sourceAllowed}
+use Rattle.plan.specs.Rules.{countAllowed, operandAllowed, maxTable, tableAllowed, sourceAllowed}
 
 -- 2, 3, 4
 unfoldable pub countsFault : ℕ → ℕ → ℕ → ℕ
@@ -51,3 +51,22 @@ pub record CountsWithin (u k v : ℕ) : Type 0 where
   pub gates : k ≤ maxGates
   pub someOutputs : 1 ≤ v
   pub outputs : v ≤ maxOutputs
+
+-- the bounds of a gate whose own wire is `own`
+pub record GateWithin (own : ℕ) (g : Gate) : Type 0 where
+  pub someFirst : 1 ≤ g .first .0
+  pub first : g .first .0 < own
+  pub someSecond : 1 ≤ g .second .0
+  pub second : g .second .0 < own
+  pub table : g .table ≤ maxTable
+
+-- the bounds of an output wire w, in a plan with u inputs and k gates
+pub record OutputWithin (u k w : ℕ) : Type 0 where
+  pub above : u < w
+  pub upTo : w ≤ u + k
+
+-- the bounds of a plan: those of its counts, its gates and its outputs. A plan is accepted exactly if it is within them
+pub record PlanWithin (p : Plan) : Type 0 where
+  pub counts : CountsWithin (p .inputs) (p .«gate_count») (p .«output_count»)
+  pub gate : (i : ℕ) → i < p .«gate_count» → GateWithin (gateWire (p .inputs) i) (gateAt p i)
+  pub output : (j : ℕ) → j < p .«output_count» → OutputWithin (p .inputs) (p .«gate_count») (outputAt p j .0)

@@ -1,4 +1,4 @@
--- Laws of evaluation: how many wires there are, that bits stay bits, and that unused places of the wires' array do not show.
+-- Laws of evaluation: how many wires and outputs there are, that bits stay bits, and that unused places of the wires' array do not show.
 use mathlib.Core.Path.{_≡_, ap, _∙_, fun-ext}
 use mathlib.Core.List.{List, [], _∷_, _++_}
 use Prim.Native.Nat.{ℕ, zero, suc, _+_, _-_, _<_, _≤_}
@@ -6,14 +6,15 @@ use native.Mathlib.Omega.{arith}
 use native.Mathlib.Numerals.{add-one}
 use lib.ListN.{length, getD, set, length-append}
 use Rattle.lists.specs.Lists.{listOf}
+use Rattle.lists.proofs.ListsLaws.{length-listOf, getD-listOf}
 use Rattle.plan.specs.declared.record.Plan.{Plan}
 use Rattle.plan.specs.Record.{maxGates, places, gateAt, outputAt, gateWire}
 use Rattle.plan.proofs.RecordLaws.{places-more, getD-places}
-use Rattle.plan.specs.Faults.{Accepted}
-use Rattle.plan.proofs.FaultsLaws.{GateWithin, accepted-counts, accepted-gate, accepted-output}
-use Rattle.plan_evaluation_checks.specs.EvaluationChecks.{Evaluable}
+use Rattle.plan.specs.Faults.{Accepted, GateWithin}
+use Rattle.plan.proofs.FaultsLaws.{accepted-counts, accepted-gate, accepted-output}
+use Rattle.plan_evaluation_checks.specs.EvaluationChecks.{contactFault, Evaluable}
 use Rattle.plan_evaluation_checks.proofs.EvaluationChecksLaws.{row-length, row-bit}
-use Rattle.plan_evaluation.specs.Evaluation.{valueOn, planWires, namedBy, tableBit, gateBit, NamedWires, maxPlanWires}
+use Rattle.plan_evaluation.specs.Evaluation.{valueOn, planWires, namedBy, planOutputs, tableBit, gateBit, NamedWires, maxPlanWires}
 
 module _ {A : Type 0} (none : A) (act : ℕ → ℕ → A → A → A) (p : Plan) (row : List A) where
   -- a wire for each input and for each of n gates
@@ -39,6 +40,16 @@ pub wire-bit : (p : Plan) (row : List ℕ) → ((i : ℕ) → getD row i 0 ≤ 1
 unfolding planWires
 wire-bit p row h zero i = h i
 wire-bit p row h (suc n) i = more-bits (planWires 0 gateBit p row n) _ (wire-bit p row h n) (table-bit _ _ _) i
+
+-- evaluation writes v entries, each 0 or 1
+module _ (p : Plan) (row : List ℕ) where
+  pub length-planOutputs : length (planOutputs 0 gateBit p row) ≡ p .«output_count»
+  length-planOutputs = length-listOf (p .«output_count») _
+
+  pub planOutputs-bits : contactFault (p .inputs) row ≡ 0 → (j : ℕ) → j < p .«output_count» → getD (planOutputs 0 gateBit p row) j 0 ≤ 1
+  planOutputs-bits contacts j h =
+      rw (getD-listOf (p .«output_count») (λ j. valueOn 0 (planWires 0 gateBit p row (p .«gate_count»)) (outputAt p j)) j 0 h)
+      (wire-bit p row (row-bit (p .inputs) row contacts) (p .«gate_count») (outputAt p j .0 - 1))
 
 -- where gate i of an accepted plan and its operands stand
 pub record GateRoom (p : Plan) (i : ℕ) : Type 0 where

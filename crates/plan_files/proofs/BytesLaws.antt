@@ -40,7 +40,7 @@ joined-bytes f (suc n) h = append-bytes (joinedBytes n f) (f n) (joined-bytes f 
 
 -- an operand of the gate whose own wire is `own`
 operand-bytes : (stands : Bool) (own w : ℕ) → own < wordNumbers → operandAllowed own w ≡ true → OfBytes (whereStanding stands (word w))
-operand-bytes stands own w h allowed = standing-bytes stands (word w) (word-bytes w (omega (arith, operand-bounds own w allowed .1)))
+operand-bytes stands own w h allowed = standing-bytes stands (word w) (word-bytes w (omega (arith, operand-bounds own w .0 allowed .1)))
 
 -- a gate
 gate-bytes : (own m : ℕ) (g : Gate) → own < wordNumbers → AllowedGate own g → LeavesOutDefaults own m g → OfBytes (encodeGate m g)
@@ -48,10 +48,10 @@ gate-bytes own m g h ok left =
     let first = whereStanding (mapBit m firstPlace) (word (g .first .0)) in
     let second = whereStanding (mapBit m secondPlace) (word (g .second .0)) in
     let table = whereStanding (mapBit m tablePlace) (byte (g .table)) in
-    append-bytes (byte m) (first ++ (second ++ table)) (byte-bytes m (omega (arith, map-bound m (left .isMap))))
+    append-bytes (byte m) (first ++ (second ++ table)) (byte-bytes m (omega (arith, map-bound m .0 (left .isMap))))
     (append-bytes first (second ++ table) (operand-bytes (mapBit m firstPlace) own (g .first .0) h (ok .first))
     (append-bytes second table (operand-bytes (mapBit m secondPlace) own (g .second .0) h (ok .second))
-    (standing-bytes (mapBit m tablePlace) (byte (g .table)) (byte-bytes (g .table) (omega (arith, table-bound (g .table) (ok .table)))))))
+    (standing-bytes (mapBit m tablePlace) (byte (g .table)) (byte-bytes (g .table) (omega (arith, table-bound (g .table) .0 (ok .table)))))))
 
 -- the whole file
 pub encode-bytes : FilesOfBytes
@@ -61,9 +61,9 @@ encode-bytes maps p ok choice =
     let u = p .inputs in
     let k = p .«gate_count» in
     let v = p .«output_count» in
-    let inputs = count-bounds maxInputs u (allowed .inputs) in
-    let gates = count-bounds maxGates k (allowed .gates) in
-    let outputs = count-bounds maxOutputs v (allowed .outputs) in
+    let inputs = count-bounds maxInputs u .0 (allowed .inputs) in
+    let gates = count-bounds maxGates k .0 (allowed .gates) in
+    let outputs = count-bounds maxOutputs v .0 (allowed .outputs) in
     let gs = joinedBytes k (λ i. encodeGate (maps i) (gateAt p i)) in
     let os = joinedBytes v (λ j. word (outputAt p j .0)) in
     append-bytes (word u) (word k ++ (word v ++ (gs ++ os))) (word-bytes u (omega arith))
@@ -71,4 +71,4 @@ encode-bytes maps p ok choice =
     (append-bytes (word v) (gs ++ os) (word-bytes v (omega arith))
     (append-bytes gs os
     (joined-bytes _ k (λ i l. gate-bytes (gateWire u i) (maps i) (gateAt p i) (omega arith) (allowed .gate i l) (choice i l)))
-    (joined-bytes _ v (λ j l. word-bytes (outputAt p j .0) (omega (arith, source-bounds u k (outputAt p j .0) (allowed .output j l) .1)))))))
+    (joined-bytes _ v (λ j l. word-bytes (outputAt p j .0) (omega (arith, source-bounds u k (outputAt p j .0) .0 (allowed .output j l) .1)))))))

@@ -153,7 +153,7 @@ file-gives s small =
     gives-then _ s (field-gives word-coded s (countAllowed maxInputs) Fault.Inputs o small) λ u a inputs.
     gives-then _ s (field-gives word-coded s (countAllowed maxGates) Fault.Gates a small) λ k b gates.
     gives-then _ s (field-gives word-coded s (countAllowed maxOutputs) Fault.Outputs b small) λ v c outputs.
-    let own : (i : ℕ) → 2 ≤ gateWire u i = λ i. omega (arith, count-bounds maxInputs u (inputs .0)) in
+    let own : (i : ℕ) → 2 ≤ gateWire u i = λ i. omega (arith, count-bounds maxInputs u .0 (inputs .0)) in
     gives-then _ s (in-order-gives (GateOf u) encodeGate zeroGate s (λ i. gateStep (gateWire u i)) k
     (λ i at _. gate-gives s (gateWire u i) at small (own i)) c) λ gs d each-gate.
     gives-then _ s (in-order-gives (OutputOf u k) (λ _ w. word (w .0)) (wire 0) s (λ _. outputStep u k) v
@@ -210,8 +210,8 @@ full-longest maps p =
 pub longest : (maps : ℕ → ℕ) (p : Plan) → Accepted p → length (encode maps p) ≤ longestFile
 longest maps p ok =
     let allowed = accepted-allowed p .0 ok in
-    let gates = count-bounds maxGates (p .«gate_count») (allowed .gates) in
-    let outputs = count-bounds maxOutputs (p .«output_count») (allowed .outputs) in
+    let gates = count-bounds maxGates (p .«gate_count») .0 (allowed .gates) in
+    let outputs = count-bounds maxOutputs (p .«output_count») .0 (allowed .outputs) in
     omega (arith, full-longest maps p, full-length p)
 
 -- no longer file is read

@@ -72,7 +72,7 @@ plan-held gs os c e o = λ i. record {
 
 -- a count that was read is within its limit
 pub count-within : (limit : ℕ) (f : Fault) (s : List ℕ) (at : ℕ) {n next : ℕ} → got n next ≡ countField limit f s at → n ≤ limit
-count-within limit f s at {n} e = count-bounds limit n (field-allowed 2 wordAt (countAllowed limit) f s at e) .1
+count-within limit f s at {n} e = count-bounds limit n .0 (field-allowed 2 wordAt (countAllowed limit) f s at e) .1
 
 -- the end of a file, and a tail
 at-end : (s : List ℕ) (at : ℕ) → length s ≤ at → got tt at ≡ atEnd s at

@@ -3,7 +3,6 @@ use crate::line::blank;
 use crate::line::print;
 use crate::line::put_byte;
 use crate::line::put_entries;
-use crate::print_refusal;
 use blocks::STRIDE;
 use equivalence::run_both;
 use fabric::HEADER;
@@ -11,14 +10,19 @@ use fault::Answer;
 use fault::Fault;
 use plan::Plan;
 
-// The entries of the table for u, k and v of 64, whose fabric has 5,185 rows of three entries.
-const TABLE: usize = HEADER + STRIDE * 5185 + Plan::MAX_OUTPUTS;
+// The rows, wires and program bits of the fabric of 64 inputs, 64 gates and 64 outputs: the largest counts that the program takes.
+const MOST_ROWS: usize = 5185;
 
-// The bytes of its programs, of 5,377 bits.
-const PROGRAM: usize = (5377 + 7) / 8;
+const MOST_WIRES: usize = 9476;
 
-// The bytes of its run's work buffer, one for each of 9,476 wires.
-const WORK: usize = 9476;
+const MOST_BITS: usize = 5377;
+
+// The entries of its table, the bytes of its programs, and those of its run's work buffer, one for each wire.
+const TABLE: usize = HEADER + STRIDE * MOST_ROWS + Plan::MAX_OUTPUTS;
+
+const PROGRAM: usize = (MOST_BITS + 7) / 8;
+
+const WORK: usize = MOST_WIRES;
 
 // The entries of the longest row of inputs, and of the longest row of outputs.
 const ROW: usize = Plan::MAX_INPUTS;
@@ -60,7 +64,7 @@ fn input_row_count(inputs: u16) -> u8 {
     1u8 << COUNTED
 }
 
-// The line of row r; false where the calls refuse, which they do for no plan that was read.
+// The line of row r. False, and no line, where the calls refuse: by the third demand they do for no plan that was read.
 fn print_row(
     plan: Plan,
     r: u8,
@@ -73,10 +77,7 @@ fn print_row(
 ) -> bool {
     set_inputs(inputs, r);
     match run_input_row(plan, inputs, table, program, work, evaluated, ran) {
-        Answer::Refused(f) => {
-            print_refusal(f, 0);
-            false
-        }
+        Answer::Refused(_) => false,
         Answer::Done => {
             let u = plan.inputs as usize;
             let v = plan.output_count as usize;
