@@ -10,7 +10,7 @@ use fault::Fault;
 
 // 11: `count` bits from bit `start` on do not fit a program of `room` bytes. The bytes before that bit's are full, and the others hold what
 // stands before it in its own byte, and the bits.
-pub fn check_bits(count: u32, start: usize, room: usize) -> Answer
+pub(crate) fn check_bits(count: u32, start: usize, room: usize) -> Answer
     ensures { λ r. ⌜ answerNumber r ≡ bitsAtFault count start room ⌝ }
 {
     if room < bit_byte(start) + bytes_for(bit_place(start) + count as usize) {

@@ -3,6 +3,5 @@ mod bits;
 mod permutation;
 mod selection;
 
-pub use bits::check_bits;
 pub use permutation::check_permutation;
 pub use selection::check_selection;

@@ -5,5 +5,3 @@ mod wires;
 
 pub use permutation::check_permutation_write;
 pub use selection::check_selection_write;
-pub use wires::check_room;
-pub use wires::check_wires;

@@ -10,7 +10,7 @@ use fault::Answer;
 use fault::Fault;
 
 // 13: an input wire is unmade, or one of the wires to be made would pass 65,535.
-pub fn check_wires(inputs: &[u16], next: FabricWire, made: u32) -> Answer
+pub(crate) fn check_wires(inputs: &[u16], next: FabricWire, made: u32) -> Answer
     ensures { λ r. ⌜ answerNumber r ≡ wiresFault (now (inputs .entry)) made (next .0) ⌝ }
 {
     match check_made(inputs, next) {
@@ -50,7 +50,7 @@ fn wires_fit(made: u32, next: FabricWire) -> bool
 }
 
 // 11: `count` rows, or `outs` output wires, do not fit lent buffers of `rows` and `outputs` entries.
-pub fn check_room(count: u32, outs: u32, rows: usize, outputs: usize) -> Answer
+pub(crate) fn check_room(count: u32, outs: u32, rows: usize, outputs: usize) -> Answer
     ensures { λ r. ⌜ answerNumber r ≡ buffersFault count outs rows outputs ⌝ }
 {
     if rows < row_place(count) {

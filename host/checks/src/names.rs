@@ -1,5 +1,5 @@
 //! The check of docs/WHAT_IS_PROVED.md: every name on the page is declared where the page says, and
-//! every public call of the library is on the page.
+//! every public call, which is every public function of a Rattle source, is on the page.
 //!
 //! The page's rule: backticks hold the path of a file, or a public name that is declared in the file
 //! whose path comes next on the line.
@@ -8,15 +8,10 @@ use std::path::Path;
 use std::{fs, io};
 
 use crate::antt;
-use crate::listing::{self, Listed};
 use crate::rattle::{self, Item};
-use crate::storeys::{Storey, BLOCKS, FABRIC};
 use crate::{files, Report};
 
 const PAGE: &str = "docs/WHAT_IS_PROVED.md";
-
-/// The crate of the exports: all its public functions are calls.
-const EXPORTS: &str = "capi";
 
 /// Every problem of the page in the repository at `root`.
 pub fn problems(root: &Path) -> io::Result<Report> {
@@ -24,44 +19,16 @@ pub fn problems(root: &Path) -> io::Result<Report> {
     let page = Page::new(&fs::read_to_string(root.join(PAGE))?);
     let mut problems = page.problems(&read);
 
-    let exports = format!("crates/{EXPORTS}/");
     let mut calls = Vec::new();
     for source in files::below(root, "src", "rt")? {
-        if source.path.starts_with(&exports) {
-            calls.extend(calls_in(&source.path, &read));
-        }
+        calls.extend(calls_in(&source.path, &read));
     }
-    for library in libraries(&listing::read(root)?, &read) {
-        match handed_on(library, &read) {
-            Ok(more) => calls.extend(more),
-            Err(problem) => problems.push(problem),
-        }
-    }
-    // A door hands on what another one does.
-    calls.sort();
-    calls.dedup();
     problems.extend(page.missing(&calls));
     let seen = format!("{} names, {} calls", page.names.len(), calls.len());
     Ok(Report { problems, seen })
 }
 
-/// The crates whose calls stand on the page, beside the exports: the doors of the block library and
-/// of the fabrics, the plans' crates, and the libraries above.
-fn libraries<'a>(crates: &'a [Listed], read: &impl Fn(&str) -> Option<String>) -> Vec<&'a str> {
-    let is_program = |name: &str| read(&format!("crates/{name}/src/main.rt")).is_some();
-    let is_library = |name: &&str| match Storey::of(name) {
-        Storey::Foundations => false,
-        Storey::Blocks => *name == BLOCKS,
-        Storey::Plans => true,
-        Storey::Fabrics => *name == FABRIC,
-        Storey::Above => *name != EXPORTS && !is_program(name),
-    };
-    let names = crates.iter().map(|one| one.name.as_str());
-    names.filter(is_library).collect()
-}
-
 /// A public function and where it is declared.
-#[derive(PartialEq, Eq, PartialOrd, Ord)]
 struct Call {
     file: String,
     line: usize,
@@ -172,60 +139,6 @@ fn calls_in(file: &str, read: &impl Fn(&str) -> Option<String>) -> Vec<Call> {
     items.filter(|item| item.is_function).map(call).collect()
 }
 
-/// The calls of a library: what its root declares and, by `pub use`, hands on; of a type its
-/// methods.
-fn handed_on(library: &str, read: &impl Fn(&str) -> Option<String>) -> Result<Vec<Call>, String> {
-    let root = format!("crates/{library}/src/lib.rt");
-    let mut calls = calls_in(&root, read);
-    let text = read(&root).ok_or_else(|| format!("{root} is no file"))?;
-    for Use { line, from, item } in uses(&text) {
-        let file = source_of(library, from, item, read)
-            .ok_or_else(|| format!("{root}:{line}: {from}::{item} is not found"))?;
-        let methods = format!("{item}::");
-        let mut found = calls_in(&file, read);
-        found.retain(|call| call.name == item || call.name.starts_with(&methods));
-        calls.extend(found);
-    }
-    Ok(calls)
-}
-
-/// A line `pub use FROM::ITEM;`.
-struct Use<'a> {
-    line: usize,
-    from: &'a str,
-    item: &'a str,
-}
-
-fn uses(root: &str) -> impl Iterator<Item = Use<'_>> {
-    (1..).zip(root.lines()).filter_map(|(line, text)| {
-        let path = text.strip_prefix("pub use ")?.trim_end_matches(';');
-        let (from, item) = path.split_once("::")?;
-        Some(Use { line, from, item })
-    })
-}
-
-/// The file that declares an item that a crate's root uses: a module of its own, or, from door to
-/// door, one of the crate `from`.
-fn source_of(
-    library: &str,
-    from: &str,
-    item: &str,
-    read: &impl Fn(&str) -> Option<String>,
-) -> Option<String> {
-    let declares = |text: &str| public_items(text).any(|one| one.name == item);
-    let module = format!("crates/{library}/src/{from}.rt");
-    if let Some(text) = read(&module) {
-        return declares(&text).then_some(module);
-    }
-    let file = format!("crates/{from}/src/lib.rt");
-    let root = read(&file).filter(|_| from != library)?;
-    let used = uses(&root).find(|used| used.item == item);
-    match used {
-        Some(next) => source_of(from, next.from, item, read),
-        None => declares(&root).then_some(file),
-    }
-}
-
 #[cfg(test)]
 mod tests {
     use super::*;
@@ -264,28 +177,12 @@ fn inner(plan: Plan) -> u32 {
 
     const EXPORT: &str = "#[no_mangle]\npub extern \"C\" fn mkd_fault() -> u32 {\n    1\n}\n";
 
-    const ANSWER: &str = "pub enum Answer {\n}\nimpl Answer {\n    pub fn number() {}\n}\n";
-
     fn read(path: &str) -> Option<String> {
         let text = match path {
             "crates/plan/specs/Faults.antt" => SPEC,
             "crates/plan/proofs/Laws.antt" => "pub law : planFault ≡ 0\n",
             "crates/plan/src/record.rt" => SOURCE,
-            "crates/plan/src/lib.rt" => {
-                "mod record;\n\npub use record::Plan;\npub use record::MOST;\n"
-            }
-            "crates/blocks/src/lib.rt" => {
-                "pub use plan::Plan;\npub use plan::MOST;\npub fn own() {}\n"
-            }
-            "crates/fabric/src/lib.rt" => "pub use plan::Missing;\n",
-            "crates/equivalence/src/lib.rt" => "pub use fault::Answer;\npub use blocks::Plan;\n",
-            "crates/fault/src/lib.rt" => ANSWER,
             "crates/capi/src/lib.rt" => EXPORT,
-            "crates/hidden/src/lib.rt" => "mod inner;\n\npub use inner::own;\n",
-            "crates/hidden/src/inner.rt" => "pub(crate) fn own() {}\n",
-            "crates/many/src/lib.rt" => "pub use plan::{Plan, MOST};\n",
-            "crates/loop/src/lib.rt" => "pub use loop::own;\n",
-            "crates/twintest/src/main.rt" => "fn main() {}\n",
             "docs/NOTES.md" => "plan_fault\n",
             _ => return None,
         };
@@ -386,61 +283,5 @@ fn inner(plan: Plan) -> u32 {
         let exports = calls_in("crates/capi/src/lib.rt", &read);
         assert_eq!(exports[0].name, "mkd_fault");
         assert_eq!(whole.missing(&exports).len(), 1);
-    }
-
-    #[test]
-    fn a_library_hands_on_its_calls() {
-        let names = |library| {
-            let calls = handed_on(library, &read)?;
-            let shown = calls
-                .iter()
-                .map(|call| format!("{} {}", call.file, call.name));
-            Ok(shown.collect::<Vec<String>>().join(", "))
-        };
-        let zero = "crates/plan/src/record.rt Plan::zero";
-        let own = "crates/blocks/src/lib.rt own";
-        let number = "crates/fault/src/lib.rt Answer::number";
-        assert_eq!(names("plan"), Ok(zero.to_string()));
-        assert_eq!(names("blocks"), Ok(format!("{own}, {zero}")));
-        assert_eq!(names("equivalence"), Ok(format!("{number}, {zero}")));
-        for (library, problem) in [
-            (
-                "fabric",
-                "crates/fabric/src/lib.rt:1: plan::Missing is not found",
-            ),
-            ("reading", "crates/reading/src/lib.rt is no file"),
-            (
-                "hidden",
-                "crates/hidden/src/lib.rt:3: inner::own is not found",
-            ),
-            (
-                "many",
-                "crates/many/src/lib.rt:1: plan::{Plan, MOST} is not found",
-            ),
-            ("loop", "crates/loop/src/lib.rt:1: loop::own is not found"),
-        ] {
-            assert_eq!(names(library), Err(problem.to_string()));
-        }
-    }
-
-    #[test]
-    fn the_libraries_are_the_doors_the_plans_crates_and_those_above() {
-        let crates = "\
-lists:
-blocks:
-block_rows:
-plan:
-plan_faults:
-fabric:
-fabric_rows:
-equivalence:
-capi:
-twintest:
-";
-        let crates = listing::listed(crates);
-        assert_eq!(
-            libraries(&crates, &read),
-            ["blocks", "plan", "plan_faults", "fabric", "equivalence"]
-        );
     }
 }

@@ -3,7 +3,8 @@
 //! Under the heading `## Reading order`, or under `## Inside the calls`, each file of
 //! crates/*/specs/, Lib.antt left out, has exactly one row: its path in backticks, its number of
 //! lines as `wc -l` prints it, and a sentence. The files of the reading order stay below 3,500 lines
-//! together. Those inside the calls are what functions that no other crate sees say of each other.
+//! together. Those inside the calls are what functions that no export and no door hands on say of each
+//! other.
 
 use std::collections::HashSet;
 use std::path::Path;
