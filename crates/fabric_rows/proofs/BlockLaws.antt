@@ -112,13 +112,15 @@ gate-outs next O room few =
 
 -- ---- the selection block: its checks pass
 
+pub selection-done : (m n : ℕ) (ins : List ℕ) (next rows outputs : ℕ) → SelectionWritePasses m n ins next rows outputs
+    → selectionWriteFault m n ins next rows outputs ≡ 0
+selection-done m n ins next rows outputs w =
+    selection-write-succeeds m n ins next rows outputs (w .sizes) (w .inputs) (w .made) (w .wires) (w .rowRoom) (w .outputRoom)
+
 pub selection-put : (m n : ℕ) (ins : List ℕ) (next : ℕ) (R₀ T₀ R T : List ℕ) → SelectionWritePasses m n ins next (length R₀) (length T₀)
     → (R ≡ selectionWrittenRows m n ins next R₀ T₀) × (T ≡ selectionWrittenOutputs m n ins next R₀ T₀)
     → (R ≡ over (flat (selectionRows m n ins next)) R₀) × (T ≡ over (selectionOuts m n ins next) T₀)
-selection-put m n ins next R₀ T₀ R T w e =
-    let none : selectionWriteFault m n ins next (length R₀) (length T₀) ≡ 0 =
-    selection-write-succeeds m n ins next (length R₀) (length T₀) (w .sizes) (w .inputs) (w .made) (w .wires) (w .rowRoom) (w .outputRoom) in
-    rw none at e
+selection-put m n ins next R₀ T₀ R T w e = rw (selection-done m n ins next (length R₀) (length T₀) w) at e
 
 pub length-selection : (m n : ℕ) (ins : List ℕ) (next : ℕ) → length (flat (selectionRows m n ins next)) ≡ stride * selectionCount m n
 length-selection m n ins next = length-flat (selection-totals m n ins next .family) ∙ ap (λ k. stride * k) (length-selectionRows m n ins next)

@@ -6,7 +6,7 @@ use Prim.Native.Nat.{ℕ, suc, _+_, _-_, _*_, _^_, _≤_}
 use native.Mathlib.Numerals.{add-one}
 use native.Mathlib.Omega.{arith}
 use borrow.Rule.Slice.PartMut.{mid-len}
-use lib.ListN.{length, set, replicate, take, drop, length-append, length-drop}
+use lib.ListN.{length, set, take, drop, length-append, length-drop}
 use lib.Seq.{take-at, take-all}
 use Rattle.lists.specs.Lists.{listOf}
 use Rattle.lists.proofs.ListsLaws.{listOf-ext}
@@ -31,11 +31,11 @@ use Rattle.fabric_sizes.specs.Counting.{tableLength}
 use Rattle.fabric_sizes.specs.Parts.{maxPins, PlacesAre, SelectionIs, UniversalIs}
 use Rattle.fabric_sizes.proofs.PartsLaws.{few-places, same-level}
 use Rattle.fabric_sizes.specs.FabricChecks.{FabricPasses}
-use Rattle.fabric_parts.specs.Copied.{copiedAt}
+use Rattle.fabric_parts.specs.Copied.{copiedAt, outputsPut}
 use Rattle.fabric_rows.specs.declared.writing.Layout.{Layout}
 use Rattle.fabric_rows.specs.Writing.{LayoutIs, PinRoom}
 use Rattle.fabric_rows.specs.Block.{UniversalWriteRoom}
-use Rattle.fabric_rows.proofs.BlockLaws.{selection-put, length-selection, over-behind}
+use Rattle.fabric_rows.proofs.BlockLaws.{selection-done, selection-put, length-selection, over-behind}
 use Rattle.fabric_rows.proofs.UniversalWriteLaws.{length-universal}
 
 -- the entries of S(K, v) on the first K of the gates' wires: its rows, and behind them its output wires
@@ -113,26 +113,18 @@ module _ {u gates : ℕ} {A : List ℕ} (I R₀ P₀ : List ℕ) (room : PinRoom
 
 -- ---- the outputs: F is the table's part from the rows of S(K, v) on
 
--- the list that the output wires are selected into
-abbrev noOutputs : List ℕ
-noOutputs = replicate maxOutputs 0
-
 outputs-put : {gates v end next : ℕ} {outs : List ℕ} (R₀ : List ℕ) {F : List ℕ} → FabricOutputRoom gates v end next outs (length R₀)
-    → F ≡ copiedAt end (take v (selectionWrittenOutputs gates v (take gates outs) next R₀ noOutputs))
-    (selectionWrittenRows gates v (take gates outs) next R₀ noOutputs)
-    → F ≡ over (outputEntries gates v outs next) R₀
+    → F ≡ outputsPut gates v end next outs R₀ → F ≡ over (outputEntries gates v outs next) R₀
 unfolding outputEntries copiedAt
 outputs-put {gates} {v} {end} {next} {outs} R₀ room e =
     let ins = take gates outs in
     let A = flat (selectionRows gates v ins next) in
     let O = selectionOuts gates v ins next in
-    let done = selection-put gates v ins next R₀ noOutputs _ _ (room .passes) (refl, refl) in
     let a : length A ≡ end = length-selection gates v ins next ∙ sym (room .endAt) in
     let o : length O ≡ v = length-selectionOuts gates v ins next in
     let enough = room .enough in
     let rest : length (drop end (over A R₀)) ≡ length R₀ - end = length-drop end (over A R₀) ∙ ap (λ n. n - end) (length-over A R₀ (omega arith)) in
-    e ∙ ap₂ (λ t l. copiedAt end (take v l) t) (done .0) (done .1)
-    ∙ ap (λ l. copiedAt end l (over A R₀)) (take-at O (drop (length O) noOutputs) v o)
+    rw (selection-done gates v ins next (length R₀) maxOutputs (room .passes)) at e
     ∙ ap (λ l. take end (over A R₀) ++ over l (drop end (over A R₀))) (take-all (length (drop end (over A R₀))) O (omega arith))
     ∙ over-behind A O R₀ end a
 
@@ -313,9 +305,7 @@ module _ {u k v : ℕ} {l : Layout} {T₀ T₁ : List ℕ} (begun : FabricBegun 
           }
 
       -- after S(K, v)
-      module _ {F₄ : List ℕ} (out : F₄ ≡ copiedAt (l .end)
-          (take v (selectionWrittenOutputs (l .gates) v (take (l .gates) O₃) (l .«output_next» .0) (partOf (l .outputs) T₃) noOutputs))
-          (selectionWrittenRows (l .gates) v (take (l .gates) O₃) (l .«output_next» .0) (partOf (l .outputs) T₃) noOutputs)) where
+      module _ {F₄ : List ℕ} (out : F₄ ≡ outputsPut (l .gates) v (l .end) (l .«output_next» .0) O₃ (partOf (l .outputs) T₃)) where
         abbrev C : List ℕ
         C = flat (selectionRows (2 ^ n) v (gateOuts u k) (fabricOutputNext u k)) ++ fabricOuts u k v
 

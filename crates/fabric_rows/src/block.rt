@@ -89,7 +89,7 @@ fn universal_parts(gates: u16, next: FabricWire) -> UniversalParts
 }
 
 // Between the halves: the selection block, whose output wires go over the upper half's pins, and the Y rows, whose output wires go over the
-// lower half's.
+// lower half's. There is room for the block, so that S does not refuse.
 fn write_middle(parts: UniversalParts, rows: &mut [u16], pins: &mut [u16], outs: &[u16])
     requires { ⌜ MiddleRoom parts (now outs) (length (now rows)) (length (now pins)) ⌝ }
     ensures rows { λ _. ⌜ now (rows .exit) ≡ over (flat (middleRows parts (now (outs .entry)) (now (pins .entry)))) (now (rows .entry)) ⌝ }

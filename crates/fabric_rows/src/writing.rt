@@ -80,7 +80,7 @@ fn layout_of(u: u16, k: u16, v: u16) -> Layout
     }
 }
 
-// The table where all checks pass.
+// The table where all checks pass, so that S does not refuse.
 fn put_fabric(u: u16, k: u16, v: u16, table: &mut [u16])
     requires { ⌜ FabricPasses u k v (length (now table)) ⌝ }
     ensures { λ _. ⌜ now (table .exit) ≡ over (fabricTable u k v) (now (table .entry)) ⌝ }
@@ -119,7 +119,8 @@ fn put_header(u: u16, v: u16, rows: u32, table: &mut [u16])
     table[ROWS] = rows as u16;
 }
 
-// S(u, 2K) on the inputs: its rows to the front of the table's part, its output wires, which are the pins, to the front of their list.
+// S(u, 2K) on the inputs: its rows to the front of the table's part, its output wires, which are the pins, to the front of their list. There
+// is room for them, so that S does not refuse.
 fn put_pins(u: u16, gates: u16, rows: &mut [u16], pins: &mut [u16])
     requires { ⌜ PinRoom u gates (length (now rows)) (length (now pins)) ⌝ }
     ensures { λ _. ⌜ now (rows .exit) ≡ over (flat (selectionRows u (2 * gates) (inputWires u) (suc u))) (now (rows .entry)) ⌝ }

@@ -7,18 +7,23 @@ use borrow.Author.Tests.{lt-ltb, le-ltb}
 use native.Mathlib.Numerals.{add-one}
 use lib.ListN.{length, set, length-append}
 use Rattle.fault.specs.declared.Fault.{Fault}
+use Rattle.fault.specs.declared.Refusal.{Refusal}
 use Rattle.plan.specs.declared.record.Gate.{Gate}
 use Rattle.plan.specs.declared.record.Plan.{Plan}
 use Rattle.plan.specs.declared.record.PlanWire.{PlanWire}
-use Rattle.plan.specs.Record.{maxGates, maxOutputs, wire, zeroGate, places, planOf}
+use Rattle.plan.specs.Record.{maxGates, maxOutputs, wire, zeroGate, places, planOf, zeroPlan}
 use Rattle.plan.proofs.RecordLaws.{places-more}
 use Rattle.plan.specs.Rules.{countAllowed}
 use Rattle.plan.proofs.RulesLaws.{count-bounds}
 use Rattle.plan_fields.specs.Parsing.{Parsed, got, refused, refuse, Step, followed, _>>=_, wordAt, inOrder}
 use Rattle.plan_fields.proofs.ParsingLaws.{field-allowed, item-got, item-refused, still-refused}
 use Rattle.plan_fields.specs.Fields.{countField}
+use Rattle.plan_fields.specs.Answers.{refusal}
 use Rattle.plan_reading.specs.declared.reading.Header.{Header}
-use Rattle.plan_reading.specs.PlanFile.{gateSteps, outputSteps, atEnd, planFile}
+use Rattle.plan_reading.specs.declared.reading.ReadAnswer.{ReadAnswer}
+use Rattle.plan_reading.specs.declared.reading.PlanRead.{PlanRead}
+use Rattle.plan_reading.specs.PlanFile.{gateSteps, outputSteps, atEnd, planFile, parsedOutcome}
+use Rattle.plan_reading.specs.Answers.{answerOutcome, readOutcome}
 use Rattle.plan_reading.specs.Parts.{countsPart, headerPart, bodyPart}
 
 -- i items are read, from the cursor `start` up to `at`, and stand in their places
@@ -106,6 +111,11 @@ module _ (h : Header) (s : List ℕ) (at : ℕ) where
       pub body-read : length s ≤ at₂ → got (planOf (h .inputs) (h .gates) (h .outputs) gs os) at₂ ≡ bodyPart h s at
       unfolding bodyPart
       body-read l = ap (followed _ s) (at-end s at₂ l) ∙ ap (followed _ s) e₂ ∙ ap (followed _ s) e₁
+
+-- a refusal with the zero record is what a part that is refused gives
+pub refused-outcome : {r : PlanRead} {x : Refusal} {zero : Plan} {part : Parsed Plan} → r ≡ record { answer = ReadAnswer.Refused x; plan = zero }
+    → zero ≡ zeroPlan → refusal x ≡ part → readOutcome r ≡ parsedOutcome part
+refused-outcome {x = x} answered z e = ap readOutcome answered ∙ ap (answerOutcome (ReadAnswer.Refused x)) z ∙ ap parsedOutcome e
 
 -- steps may be grouped either way
 assoc : {A B C : Type 0} (f : A → Step B) (g : B → Step C) (s : List ℕ) (x : Parsed A)

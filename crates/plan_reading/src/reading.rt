@@ -43,23 +43,24 @@ pub(crate) enum HeaderStep {
     Refused(Refusal),
 }
 
-// The plan that a file holds.
+// The plan that a file holds. The record is made zero, once, before the header is looked at.
 pub fn read_plan(file: &[u8]) -> PlanRead
     ensures { λ r. ⌜ readOutcome r ≡ planRead (now (file .entry)) ⌝ }
 {
+    let zero = Plan::zero();
     match read_header(file) {
-        HeaderStep::Refused(x) => refused_read(x),
-        HeaderStep::Header(header, next) => read_body(file, next, header),
+        HeaderStep::Refused(x) => refused_read(zero, x),
+        HeaderStep::Header(header, next) => read_body(zero, file, next, header),
     }
 }
 
-// A refusal with the all-zero record.
-fn refused_read(x: Refusal) -> PlanRead
-    ensures { λ r. ⌜ r ≡ record { answer = ReadAnswer.Refused x; plan = zeroPlan } ⌝ }
+// A refusal with the record that reading made zero.
+fn refused_read(zero: Plan, x: Refusal) -> PlanRead
+    ensures { λ r. ⌜ r ≡ record { answer = ReadAnswer.Refused x; plan = zero } ⌝ }
 {
     PlanRead {
         answer: ReadAnswer::Refused(x),
-        plan: Plan::zero(),
+        plan: zero,
     }
 }
 
@@ -99,9 +100,11 @@ fn read_counts(file: &[u8], c: Cursor) -> HeaderStep
     }
 }
 
-// The gates and the outputs, each to its place in the one record, and the end of the file, where no byte may stand.
-fn read_body(file: &[u8], c: Cursor, header: Header) -> PlanRead
+// The gates and the outputs, each to its place in a copy of the zero record, and the end of the file, where no byte may stand. A refusal
+// hands the zero record back.
+fn read_body(zero: Plan, file: &[u8], c: Cursor, header: Header) -> PlanRead
     requires { ⌜ Limited header ⌝ }
+    requires { ⌜ zero ≡ zeroPlan ⌝ }
     ensures { λ r. ⌜ readOutcome r ≡ parsedOutcome (bodyPart header (now (file .entry)) (c .at)) ⌝ }
 {
     let inputs = header.inputs;
@@ -109,7 +112,7 @@ fn read_body(file: &[u8], c: Cursor, header: Header) -> PlanRead
     let outputs = header.outputs;
     let gate_count = gates as usize;
     let output_count = outputs as usize;
-    let mut plan = Plan::zero();
+    let mut plan = zero;
     plan.inputs = inputs;
     plan.gate_count = gates;
     plan.output_count = outputs;
@@ -118,7 +121,7 @@ fn read_body(file: &[u8], c: Cursor, header: Header) -> PlanRead
     while i < gate_count {
         match read_gate(file, at, gate_wire(inputs, i)) {
             GateStep::Refused(x) => {
-                return refused_read(x);
+                return refused_read(zero, x);
             }
             GateStep::Gate(gate, next) => {
                 plan.gates[i] = gate;
@@ -131,7 +134,7 @@ fn read_body(file: &[u8], c: Cursor, header: Header) -> PlanRead
     while j < output_count {
         match at.output(file, inputs, gates) {
             OutputStep::Refused(y) => {
-                return refused_read(y);
+                return refused_read(zero, y);
             }
             OutputStep::Output(wire, next) => {
                 plan.outputs[j] = wire;
@@ -142,10 +145,13 @@ fn read_body(file: &[u8], c: Cursor, header: Header) -> PlanRead
     }
     let end = at.at;
     if end < file.len() {
-        return refused_read(Refusal {
-            fault: Fault::Tail,
-            at: end,
-        });
+        return refused_read(
+            zero,
+            Refusal {
+                fault: Fault::Tail,
+                at: end,
+            },
+        );
     }
     PlanRead {
         answer: ReadAnswer::Accepted,

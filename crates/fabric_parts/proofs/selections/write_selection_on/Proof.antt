@@ -17,7 +17,7 @@ written c =
     let done = c .before .before .before .before in
     let first = done .before .before .before .before in
     let a = first .before .before .before .before .args in
-    selection-on (a .m) (a .n) (a .next .0) (a .from .now) (a .rows .now) (a .to .now) (first .smaller .ensures) (done .write-selection .ensures .1)
+    selection-on (a .m) (a .n) (a .next .0) (a .from .now) (a .rows .now) (a .to .now) (first .smaller .ensures) (done .write-selection .ensures)
 
 pub write-selection-on-spec : {M : Type 1} → statement M
 write-selection-on-spec =

@@ -12,7 +12,7 @@ written c =
     let select = given-back .before .before .before .before in
     let start = select .before .before .before .before .before .before in
     let a = start .args in
-    let laid = select .write-selection-on .ensures in
+    let laid = select .write-selection-on .ensures .1 in
     let e = mixed .write-mix .ensures in (
       middle-written (a .parts) (a .outs .now) (a .rows .now) (a .pins .now) (start .pre) laid (e .0),
       middle-fed (a .parts) (a .outs .now) (a .rows .now) (a .pins .now) (start .pre) laid (e .1),

@@ -65,7 +65,7 @@ written : tie.Need-returns
 written c =
     let o = c .before .before in
     let g = gates o in
-    table-written (begun (headed (pins g))) (pins-done (pins g)) (gates-done g) (o .put-outputs .ensures)
+    table-written (begun (headed (pins g))) (pins-done (pins g)) (gates-done g) (o .put-outputs .ensures .1)
 
 pub put-fabric-spec : {M : Type 1} → statement M
 put-fabric-spec =

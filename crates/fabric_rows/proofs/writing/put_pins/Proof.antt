@@ -10,7 +10,7 @@ written c =
     let done = c .before .before .before .before in
     let put = done .before .before .before .before .before in
     let start = put .before .before .before .before in
-    pins-put _ (start .args .rows .now) (start .args .pins .now) (start .pre) refl (put .put-wires .ensures) (done .write-selection-on .ensures)
+    pins-put _ (start .args .rows .now) (start .args .pins .now) (start .pre) refl (put .put-wires .ensures) (done .write-selection-on .ensures .1)
 
 pub put-pins-spec : {M : Type 1} → statement M
 put-pins-spec =

@@ -16,29 +16,30 @@ use Rattle.plan_fields.specs.Fields.{gateStep}
 use Rattle.plan_fields.specs.Answers.{gateAnswer, outputAnswer}
 use Rattle.plan_reading.specs.PlanFile.{gateSteps, outputStep, outputSteps, parsedOutcome}
 use Rattle.plan_reading.proofs.PartsLaws.{ReadSoFar, HasCounts, none-read, one-read, one-refused, all-read, plan-held}
-use Rattle.plan_reading.proofs.PartsLaws.{gates-refused, outputs-refused, tail-refused, body-read}
+use Rattle.plan_reading.proofs.PartsLaws.{gates-refused, outputs-refused, tail-refused, body-read, refused-outcome}
 use Rattle.plan_reading.proofs.reading.read_body.Statement.{statement}
 use Rattle.plan_reading.proofs.reading.read_body.Tie as tie
 
 abbrev Inv-loop : tie.InvT-loop
-Inv-loop file inputs gates outputs gate-count output-count plan₀ at₀ i₀ plan at i =
-    (i ≤ gate-count) × HasCounts inputs gates outputs plan × (plan .outputs ≡ plan₀ .outputs)
+Inv-loop zero file inputs gates outputs gate-count output-count plan₀ at₀ i₀ plan at i =
+    (i ≤ gate-count) × HasCounts inputs gates outputs plan × (plan .outputs ≡ zero .outputs)
     × ReadSoFar (λ i. gateStep (gateWire inputs i)) file (at₀ .at) maxGates zeroGate i (plan .gates) (at .at)
 
 abbrev μ-loop : tie.MeasureT-loop
-μ-loop file inputs gates outputs gate-count output-count plan₀ at₀ i₀ plan at i = gate-count - i
+μ-loop zero file inputs gates outputs gate-count output-count plan₀ at₀ i₀ plan at i = gate-count - i
 
 abbrev Inv-loop2 : tie.InvT-loop2
-Inv-loop2 file inputs gates outputs gate-count output-count plan₀ at₀ i j₀ plan at j =
+Inv-loop2 zero file inputs gates outputs gate-count output-count plan₀ at₀ i j₀ plan at j =
     (j ≤ output-count) × HasCounts inputs gates outputs plan × (plan .gates ≡ plan₀ .gates)
     × ReadSoFar (λ _. outputStep inputs gates) file (at₀ .at) maxOutputs (wire 0) j (plan .outputs) (at .at)
 
 abbrev μ-loop2 : tie.MeasureT-loop2
-μ-loop2 file inputs gates outputs gate-count output-count plan₀ at₀ i j₀ plan at j = output-count - j
+μ-loop2 zero file inputs gates outputs gate-count output-count plan₀ at₀ i j₀ plan at j = output-count - j
 
--- the function's start, from the first loop, and the first loop from the second
+-- the function's start, from the first loop, and the first loop from the second. At the start `.pre .0` says that the counts are within their
+-- limits, `.pre .1` that the record is zero
 abbrev start : tie.At-loop Inv-loop μ-loop Inv-loop2 μ-loop2 → tie.Start Inv-loop μ-loop Inv-loop2 μ-loop2
-start c = c .before .before .before
+start c = c .before .before
 
 abbrev first-loop : tie.At-loop2 Inv-loop μ-loop Inv-loop2 μ-loop2 → tie.At-loop Inv-loop μ-loop Inv-loop2 μ-loop2
 first-loop c = c .before .before
@@ -68,7 +69,7 @@ holds c = (
   zero-le,
   record { inputs = refl; gates = refl; outputs = refl },
   refl,
-  none-read (ap (λ p. p .gates) (c .zero .ensures)),
+  none-read (ap (λ p. p .gates) (c .before .pre .1)),
 )
 
 -- what a turn reads is gate i
@@ -78,7 +79,7 @@ gate-i : (c : tie.After-read-gate Inv-loop μ-loop Inv-loop2 μ-loop2)
     gateAnswer (c .read-gate .result) ≡ gateStep (gateWire (a .header .inputs) (turn .loop .i)) (a .file .now) (turn .loop .at .at)
 gate-i c =
     let turn = c .before .before .before in
-    let h = start turn .pre in
+    let h = start turn .pre .0 in
     c .read-gate .ensures
     ∙ ap (λ w. gateStep w (start turn .args .file .now) (turn .loop .at .at))
     (c .before .gate-wire .ensures ∙ wire-fits (h .inputs) (within (c .before .before .loop-test .taken) (h .gates)))
@@ -87,10 +88,9 @@ no-gate : tie.Need-returns Inv-loop μ-loop Inv-loop2 μ-loop2
 no-gate c =
     let met = c .before .before .before .before in
     let turn = met .before .before .before in
-    rw (c .refused-read .ensures)
-    (ap parsedOutcome
+    refused-outcome (c .refused-read .ensures) (start turn .pre .1)
     (gates-refused (start turn .args .header) _ _
-    (one-refused (turn .loop .inv .3) _ (met .before .before .loop-test .taken) (ap gateAnswer (sym (c .before .before .x .given .1)) ∙ gate-i met))))
+    (one-refused (turn .loop .inv .3) _ (met .before .before .loop-test .taken) (ap gateAnswer (sym (c .before .before .x .given .1)) ∙ gate-i met)))
 
 again : tie.Need-loop-again Inv-loop μ-loop Inv-loop2 μ-loop2
 again c =
@@ -101,7 +101,7 @@ again c =
       next-within taken,
       record { inputs = same .inputs; gates = same .gates; outputs = same .outputs },
       turn .loop .inv .2,
-      one-read (turn .loop .inv .3) (within taken (start turn .pre .gates)) (ap gateAnswer (sym (c .before .gate .given .1)) ∙ gate-i met),
+      one-read (turn .loop .inv .3) (within taken (start turn .pre .0 .gates)) (ap gateAnswer (sym (c .before .gate .given .1)) ∙ gate-i met),
     )
 
 -- all gates are read where the first loop ends
@@ -119,18 +119,17 @@ holds2 c =
       zero-le,
       first .loop .inv .1,
       refl,
-      none-read (first .loop .inv .2 ∙ ap (λ p. p .outputs) (first .before .zero .ensures)),
+      none-read (first .loop .inv .2 ∙ ap (λ p. p .outputs) (start first .pre .1)),
     )
 
 no-output : tie.Need-returns-2 Inv-loop μ-loop Inv-loop2 μ-loop2
 no-output c =
     let met = c .before .before .before .before in
     let turn = met .before .before in
-    rw (c .refused-read2 .ensures)
-    (ap parsedOutcome
+    refused-outcome (c .refused-read2 .ensures) (start (first-loop turn) .pre .1)
     (outputs-refused (start (first-loop turn) .args .header) _ _ (gates-read (turn .before))
     (one-refused (turn .loop2 .inv .3) _ (met .before .loop2-test .taken)
-    (ap (followed _ _) (ap outputAnswer (sym (c .before .before .y .given .1)) ∙ met .output .ensures)))))
+    (ap (followed _ _) (ap outputAnswer (sym (c .before .before .y .given .1)) ∙ met .output .ensures))))
 
 again2 : tie.Need-loop2-again Inv-loop μ-loop Inv-loop2 μ-loop2
 again2 c =
@@ -141,7 +140,7 @@ again2 c =
       next-within taken,
       record { inputs = same .inputs; gates = same .gates; outputs = same .outputs },
       turn .loop2 .inv .2,
-      one-read (turn .loop2 .inv .3) (within taken (start (first-loop turn) .pre .outputs))
+      one-read (turn .loop2 .inv .3) (within taken (start (first-loop turn) .pre .0 .outputs))
           (ap (followed _ _) (ap outputAnswer (sym (c .before .wire .given .1)) ∙ met .output .ensures)),
     )
 
@@ -159,9 +158,8 @@ outputs-read c = let loop = c .before .loop2 in all-read (loop .inv .3) (le-anti
 tail : tie.Need-returns-3 Inv-loop μ-loop Inv-loop2 μ-loop2
 tail c =
     let past = c .before .before in
-    rw (c .refused-read3 .ensures)
-    (ap parsedOutcome
-    (tail-refused (start (first-loop (past .before)) .args .header) _ _ (gates-read (past .before .before)) (outputs-read past) (c .before .if1 .taken)))
+    refused-outcome (c .refused-read3 .ensures) (start (first-loop (past .before)) .pre .1)
+    (tail-refused (start (first-loop (past .before)) .args .header) _ _ (gates-read (past .before .before)) (outputs-read past) (c .before .if1 .taken))
 
 read : tie.Need-returns-4 Inv-loop μ-loop Inv-loop2 μ-loop2
 read c =
@@ -184,17 +182,17 @@ pub read-body-spec : {M : Type 1} → statement M
 read-body-spec =
     tie.close
     (tie.spec Inv-loop μ-loop Inv-loop2 μ-loop2
-    (λ c. search needs) (λ c. search needs) (λ c κs. tt) holds
+    (λ c. search needs) (λ c. search needs) holds
     -- a gate
     (λ c κs. tt) (λ c κs. tt) (λ c. search needs) (λ c κs. tt) no-gate (λ c. search needs)
-    (λ c. let t = gate-turn c in bytes-fit (t .loop-test .taken) (start (t .before) .pre .gates) 6 (lit≤ tt) (lit≤ tt))
-    (λ c. let t = gate-turn c in within (t .loop-test .taken) (start (t .before) .pre .gates))
-    (λ c. let t = gate-turn c in next-fits (t .loop-test .taken) (start (t .before) .pre .gates) (lit≤ tt))
+    (λ c. let t = gate-turn c in bytes-fit (t .loop-test .taken) (start (t .before) .pre .0 .gates) 6 (lit≤ tt) (lit≤ tt))
+    (λ c. let t = gate-turn c in within (t .loop-test .taken) (start (t .before) .pre .0 .gates))
+    (λ c. let t = gate-turn c in next-fits (t .loop-test .taken) (start (t .before) .pre .0 .gates) (lit≤ tt))
     (λ c. fewer-left (gate-turn c .loop-test .taken)) again
     -- an output
     holds2 (λ c κs. tt) (λ c. search needs) (λ c κs. tt) no-output (λ c. search needs)
-    (λ c. let t = output-turn c in bytes-fit (t .loop2-test .taken) (start (first-loop (t .before)) .pre .outputs) 2 (lit≤ tt) (lit≤ tt))
-    (λ c. let t = output-turn c in within (t .loop2-test .taken) (start (first-loop (t .before)) .pre .outputs))
-    (λ c. let t = output-turn c in next-fits (t .loop2-test .taken) (start (first-loop (t .before)) .pre .outputs) (lit≤ tt))
+    (λ c. let t = output-turn c in bytes-fit (t .loop2-test .taken) (start (first-loop (t .before)) .pre .0 .outputs) 2 (lit≤ tt) (lit≤ tt))
+    (λ c. let t = output-turn c in within (t .loop2-test .taken) (start (first-loop (t .before)) .pre .0 .outputs))
+    (λ c. let t = output-turn c in next-fits (t .loop2-test .taken) (start (first-loop (t .before)) .pre .0 .outputs) (lit≤ tt))
     (λ c. fewer-left (output-turn c .loop2-test .taken)) again2
     (λ c κs. tt) tail read)

@@ -5,7 +5,7 @@ use Rattle.plan_fields.specs.Parsing.{followed}
 use Rattle.plan_reading.specs.PlanFile.{parsedOutcome, planRead}
 use Rattle.plan_reading.specs.Answers.{headerAnswer}
 use Rattle.plan_reading.specs.Parts.{LimitedStep}
-use Rattle.plan_reading.proofs.PartsLaws.{whole-file}
+use Rattle.plan_reading.proofs.PartsLaws.{refused-outcome, whole-file}
 use Rattle.plan_reading.proofs.reading.read_plan.Statement.{statement}
 use Rattle.plan_reading.proofs.reading.read_plan.Tie as tie
 
@@ -14,10 +14,13 @@ unfolding planRead
 no-header c =
     let after = c .before .before in
     let e = ap headerAnswer (sym (after .x .given .1)) ∙ after .before .before .read-header .ensures .parsed in
-    rw (c .refused-read .ensures) (ap parsedOutcome (ap (followed _ _) e ∙ sym (whole-file _)))
+    refused-outcome (c .refused-read .ensures) (after .before .before .before .zero .ensures) (ap (followed _ _) e ∙ sym (whole-file _))
 
-limited : tie.Need-read-body-requires
-limited c κs = subst LimitedStep (c .before .header .given .1) (c .before .before .before .read-header .ensures .limited)
+-- the counts are within their limits, and the record is zero
+asked : tie.Need-read-body-requires
+asked c κs =
+    let met = c .before .before .before in
+    (subst LimitedStep (c .before .header .given .1) (met .read-header .ensures .limited), met .before .zero .ensures)
 
 body : tie.Need-returns-2
 unfolding planRead
@@ -30,4 +33,4 @@ pub read-plan-spec : {M : Type 1} → statement M
 read-plan-spec =
     tie.close
     (tie.spec
-    (λ c κs. search needs) (λ c. search needs) (λ c κs. search needs) (λ c. search needs) limited no-header body)
+    (λ c κs. search needs) (λ c κs. search needs) (λ c. search needs) (λ c κs. search needs) (λ c. search needs) asked no-header body)
