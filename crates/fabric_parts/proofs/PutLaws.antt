@@ -51,8 +51,8 @@ module _ (gates v end next : ℕ) (outs R₀ : List ℕ) where
 
   module _ {r : Answer} {R L : List ℕ} (put : Written gates v (take gates outs) next R₀ (replicate maxOutputs 0) (answerNumber r) R L) where
     -- S refuses
-    pub outputs-refused : {f : Fault} → r ≡ Answer.Refused f → (faultNumber f ≡ fault) × (R ≡ outputsPut gates v end next outs R₀)
-    outputs-refused {f} told =
+    pub outputs-kept : {f : Fault} → r ≡ Answer.Refused f → (faultNumber f ≡ fault) × (R ≡ outputsPut gates v end next outs R₀)
+    outputs-kept {f} told =
         let e = answer-refuses told (put .0) in (e, put .1 .0 ∙ left-refused f fault rows (copiedAt end wires (over rows R₀)) R₀ e)
 
     -- S is done: the first of its output wires from the place `end` on; F is what was lent of the table's part

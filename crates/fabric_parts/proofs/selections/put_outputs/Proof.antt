@@ -4,7 +4,7 @@ use native.Mathlib.Omega.{arith}
 use mathlib.Core.Path.{sym}
 use borrow.Author.Needs.{needs}
 use lib.Seq.{length-take-le}
-use Rattle.fabric_parts.proofs.PutLaws.{outputs-refused, outputs-copied}
+use Rattle.fabric_parts.proofs.PutLaws.{outputs-kept, outputs-copied}
 use Rattle.fabric_parts.proofs.selections.put_outputs.Statement.{statement}
 use Rattle.fabric_parts.proofs.selections.put_outputs.Tie as tie
 
@@ -27,7 +27,7 @@ refused c =
     let told = c .before in
     let put = asked (told .before .before) in
     let a = start put .args in
-    outputs-refused (a .gates) (a .v) (a .end) (a .next .0) (a .outs .now) (a .rows .now) (put .write-selection-on .ensures) (told .answer .given .1)
+    outputs-kept (a .gates) (a .v) (a .end) (a .next .0) (a .outs .now) (a .rows .now) (put .write-selection-on .ensures) (told .answer .given .1)
 
 done : tie.Need-returns-2
 done c =

@@ -9,7 +9,7 @@ use mir.Val.{Fits}
 use mir.Facts.{fits-below}
 use lib.Dec.{lit≤}
 use borrow.Author.Needs.{needs}
-use Rattle.plan.specs.Record.{maxGates, maxOutputs, wire, zeroGate, gateWire}
+use Rattle.plan.specs.Record.{maxGates, maxOutputs, wire, zeroGate, gateWire, places}
 use Rattle.plan.proofs.RecordLaws.{wire-fits}
 use Rattle.plan_fields.specs.Parsing.{got, followed}
 use Rattle.plan_fields.specs.Fields.{gateStep}
@@ -65,10 +65,11 @@ module _ {i n : ℕ} (h : i < n) where
 -- ---- the gates
 
 holds : tie.Need-loop-holds Inv-loop μ-loop Inv-loop2 μ-loop2
+unfolding places
 holds c = (
   zero-le,
   record { inputs = refl; gates = refl; outputs = refl },
-  refl,
+  rw (ap (λ p. p .outputs) (c .before .pre .1)) refl,
   none-read (ap (λ p. p .gates) (c .before .pre .1)),
 )
 
