@@ -15,7 +15,7 @@ use Rattle.fabric.specs.Fabrics.{planProgram, planTable, runOutputs, planProgra
 use Rattle.fabric.proofs.FabricTableLaws.{fabric-promise}
 use Rattle.fabric.proofs.FabricsLaws.{fabric-written-read, fabric-succeeds, plan-program-succeeds, plan-programmed-read}
 use Rattle.fabric.specs.Promise.{FabricPromise}
-use Rattle.equivalence.specs.ThirdDemand.{planTableLength, ContactRow, CountsShared, planFabricFault, entriesWritten, bytesWritten, Rooms, ThirdDemand}
+use Rattle.equivalence.specs.ThirdDemand.{planTableLength, ContactRow, CountsShared, planFabricFault, entriesWritten, bytesWritten, Rooms, ThirdDemand, ThirdDemandHolds}
 
 -- such a row passes check 12
 pub contacts : {u : ℕ} {row : List ℕ} → ContactRow u row → contactFault u row ≡ 0
@@ -82,9 +82,8 @@ module _ (p : Plan) (row table program work evaluated ran : List ℕ) where
           let tables : planTable q ≡ planTable p = rw (c .sharedInputs, c .sharedGates, c .sharedOutputs) in
           (fabric-unrefused q a other room, entries-written q a other room ∙ tables ∙ sym entries-here)
 
-      -- the third demand
-      pub third-demand : ThirdDemand p row table program work evaluated ran
-      third-demand = record {
+      demand-here : ThirdDemand p row table program work evaluated ran
+      demand-here = record {
         evaluates = evaluates-here;
         fabricates = fabric-unrefused p accepted table (rooms .tableRoom);
         programs = programs-here;
@@ -92,3 +91,7 @@ module _ (p : Plan) (row table program work evaluated ran : List ℕ) where
         same = same-here;
         sameTable = same-table-here;
       }
+
+-- the third demand
+pub third-demand : ThirdDemandHolds
+third-demand = demand-here

@@ -67,3 +67,8 @@ module _ (p : Plan) (row table program work evaluated ran : List ℕ) where
     pub same : (j : ℕ) → j < p .«output_count» → getD (runResult entries bytes row work ran) j 0 ≡ getD (evaluateResult p row evaluated) j 0
     pub sameTable : (q : Plan) (other : List ℕ) → Accepted q → CountsShared p q → planTableLength q ≤ length other
         → (planFabricFault q other ≡ 0) × (entriesWritten q other ≡ entries)
+
+-- the demand: one claim about the calls together, over all accepted plans, rows of input contacts and earlier contents of the lent buffers
+abbrev pub ThirdDemandHolds : Type 0
+ThirdDemandHolds = (p : Plan) (row table program work evaluated ran : List ℕ) → Accepted p → ContactRow (p .inputs) row
+    → Rooms p (length table) (length program) (length work) (length evaluated) (length ran) → ThirdDemand p row table program work evaluated ran

@@ -9,6 +9,7 @@ use std::path::Path;
 
 pub mod apart;
 pub mod contracts;
+pub mod edits;
 pub mod names;
 pub mod reading_order;
 pub mod specs;
@@ -31,11 +32,12 @@ pub struct Report {
 pub type Check = fn(&Path) -> io::Result<Report>;
 
 /// Every check by its name.
-pub const CHECKS: [(&str, Check); 6] = [
+pub const CHECKS: [(&str, Check); 7] = [
     ("contracts", contracts::problems),
     ("names", names::problems),
     ("specs", specs::problems),
     ("storeys", storeys::problems),
     ("names apart", apart::problems),
     ("reading order", reading_order::problems),
+    ("edits", edits::problems),
 ];
