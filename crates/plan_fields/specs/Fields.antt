@@ -16,9 +16,9 @@ countField limit f = field 2 wordAt (countAllowed limit) f
 abbrev pub mapField : Step ℕ
 mapField = field 1 byteAt mapAllowed Fault.Map
 
--- an operand, two bytes, of the gate whose own wire is `own`
+-- an operand, two bytes, below the wire `bound`
 abbrev pub operandField : ℕ → Step ℕ
-operandField own = field 2 wordAt (operandAllowed own) Fault.Operand
+operandField bound = field 2 wordAt (operandAllowed bound) Fault.Operand
 
 -- the table of a gate, one byte
 abbrev pub tableField : Step ℕ
@@ -47,14 +47,18 @@ abbrev pub mapBit : ℕ → ℕ → Bool
 mapBit map i = eqb (map / 2 ^ i % 2) 1
 
 -- the fields of a gate with this map byte, only those whose map bit stands: an absent first operand is the wire just before the gate, an
--- absent second operand is the same wire as the first, an absent table is 8
-abbrev pub gateFields : ℕ → ℕ → Step Gate
-gateFields own map =
-    standing (mapBit map firstPlace) (operandField own) (own - 1) >>= λ first.
-    standing (mapBit map secondPlace) (operandField own) first >>= λ second.
+-- absent second operand is the same wire as the first, an absent table is 8. The gate's own wire is `own`, its operands are below `bound`
+abbrev pub gateFields : ℕ → ℕ → ℕ → Step Gate
+gateFields bound own map =
+    standing (mapBit map firstPlace) (operandField bound) (own - 1) >>= λ first.
+    standing (mapBit map secondPlace) (operandField bound) first >>= λ second.
     standing (mapBit map tablePlace) tableField absentTable >>= λ table.
     pure (record { first = wire first; second = wire second; table = table })
 
 -- a gate: one map byte, then its fields
-unfoldable pub gateStep : ℕ → Step Gate
-gateStep own = mapField >>= gateFields own
+unfoldable pub gateStepWithin : ℕ → ℕ → Step Gate
+gateStepWithin bound own = mapField >>= gateFields bound own
+
+-- document 01's gate, whose operands are below its own wire
+abbrev pub gateStep : ℕ → Step Gate
+gateStep own = gateStepWithin own own

@@ -124,9 +124,9 @@ impl Cursor {
         })
     }
 
-    // An operand of the gate whose own wire is own.
-    pub fn operand(self, file: &[u8], own: PlanWire) -> OperandStep
-        ensures { λ r. ⌜ operandAnswer r ≡ operandField (own .0) (now (file .entry)) (self .at) ⌝ }
+    // An operand, which is below a bound.
+    pub fn operand(self, file: &[u8], bound: PlanWire) -> OperandStep
+        ensures { λ r. ⌜ operandAnswer r ≡ operandField (bound .0) (now (file .entry)) (self .at) ⌝ }
     {
         let at = self.at;
         if left_of(file, at) < 2 {
@@ -136,7 +136,7 @@ impl Cursor {
             });
         }
         let wire = PlanWire(word_at(file, at));
-        if operand_allowed(own, wire) {
+        if operand_allowed(bound, wire) {
             return OperandStep::Operand(wire, Cursor { at: at + 2 });
         }
         OperandStep::Refused(Refusal {

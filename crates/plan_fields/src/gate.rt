@@ -2,7 +2,7 @@
 ghost use mathlib.Core.Path.{_≡_};
 ghost use Prim.Native.Nat.{_-_, _<_};
 ghost use Rattle.plan_fields.specs.Parsing.{standing};
-ghost use Rattle.plan_fields.specs.Fields.{absentTable, mapBit, operandField, tableField, gateFields, gateStep};
+ghost use Rattle.plan_fields.specs.Fields.{absentTable, mapBit, operandField, tableField, gateFields, gateStepWithin};
 ghost use Rattle.plan_fields.specs.Answers.{operandAnswer, tableAnswer, gateAnswer};
 use crate::cursor::Cursor;
 use crate::cursor::MapStep;
@@ -28,13 +28,14 @@ pub enum GateStep {
     Refused(Refusal),
 }
 
-// The gate whose own wire is own: the map byte, then the fields that it says stand.
-pub fn read_gate(file: &[u8], c: Cursor, own: PlanWire) -> GateStep
-    ensures { λ r. ⌜ gateAnswer r ≡ gateStep (own .0) (now (file .entry)) (c .at) ⌝ }
+// The gate whose own wire is own: the map byte, then the fields that it says stand. Its operands are below a bound, which is its own wire where
+// gates stand in the order of evaluation.
+pub fn read_gate(file: &[u8], c: Cursor, bound: PlanWire, own: PlanWire) -> GateStep
+    ensures { λ r. ⌜ gateAnswer r ≡ gateStepWithin (bound .0) (own .0) (now (file .entry)) (c .at) ⌝ }
 {
     match c.map_byte(file) {
         MapStep::Refused(x) => GateStep::Refused(x),
-        MapStep::Map(map, next) => read_fields(file, next, own, map),
+        MapStep::Map(map, next) => read_fields(file, next, bound, own, map),
     }
 }
 
@@ -49,17 +50,17 @@ fn wire_before(own: PlanWire) -> PlanWire
 }
 
 // The fields of a gate with this map byte.
-fn read_fields(file: &[u8], c: Cursor, own: PlanWire, map: u8) -> GateStep
-    ensures { λ r. ⌜ gateAnswer r ≡ gateFields (own .0) map (now (file .entry)) (c .at) ⌝ }
+fn read_fields(file: &[u8], c: Cursor, bound: PlanWire, own: PlanWire, map: u8) -> GateStep
+    ensures { λ r. ⌜ gateAnswer r ≡ gateFields (bound .0) (own .0) map (now (file .entry)) (c .at) ⌝ }
 {
-    match standing_operand(file, c, map, FIRST_PLACE, own, wire_before(own)) {
+    match standing_operand(file, c, map, FIRST_PLACE, bound, wire_before(own)) {
         OperandStep::Refused(x) => GateStep::Refused(x),
         OperandStep::Operand(first, c1) => match standing_operand(
             file,
             c1,
             map,
             SECOND_PLACE,
-            own,
+            bound,
             first,
         ) {
             OperandStep::Refused(x) => GateStep::Refused(x),
@@ -92,14 +93,14 @@ fn standing_operand(
     c: Cursor,
     map: u8,
     place: u8,
-    own: PlanWire,
+    bound: PlanWire,
     default: PlanWire,
 ) -> OperandStep
     requires { ⌜ place < 8 ⌝ }
-    ensures { λ r. ⌜ operandAnswer r ≡ standing (mapBit map place) (operandField (own .0)) (default .0) (now (file .entry)) (c .at) ⌝ }
+    ensures { λ r. ⌜ operandAnswer r ≡ standing (mapBit map place) (operandField (bound .0)) (default .0) (now (file .entry)) (c .at) ⌝ }
 {
     if map_bit(map, place) {
-        return c.operand(file, own);
+        return c.operand(file, bound);
     }
     OperandStep::Operand(default, c)
 }

@@ -19,7 +19,7 @@ use Rattle.plan.specs.Faults.{Accepted}
 use Rattle.plan.proofs.RulesLaws.{count-bounds, default-allowed}
 use Rattle.plan.proofs.FaultsLaws.{AllowedGate, AllowedPlan, accepted-allowed}
 use Rattle.plan_fields.specs.Parsing.{Parsed, got}
-use Rattle.plan_fields.specs.Fields.{firstPlace, secondPlace, tablePlace, absentTable, mapBit, gateStep}
+use Rattle.plan_fields.specs.Fields.{firstPlace, secondPlace, tablePlace, absentTable, mapBit, gateStepWithin, gateStep}
 use Rattle.plan_reading.specs.PlanFile.{outputStep, headerBytes, notStub, atEnd, planFile, parsedOutcome, planRead}
 use Rattle.plan_files.specs.Encoding.{byte, word, whereStanding, encodeGate, joinedBytes, encode, LeavesOutDefaults, Choice, used, OfBytes, Encoded}
 use Rattle.plan_files.specs.Encoding.{ReadsExactly, gateBytes, outputBytes, longestFile, LongestPlan}
@@ -32,7 +32,7 @@ use Rattle.plan_files.proofs.ReadingLaws.{Gives, gives, refuses, gives-
 -- a gate is read where its bytes stand
 gate-reads : (s : List ℕ) (own m : ℕ) (g : Gate) (at next : ℕ) → AllowedGate own g → LeavesOutDefaults own m g
     → BytesStand s at (encodeGate m g) next → gateStep own s at ≡ got g next
-unfolding gateStep
+unfolding gateStepWithin
 gate-reads s own m g at next ok left x =
     let (a, map, rest) = stands-split (byte m) _ x in
     let (b, first, rest) = stands-split (whereStanding (mapBit m firstPlace) (word (g .first .0))) _ rest in
@@ -111,7 +111,7 @@ encoded s u k v gs os a b c d e inputs gates outputs each-gate each-output end =
 -- what each step gives: a gate, if its default operand is allowed
 gate-gives : (s : List ℕ) (own at : ℕ) → OfBytes s → 2 ≤ own
     → Gives (λ g next. (m : ℕ) × (LeavesOutDefaults own m g × AllowedGate own g) × BytesStand s at (encodeGate m g) next) (gateStep own s at)
-unfolding gateStep tableAllowed
+unfolding gateStepWithin tableAllowed
 gate-gives s own at small h =
     let operand = standing-gives word-coded s (operandAllowed own) Fault.Operand in
     gives-then _ s (field-gives byte-coded s mapAllowed Fault.Map at small) λ m a map.

@@ -119,7 +119,8 @@ fn read_body(zero: Plan, file: &[u8], c: Cursor, header: Header) -> PlanRead
     let mut at = c;
     let mut i: usize = 0;
     while i < gate_count {
-        match read_gate(file, at, gate_wire(inputs, i)) {
+        let own = gate_wire(inputs, i);
+        match read_gate(file, at, own, own) {
             GateStep::Refused(x) => {
                 return refused_read(zero, x);
             }
