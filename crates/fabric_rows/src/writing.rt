@@ -1,5 +1,6 @@
 // Writing the fabric's table: u, v and the number of rows, then the rows of S(u, 2K), U(K), S(K, v), each straight into its own stretch, then
-// the output wires. Checks come first and touch no buffer. The calls' own lists of wires take 1,664 bytes; none is inside the recursion.
+// the output wires. Checks come first and touch no buffer. The calls' own lists of wires take 1,664 bytes at one time; none is inside the
+// recursion.
 ghost use mathlib.Core.Path.{_≡_};
 ghost use mathlib.Core.List.{[], _∷_};
 ghost use Prim.Native.Nat.{suc, _*_};
