@@ -38,8 +38,9 @@ cargo fmt --manifest-path host/Cargo.toml --all --check
 # rt's own gate, from nothing: every proof, every must-fail edit, every program. What comes after it uses what it proved.
 # rt starts its jobs in batches and waits for a batch's last one: a job more than there are processors keeps them all at work meanwhile.
 export RT_JOBS="${RT_JOBS:-$(($(nproc) + 1))}"
-# An edit may hold several wrong versions: each has to be refused for itself.
 rt ci | tee "$TMPDIR/verdict"
+
+# An edit may hold several wrong versions: each has to be refused for itself.
 cargo run --quiet --release --manifest-path host/Cargo.toml --bin check_refusals .
 
 # The comparison runs beside the tests.

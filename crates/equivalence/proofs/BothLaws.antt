@@ -5,7 +5,6 @@ use Prim.Native.Nat.{ℕ, _<_}
 use native.Mathlib.Omega.{arith}
 use borrow.Author.Tests.{leb-true, le-leb}
 use lib.ListN.{length, getD, take, drop, List·getD-append}
-use Rattle.lists.proofs.ListsLaws.{length-listOf}
 use Rattle.fault.specs.Number.{faultNumber}
 use Rattle.fault.specs.Buffers.{over, filled}
 use Rattle.fault.proofs.BuffersLaws.{filled-refused, filled-done}
@@ -17,6 +16,7 @@ use Rattle.plan.specs.Faults.{Accepted}
 use Rattle.plan_evaluation_checks.specs.EvaluationChecks.{contactFault}
 use Rattle.plan_evaluation_checks.proofs.EvaluationChecksLaws.{row-length, row-bit}
 use Rattle.plan_evaluation.specs.Evaluation.{gateBit, planOutputs, evaluateResult}
+use Rattle.plan_evaluation.proofs.EvaluationLaws.{length-planOutputs}
 use Rattle.fabric.specs.Fabrics.{planProgram, planTable, runWires, runOutputs, fabricResult, programLength, planProgramResult, runFault, runWork, runResult}
 use Rattle.fabric.proofs.FabricTableLaws.{fabric-promise}
 use Rattle.fabric.proofs.FabricsLaws.{fabric-written-read, plan-programmed-read}
@@ -65,7 +65,7 @@ pub both-same : (p : Plan) (row evaluated ran : List ℕ) → Accepted p → con
 both-same p row evaluated ran accepted contact j l =
     let outs = planOutputs 0 gateBit p row in
     let e : runOutputs (planTable p) (planProgram p) row ≡ outs = fabric-promise p row accepted (counts-pass p accepted) contact .gives in
-    let n : j < length outs = rw (length-listOf (p .«output_count») _) l in
+    let n : j < length outs = rw (length-planOutputs p row) l in
     rw e (List·getD-append outs (drop (length outs) evaluated) 0 j n ∙ sym (List·getD-append outs (drop (length outs) ran) 0 j n))
 
 -- a refusal changes no buffer, and is none where its number is 0

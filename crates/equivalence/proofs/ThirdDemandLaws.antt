@@ -4,13 +4,13 @@ use mathlib.Core.List.{List}
 use Prim.Native.Nat.{ℕ, _<_, _≤_}
 use borrow.Author.Tests.{le-leb, eq-eqb}
 use lib.ListN.{length, getD, drop, List·getD-append}
-use Rattle.lists.proofs.ListsLaws.{length-listOf}
 use Rattle.fault.specs.Checks.{roomFault}
 use Rattle.fault.proofs.ChecksLaws.{unless-zero, and-then-zero, first-of-zero}
 use Rattle.plan.specs.declared.record.Plan.{Plan}
 use Rattle.plan.specs.Faults.{countsFault, planFault, Accepted}
 use Rattle.plan_evaluation_checks.specs.EvaluationChecks.{contactFault, evaluateFault}
 use Rattle.plan_evaluation.specs.Evaluation.{gateBit, planOutputs, evaluateResult}
+use Rattle.plan_evaluation.proofs.EvaluationLaws.{length-planOutputs}
 use Rattle.fabric.specs.Fabrics.{planProgram, planTable, runOutputs, planProgramFault, runFault, runResult}
 use Rattle.fabric.proofs.FabricTableLaws.{fabric-promise}
 use Rattle.fabric.proofs.FabricsLaws.{fabric-written-read, fabric-succeeds, plan-program-succeeds, plan-programmed-read}
@@ -71,7 +71,7 @@ module _ (p : Plan) (row table program work evaluated ran : List ℕ) where
       same-here j l =
           let outs = planOutputs 0 gateBit p row in
           let e : runOutputs (entriesWritten p table) (bytesWritten p program) row ≡ outs = rw (entries-here, bytes-here) (promised .gives) in
-          let n : j < length outs = rw (length-listOf v _) l in
+          let n : j < length outs = rw (length-planOutputs p row) l in
           rw (runs-here, evaluates-here, e)
           (List·getD-append outs (drop (length outs) ran) 0 j n ∙ sym (List·getD-append outs (drop (length outs) evaluated) 0 j n))
 

@@ -54,7 +54,7 @@ pub record BothPasses (p : Plan) (row : List ℕ) (table program work evaluated 
   pub contact : contactFault (p .inputs) row ≡ 0
   pub rooms : Rooms p table program work evaluated ran
 
--- the third demand's "none of these calls refuses", of this call: accepted plan, row of input contacts and enough room give the answer 0
+-- this call does not refuse either: an accepted plan, a row of input contacts and enough room give the answer 0
 abbrev pub BothSucceeds : Type 0
 BothSucceeds = (p : Plan) (row : List ℕ) (table program work evaluated ran : ℕ) → Accepted p → ContactRow (p .inputs) row
     → Rooms p table program work evaluated ran → bothFault p row table program work evaluated ran ≡ 0

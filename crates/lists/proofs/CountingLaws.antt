@@ -74,6 +74,10 @@ module _ (test : ℕ → Bool) where
   pub count-later : (a b : ℕ) → countOf test a < countOf test b → a < b
   count-later a b l = let f : ¬ (b ≤ a) = λ h. omega (arith, count-mono b a h) in omega arith
 
+  -- where none passes before y, none below it does
+  pub none-before : (y g : ℕ) → countOf test y ≡ 0 → g < y → test g ≡ false
+  none-before y g e l = elim (passed (test g)) [ inl t ↦ absurd (omega (arith, count-before g y l t)) | inr f ↦ f ]
+
   -- y passes the test after just r others
   pub record NthOf (n r y : ℕ) : Type 0 where
     pub low : y < n
@@ -93,6 +97,13 @@ module _ (test : ℕ → Bool) where
       go rec (inl e) (yes q) = rw (e, eq-eqb (countOf test n) r q) (record { low = le-refl (suc n); passes = e; rank = q })
       go rec (inl e) (no f) = rw (e, ne-eqb (countOf test n) r f) (wider (rec (omega (arith, rw e at h))))
       go rec (inr e) d = rw e (wider (rec (omega (arith, rw e at h))))
+
+-- where all of n pass, each does
+pub all-pass : (test : ℕ → Bool) (n : ℕ) → countOf test n ≡ n → (g : ℕ) → g < n → test g ≡ true
+all-pass test n e g l = elim (passed (test g)) [
+  | inl t ↦ t
+  | inr f ↦ absurd (omega (arith, count-rest test n, count-before (λ i. not (test i)) g n l (rw f)))
+]
 
 -- one test counts for two, or at most for two
 pub count-sum : (a b c : ℕ → Bool) → ((i : ℕ) → oneIf (a i) ≡ oneIf (b i) + oneIf (c i)) → (n : ℕ) → countOf a n ≡ countOf b n + countOf c n

@@ -1,27 +1,28 @@
 -- A gate of the order draws from inputs and from gates at earlier places, so that renumbered it draws from smaller wires: the plan is accepted. Read
 -- back by drawn numbers, the plan's wires fit the drawing; and place by place they are the only bits that do.
 use mathlib.Core.Path.{_≡_, refl, sym, ap, subst, _∙_}
-use mathlib.Core.Logic.{_⊎_, inl, inr}
-use mathlib.Core.Bool.{Bool, true, false, _||_}
-use mathlib.Core.List.{List, [], _∷_, _++_}
+use mathlib.Core.Logic.{inl, inr}
+use mathlib.Core.Bool.{true}
+use mathlib.Core.List.{List, [], _∷_}
 use Prim.Native.Nat.{ℕ, zero, suc, _+_, _-_, _≤_, _<_}
-use native.Mathlib.Decide.{ℕ-discrete, decLe, decLt}
+use native.Mathlib.Decide.{ℕ-discrete, decLe}
 use native.Mathlib.Omega.{arith}
 use borrow.Author.Tests.{eqb-true, le-leb, lt-leb}
-use lib.Dec.{eqb, leb}
+use lib.Dec.{eqb}
 use lib.ListN.{length, getD, take, List·getD-append}
 use lib.Seq.{getD-at}
 use Rattle.lists.specs.Lists.{listOf}
 use Rattle.lists.proofs.ListsLaws.{getD-listOf}
 use Rattle.lists.proofs.CountingLaws.{passed, both-ways}
-use Rattle.plan.specs.declared.record.Gate.{Gate}
 use Rattle.plan.specs.declared.record.Plan.{Plan}
 use Rattle.plan.specs.Record.{maxGates, maxOutputs, wire, zeroGate, gateAt, outputAt, gateWire}
 use Rattle.plan.proofs.RecordLaws.{getD-places}
 use Rattle.plan.specs.Faults.{GateWithin}
 use Rattle.plan.proofs.FaultsLaws.{accepted-bounds}
-use Rattle.plan_evaluation.specs.Evaluation.{planWires, planOutputs, valueOn, tableBit, gateBit}
-use Rattle.plan_evaluation.proofs.EvaluationLaws.{length-planWires}
+use Rattle.plan_evaluation_checks.specs.EvaluationChecks.{contactFault}
+use Rattle.plan_evaluation_checks.proofs.EvaluationChecksLaws.{row-length, row-bit}
+use Rattle.plan_evaluation.specs.Evaluation.{planWires, valueOn, tableBit, gateBit}
+use Rattle.plan_evaluation.proofs.EvaluationLaws.{length-planWires, wire-bit}
 use Rattle.plan_order.specs.Order.{has, supplied, TakenInOrder}
 use Rattle.plan_order.specs.Drawing.{placeIn, drawnFirst, drawnSecond, drawnOrder, renumbered, renumberedGate, orderedPlan, Orderable, OrderedRight, Fits, GivesTheSame, OrderedPlanTheorem, DrawingTheorem}
 use Rattle.plan_order.proofs.OrderLaws.{ready-parts, order-theorem}
@@ -144,7 +145,10 @@ module _ (d : Plan) (orderable : Orderable d) where
 
   -- ---- the bits of the wires
 
-  module _ (row : List ℕ) (size : length row ≡ u) where
+  module _ (row : List ℕ) (contacts : contactFault u row ≡ 0) where
+    size : length row ≡ u
+    size = row-length u row contacts
+
     abbrev W : ℕ → List ℕ
     W = planWires 0 gateBit P row
 
@@ -231,6 +235,7 @@ module _ (d : Plan) (orderable : Orderable d) where
     gives-the-same : GivesTheSame d row
     gives-the-same = record {
       bit = drawnBit;
+      isBit = λ w. wire-bit P row (row-bit u row contacts) k (renumbered d w - 1);
       fits = fit;
       only = same-wire;
       outputs = λ j l. getD-listOf v (λ j. valueOn 0 (W k) (outputAt P j)) j 0 l ∙ ap (λ (w : _). valueOn 0 (W k) w) (output-at j l);
@@ -240,4 +245,4 @@ pub ordered-plan : OrderedPlanTheorem
 ordered-plan = ordered-right
 
 pub drawing-theorem : DrawingTheorem
-drawing-theorem d row orderable size = gives-the-same d orderable row size
+drawing-theorem d row orderable contacts = gives-the-same d orderable row contacts

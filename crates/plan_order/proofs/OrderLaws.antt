@@ -2,18 +2,18 @@
 -- ready; after k turns none is, so that each gate that is left over draws from one that is.
 use mathlib.Core.Path.{_≡_, refl, sym, ap, _∙_}
 use mathlib.Core.Logic.{_⊎_, inl, inr}
-use mathlib.Core.Bool.{Bool, true, false, not, _&&_, _||_, and-eq-true-iff, or-false}
+use mathlib.Core.Bool.{Bool, true, false, _&&_, _||_, and-eq-true-iff, or-false}
 use mathlib.Core.List.{List, [], _∷_, _++_}
 use Prim.Native.Nat.{ℕ, zero, suc, _+_, _-_, _≤_, _<_}
 use native.Mathlib.Decide.{ℕ-discrete, decLe, decLt}
 use native.Mathlib.Omega.{arith}
-use borrow.Author.Tests.{eq-eqb, ne-eqb, eqb-true, lt-leb, le-leb, lt-ltb, ltb-true}
+use borrow.Author.Tests.{eq-eqb, ne-eqb, lt-leb, le-leb, lt-ltb, ltb-true}
 use lib.Dec.{eqb, ltb}
 use lib.ListN.{length, getD, take, length-append}
 use lib.Seq.{take-all, take-append-le, getD-take, getD-at}
 use Rattle.lists.specs.Counting.{oneIf, countOf, nthOf}
-use Rattle.lists.proofs.CountingLaws.{passed, both-ways, not-fails, count-le, count-none, count-rest, count-before, count-single, count-sum, NthOf, nth-at}
-use Rattle.plan_order.specs.Order.{has, supplied, ready, withNext, taken, order, isLeft, lowestLeft, From, Ring, HasRing, OperandsWithin, LeastLeft, RingExactly, TakenInOrder, RingTheorem, OrderTheorem}
+use Rattle.lists.proofs.CountingLaws.{passed, both-ways, not-fails, count-le, count-none, count-rest, count-before, all-pass, none-before, count-single, count-sum, NthOf, nth-at}
+use Rattle.plan_order.specs.Order.{has, supplied, ready, withNext, taken, isLeft, lowestLeft, From, Ring, OperandsWithin, RingExactly, TakenInOrder, RingTheorem, OrderTheorem}
 
 -- ---- what stands in a list
 
@@ -31,17 +31,6 @@ has-at (x ∷ xs) (suc p) (suc q) l m = elim (passed (eqb x (getD xs p 0))) [
   | inl t ↦ rw t
   | inr f ↦ rw f (has-at xs p q (omega arith) (omega arith))
 ]
-
--- where all of k pass, each does
-all-pass : (test : ℕ → Bool) (k : ℕ) → countOf test k ≡ k → (g : ℕ) → g < k → test g ≡ true
-all-pass test k e g l = elim (passed (test g)) [
-  | inl t ↦ t
-  | inr f ↦ absurd (omega (arith, count-rest test k, count-before (λ i. not (test i)) g k l (rw f)))
-]
-
--- where none passes before y, none below it does
-none-before : (test : ℕ → Bool) (y g : ℕ) → countOf test y ≡ 0 → g < y → test g ≡ false
-none-before test y g e l = elim (passed (test g)) [ inl t ↦ absurd (omega (arith, count-before test g y l t)) | inr f ↦ f ]
 
 module _ (u k : ℕ) (first second : ℕ → ℕ) where
   abbrev Ready : List ℕ → ℕ → Bool

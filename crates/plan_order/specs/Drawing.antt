@@ -11,6 +11,7 @@ use Rattle.plan.specs.declared.record.Gate.{Gate}
 use Rattle.plan.specs.declared.record.Plan.{Plan}
 use Rattle.plan.specs.Record.{maxGates, wire, places, planOf, gateAt, outputAt, gateWire}
 use Rattle.plan.specs.Faults.{Accepted, CountsWithin, GateWithin, OutputWithin}
+use Rattle.plan_evaluation_checks.specs.EvaluationChecks.{contactFault}
 use Rattle.plan_evaluation.specs.Evaluation.{planOutputs, tableBit, gateBit}
 use Rattle.plan_order.specs.Order.{order}
 
@@ -76,13 +77,14 @@ module _ (d : Plan) where
   -- "The plan gives what the drawing gives, the one choice of wire bits that fits every drawn gate"
   pub record GivesTheSame (row : List ℕ) : Type 0 where
     pub bit : ℕ → ℕ
+    pub isBit : (w : ℕ) → bit w ≤ 1
     pub fits : Fits row bit
     pub only : (other : ℕ → ℕ) → Fits row other → (w : ℕ) → 1 ≤ w → w ≤ d .inputs + d .«gate_count» → other w ≡ bit w
     pub outputs : (j : ℕ) → j < d .«output_count» → getD (planOutputs 0 gateBit orderedPlan row) j 0 ≡ bit (outputAt d j .0)
 
--- for every drawing all of whose gates are taken, and every row of its inputs
+-- for every drawing all of whose gates are taken, and every row of input contacts
 abbrev pub OrderedPlanTheorem : Type 0
 OrderedPlanTheorem = (d : Plan) → Orderable d → OrderedRight d
 
 abbrev pub DrawingTheorem : Type 0
-DrawingTheorem = (d : Plan) (row : List ℕ) → Orderable d → length row ≡ d .inputs → GivesTheSame d row
+DrawingTheorem = (d : Plan) (row : List ℕ) → Orderable d → contactFault (d .inputs) row ≡ 0 → GivesTheSame d row
