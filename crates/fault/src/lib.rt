@@ -1,5 +1,5 @@
-// The refusals of the contact fabric library: the fourteen words of document 01's table, the place where a file is at fault,
-// and the answer of a call that has nothing to hand back but whether it was done.
+// The refusals of the contact fabric library: document 01's fourteen words and those that document 02 adds, the place where a file is at
+// fault, and the answer of a call that has nothing to hand back but whether it was done.
 // Every contract above this crate speaks of a refusal through its number.
 ghost use mathlib.Core.Path.{_≡_};
 ghost use Rattle.fault.specs.Number.{faultNumber, answerNumber};
@@ -18,7 +18,7 @@ pub enum Fault {
     Cut,
     // A map byte out of range.
     Map,
-    // An operand that is wire 0 or not below the gate's own wire.
+    // An operand that is wire 0 or not below the gate's own wire; in drawn reading wire 0 or above u + k.
     Operand,
     // A gate's table out of range.
     Table,
@@ -34,6 +34,8 @@ pub enum Fault {
     Fabric,
     // A program of another length, or a spare bit set.
     Program,
+    // Drawn gates that each draw from a gate of the same set.
+    Ring,
 }
 
 // A fault of a file, and the byte offset where the faulty field begins or would begin.
@@ -68,6 +70,7 @@ impl Fault {
             Fault::Contact => 12,
             Fault::Fabric => 13,
             Fault::Program => 14,
+            Fault::Ring => 15,
         }
     }
 }

@@ -23,7 +23,7 @@ use Rattle.plan.specs.Rules.{countAllowed, mapAllowed, operandAllowed, tableAll
 use Rattle.plan.specs.Faults.{countsFault, gateFault, outputFault, planFault}
 use Rattle.plan_fields.specs.Parsing.{field, inOrder}
 use Rattle.plan_fields.specs.Fields.{gateStepWithin}
-use Rattle.plan_reading.specs.PlanFile.{notStub, atEnd, planFile, ReadOutcome, planRead}
+use Rattle.plan_reading.specs.PlanFile.{notStub, atEnd, wholeFile, ReadOutcome, planRead}
 use Rattle.fabric_universal.specs.Universal.{universalCount, universalWires, universalTakes}
 use Rattle.fabric_universal.specs.Fabric.{fabricCount, fabricWires, fabricTakes}
 use Rattle.fabric_sizes.specs.Counting.{counting}
@@ -41,7 +41,7 @@ wireNumbers : List PlanWire → List ℕ
 wireNumbers [] = []
 wireNumbers (w ∷ ws) = w .0 ∷ wireNumbers ws
 
-planNumbers : Plan → List ℕ
+unfoldable pub planNumbers : Plan → List ℕ
 unfolding gateNumbers wireNumbers
 planNumbers p = p .inputs ∷ p .«gate_count» ∷ p .«output_count» ∷ (gateNumbers (p .gates) ++ wireNumbers (p .outputs))
 
@@ -51,7 +51,7 @@ outcomeNumbers o = o .number ∷ o .at ∷ planNumbers (o .plan)
 
 -- reading the file refuses with this number at this offset, and the record is all zero
 unfoldable pub refuses : List ℕ → ℕ → ℕ → Figure
-unfolding outcomeNumbers planRead planFile notStub atEnd gateStepWithin field inOrder places countAllowed mapAllowed operandAllowed tableAllowed sourceAllowed
+unfolding outcomeNumbers planRead wholeFile notStub atEnd gateStepWithin field inOrder places countAllowed mapAllowed operandAllowed tableAllowed sourceAllowed
 refuses file number at = record {
   computed = outcomeNumbers (planRead file);
   stated = outcomeNumbers (record { number = number; at = at; plan = zeroPlan });
@@ -92,7 +92,7 @@ fabricates u k v entries = record {
 
 -- programming the plan of a file succeeds in bytes of ones, and makes them these bytes
 unfoldable pub planned : List ℕ → List ℕ → Figure
-unfolding planRead planFile notStub atEnd gateStepWithin field inOrder places mapAllowed operandAllowed tableAllowed sourceAllowed planFault gateFault
+unfolding planRead wholeFile notStub atEnd gateStepWithin field inOrder places mapAllowed operandAllowed tableAllowed sourceAllowed planFault gateFault
     outputFault planProgramFault
 planned file bytes = record {
   computed = let p = planRead file .plan in planProgramFault p (length bytes) ∷ planProgramResult p (replicate (length bytes) 255);

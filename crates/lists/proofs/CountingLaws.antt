@@ -98,12 +98,39 @@ module _ (test : ℕ → Bool) where
       go rec (inl e) (no f) = rw (e, ne-eqb (countOf test n) r f) (wider (rec (omega (arith, rw e at h))))
       go rec (inr e) d = rw e (wider (rec (omega (arith, rw e at h))))
 
+-- the first that passes is the one that none passes before
+pub nth-lowest : (test : ℕ → Bool) (n y : ℕ) → y < n → test y ≡ true → ((i : ℕ) → i < y → test i ≡ false) → nthOf test n 0 ≡ y
+nth-lowest test n y l e lower =
+    let some = count-before test y n l e in
+    let t = nth-at test n 0 (omega arith) in
+    let above : ¬ (nthOf test n 0 < y) = λ h. both-ways (t .passes) (lower _ h) in
+    let below : ¬ (y < nthOf test n 0) = λ h. both-ways e (none-before test _ y (t .rank) h) in
+    omega arith
+
+-- where each of n passes, all do
+pub each-passes : (test : ℕ → Bool) (n : ℕ) → ((i : ℕ) → i < n → test i ≡ true) → countOf test n ≡ n
+unfolding countOf
+each-passes test zero e = refl
+each-passes test (suc n) e = rw (each-passes test n (λ i l. e i (le-step l)), e n (le-refl (suc n))) (omega arith)
+
 -- where all of n pass, each does
 pub all-pass : (test : ℕ → Bool) (n : ℕ) → countOf test n ≡ n → (g : ℕ) → g < n → test g ≡ true
 all-pass test n e g l = elim (passed (test g)) [
   | inl t ↦ t
   | inr f ↦ absurd (omega (arith, count-rest test n, count-before (λ i. not (test i)) g n l (rw f)))
 ]
+
+-- tests that agree below n count alike, and find the same number
+pub count-ext : (a b : ℕ → Bool) (n : ℕ) → ((i : ℕ) → i < n → a i ≡ b i) → countOf a n ≡ countOf b n
+unfolding countOf
+count-ext a b zero e = refl
+count-ext a b (suc n) e = rw (count-ext a b n (λ i l. e i (le-step l)), e n (le-refl (suc n)))
+
+pub nth-ext : (a b : ℕ → Bool) (n r : ℕ) → ((i : ℕ) → i < n → a i ≡ b i) → nthOf a n r ≡ nthOf b n r
+unfolding nthOf
+nth-ext a b zero r e = refl
+nth-ext a b (suc n) r e =
+    rw (nth-ext a b n r (λ i l. e i (le-step l)), count-ext a b n (λ i l. e i (le-step l)), e n (le-refl (suc n)))
 
 -- one test counts for two, or at most for two
 pub count-sum : (a b c : ℕ → Bool) → ((i : ℕ) → oneIf (a i) ≡ oneIf (b i) + oneIf (c i)) → (n : ℕ) → countOf a n ≡ countOf b n + countOf c n

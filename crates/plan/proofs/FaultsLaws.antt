@@ -43,7 +43,8 @@ accepted-allowed p =
       λ a. ((a .inputs, (a .gates, a .outputs)), (a .gate, a .output)),
     )
 
-counts-in : (u k v : ℕ) → countAllowed maxInputs u ≡ true → countAllowed maxGates k ≡ true → countAllowed maxOutputs v ≡ true
+-- allowed counts are within their limits
+pub counts-in : (u k v : ℕ) → countAllowed maxInputs u ≡ true → countAllowed maxGates k ≡ true → countAllowed maxOutputs v ≡ true
     → CountsWithin u k v
 counts-in u k v a b c =
     let (u₁, u₂) = count-bounds maxInputs u .0 a in

@@ -4,7 +4,7 @@ use mathlib.Core.List.{List, [], _∷_, _++_, append-assoc}
 use Prim.Native.Nat.{ℕ, zero, suc, _-_, _%_, _≤_, _<_}
 use native.Mathlib.Nat.{mod-eq-of-lt}
 use native.Mathlib.Omega.{arith}
-use lib.ListN.{length, getD, set, replicate, length-append}
+use lib.ListN.{length, getD, set, replicate, length-append, length-replicate}
 use lib.Seq.{set-at}
 use Rattle.plan.specs.Record.{wordNumbers, maxInputs, maxGates, places, gateWire}
 
@@ -15,6 +15,11 @@ unfolding places
 places-more n none xs x i e h =
     let more : n - length xs ≡ suc (n - length (xs ++ (x ∷ []))) = omega (arith, length-append xs (x ∷ [])) in
     rw (more, append-assoc xs (x ∷ [])) (set-at xs none _ x i e)
+
+-- places that begin with no more values than they are
+pub length-places : {A : Type 0} (n : ℕ) (none : A) (xs : List A) → length xs ≤ n → length (places n none xs) ≡ n
+unfolding places
+length-places n none xs l = simp (length-append, length-replicate) (omega arith)
 
 -- values followed by `none`: at any place what is found in the values
 padded : {A : Type 0} (none : A) (xs : List A) (m i : ℕ) → getD (xs ++ replicate m none) i none ≡ getD xs i none
@@ -30,5 +35,5 @@ unfolding places
 getD-places n none xs i = padded none xs (n - length xs) i
 
 -- within the limits a gate's own wire has 16 bits
-pub wire-fits : {u i : ℕ} → u ≤ maxInputs → i < maxGates → gateWire u i % wordNumbers ≡ gateWire u i
+pub wire-fits : {u i : ℕ} → u ≤ maxInputs → i ≤ maxGates → gateWire u i % wordNumbers ≡ gateWire u i
 wire-fits hu hi = mod-eq-of-lt (omega arith)

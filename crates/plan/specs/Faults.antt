@@ -52,12 +52,12 @@ pub record CountsWithin (u k v : ℕ) : Type 0 where
   pub someOutputs : 1 ≤ v
   pub outputs : v ≤ maxOutputs
 
--- the bounds of a gate whose own wire is `own`
-pub record GateWithin (own : ℕ) (g : Gate) : Type 0 where
+-- the bounds of a gate whose operands are below `bound`: its own wire; in a drawing the wire after the last
+pub record GateWithin (bound : ℕ) (g : Gate) : Type 0 where
   pub someFirst : 1 ≤ g .first .0
-  pub first : g .first .0 < own
+  pub first : g .first .0 < bound
   pub someSecond : 1 ≤ g .second .0
-  pub second : g .second .0 < own
+  pub second : g .second .0 < bound
   pub table : g .table ≤ maxTable
 
 -- the bounds of an output wire w, in a plan with u inputs and k gates

@@ -15,9 +15,9 @@ maxMap = 7
 unfoldable pub mapAllowed : ℕ → Bool
 mapAllowed b = leb b maxMap
 
--- an operand: not wire 0, and below the gate's own wire
+-- an operand: not wire 0, and below the bound: the gate's own wire; in a drawing the wire after the last
 unfoldable pub operandAllowed : ℕ → ℕ → Bool
-operandAllowed own w = leb 1 w && ltb w own
+operandAllowed bound w = leb 1 w && ltb w bound
 
 -- the table in which all four bits stand
 abbrev pub maxTable : ℕ

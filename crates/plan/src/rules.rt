@@ -24,7 +24,7 @@ pub fn map_allowed(map: u8) -> bool
     map <= MAX_MAP
 }
 
-// Whether the wire may be an operand of the gate whose own wire is own.
+// Whether the wire may be an operand of a gate whose operands are below own: its own wire; in a drawing the wire after the last.
 pub fn operand_allowed(own: PlanWire, wire: PlanWire) -> bool
     ensures { λ r. ⌜ r ≡ operandAllowed (own .0) (wire .0) ⌝ }
 {

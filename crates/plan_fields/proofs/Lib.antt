@@ -1,2 +1,2 @@
--- what a field gives in each of its cases, and items read one after another
+-- what a field gives in each of its cases, items read one after another, and what holds of what was parsed
 pub mod ParsingLaws

@@ -1,4 +1,5 @@
--- What a field gives in each of its three cases, and reading n items by one more item at a time: a refusal stays the answer.
+-- What a field gives in each of its three cases, and reading n items by one more item at a time: a refusal stays the answer. Then what holds of a
+-- step's value and cursor, or of its refusal's number, handed on from step to step.
 use mathlib.Core.Path.{_≡_, refl}
 use mathlib.Core.Bool.{Bool, true, false, cond}
 use mathlib.Core.List.{List, [], _∷_, _++_}
@@ -9,7 +10,7 @@ use borrow.Author.Tests.{lt-ltb, le-ltb}
 use lib.Dec.{ltb}
 use lib.ListN.{length}
 use Rattle.fault.specs.declared.Fault.{Fault}
-use Rattle.plan_fields.specs.Parsing.{got, refused, refuse, Step, field, inOrder}
+use Rattle.plan_fields.specs.Parsing.{Parsed, got, refused, refuse, Step, followed, field, inOrder}
 
 -- v is the field's value, and r whether it is allowed
 module _ (width : ℕ) (value : List ℕ → ℕ → ℕ) (allowed : ℕ → Bool) (f : Fault) (s : List ℕ) (at : ℕ) where
@@ -64,3 +65,20 @@ module _ {A : Type 0} (item : ℕ → Step A) (s : List ℕ) (at : ℕ) where
         | yes y ↦ rw y at e
         | no d ↦ rw (ih (omega arith) e)
       ]
+
+-- what was parsed: P holds of the value and the next cursor, or R of the refusal's number
+pub data ParsedAs {A : Type 0} (P : A → ℕ → Type 0) (R : ℕ → Type 0) : Parsed A → Type 0 where
+  gives : {a : A} {next : ℕ} → P a next → ParsedAs P R (got a next)
+  refuses : {n at : ℕ} → R n → ParsedAs P R (refused n at)
+
+-- what holds of a step's value and cursor serves the next step
+pub gives-then : {A B : Type 0} {P : A → ℕ → Type 0} {Q : B → ℕ → Type 0} {R : ℕ → Type 0} (f : A → Step B) (s : List ℕ) {o : Parsed A}
+    → ParsedAs P R o → ((a : A) (next : ℕ) → P a next → ParsedAs Q R (f a s next)) → ParsedAs Q R (followed f s o)
+gives-then f s (gives h) k = k _ _ h
+gives-then f s (refuses h) k = refuses h
+
+-- what follows from what holds of the value and the cursor
+pub gives-also : {A : Type 0} {P Q : A → ℕ → Type 0} {R : ℕ → Type 0} {o : Parsed A} → ((a : A) (next : ℕ) → P a next → Q a next)
+    → ParsedAs P R o → ParsedAs Q R o
+gives-also k (gives h) = gives (k _ _ h)
+gives-also k (refuses h) = refuses h

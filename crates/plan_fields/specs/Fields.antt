@@ -58,7 +58,3 @@ gateFields bound own map =
 -- a gate: one map byte, then its fields
 unfoldable pub gateStepWithin : ℕ → ℕ → Step Gate
 gateStepWithin bound own = mapField >>= gateFields bound own
-
--- document 01's gate, whose operands are below its own wire
-abbrev pub gateStep : ℕ → Step Gate
-gateStep own = gateStepWithin own own

@@ -19,19 +19,20 @@ use Rattle.plan.specs.Faults.{Accepted}
 use Rattle.plan.proofs.RulesLaws.{count-bounds, default-allowed}
 use Rattle.plan.proofs.FaultsLaws.{AllowedGate, AllowedPlan, accepted-allowed}
 use Rattle.plan_fields.specs.Parsing.{Parsed, got}
-use Rattle.plan_fields.specs.Fields.{firstPlace, secondPlace, tablePlace, absentTable, mapBit, gateStepWithin, gateStep}
-use Rattle.plan_reading.specs.PlanFile.{outputStep, headerBytes, notStub, atEnd, planFile, parsedOutcome, planRead}
+use Rattle.plan_fields.proofs.ParsingLaws.{gives, refuses, gives-then}
+use Rattle.plan_fields.specs.Fields.{firstPlace, secondPlace, tablePlace, absentTable, mapBit, gateStepWithin}
+use Rattle.plan_reading.specs.PlanFile.{outputStep, headerBytes, notStub, atEnd, wholeFile, planFile, parsedOutcome, planRead}
 use Rattle.plan_files.specs.Encoding.{byte, word, whereStanding, encodeGate, joinedBytes, encode, LeavesOutDefaults, Choice, used, OfBytes, Encoded}
 use Rattle.plan_files.specs.Encoding.{ReadsExactly, gateBytes, outputBytes, longestFile, LongestPlan}
 use Rattle.plan_files.proofs.BytesLaws.{encode-bytes}
 use Rattle.plan_files.proofs.ListLaws.{joined-length, joined-shorter, used-places}
 use Rattle.plan_files.proofs.ReadingLaws.{BytesStand, stands-append, stands-split, nothing-stands, whole-stands, stands-to-end, stands-length}
 use Rattle.plan_files.proofs.ReadingLaws.{byte-coded, word-coded, field-reads, standing-reads, in-order-reads}
-use Rattle.plan_files.proofs.ReadingLaws.{Gives, gives, refuses, gives-then, by-test, field-gives, standing-gives, Items, in-order-gives}
+use Rattle.plan_files.proofs.ReadingLaws.{Gives, by-test, field-gives, standing-gives, Items, in-order-gives}
 
 -- a gate is read where its bytes stand
 gate-reads : (s : List ℕ) (own m : ℕ) (g : Gate) (at next : ℕ) → AllowedGate own g → LeavesOutDefaults own m g
-    → BytesStand s at (encodeGate m g) next → gateStep own s at ≡ got g next
+    → BytesStand s at (encodeGate m g) next → gateStepWithin own own s at ≡ got g next
 unfolding gateStepWithin
 gate-reads s own m g at next ok left x =
     let (a, map, rest) = stands-split (byte m) _ x in
@@ -48,7 +49,7 @@ gate-reads s own m g at next ok left x =
 -- a plan is read where its file stands, from 0 to the end
 file-reads : (s : List ℕ) (maps : ℕ → ℕ) (p : Plan) → AllowedPlan p → Choice maps p → BytesStand s 0 (encode maps p) (length s)
     → planFile s 0 ≡ got (used p) (length s)
-unfolding planFile notStub atEnd encode
+unfolding wholeFile notStub atEnd encode
 file-reads s maps p ok choice x =
     let u = p .inputs in
     let k = p .«gate_count» in
@@ -62,7 +63,7 @@ file-reads s maps p ok choice x =
       field-reads word-coded s (countAllowed maxInputs) Fault.Inputs 0 a u inputs (ok .inputs),
       field-reads word-coded s (countAllowed maxGates) Fault.Gates a b k gates (ok .gates),
       field-reads word-coded s (countAllowed maxOutputs) Fault.Outputs b c v outputs (ok .outputs),
-      in-order-reads s (λ i. gateStep (gateWire u i)) (gateAt p) (λ i. encodeGate (maps i) (gateAt p i)) k
+      in-order-reads s (λ i. gateStepWithin (gateWire u i) (gateWire u i)) (gateAt p) (λ i. encodeGate (maps i) (gateAt p i)) k
           (λ i at next l. gate-reads s (gateWire u i) (maps i) (gateAt p i) at next (ok .gate i l) (choice i l)) c d each-gate,
       in-order-reads s (λ _. outputStep u k) (outputAt p) (λ j. word (outputAt p j .0)) v
           (λ j at next l y. rw (field-reads word-coded s (sourceAllowed u k) Fault.Source at next (outputAt p j .0) y (ok .output j l)))
@@ -110,7 +111,7 @@ encoded s u k v gs os a b c d e inputs gates outputs each-gate each-output end =
 
 -- what each step gives: a gate, if its default operand is allowed
 gate-gives : (s : List ℕ) (own at : ℕ) → OfBytes s → 2 ≤ own
-    → Gives (λ g next. (m : ℕ) × (LeavesOutDefaults own m g × AllowedGate own g) × BytesStand s at (encodeGate m g) next) (gateStep own s at)
+    → Gives (λ g next. (m : ℕ) × (LeavesOutDefaults own m g × AllowedGate own g) × BytesStand s at (encodeGate m g) next) (gateStepWithin own own s at)
 unfolding gateStepWithin tableAllowed
 gate-gives s own at small h =
     let operand = standing-gives word-coded s (operandAllowed own) Fault.Operand in
@@ -147,14 +148,14 @@ end-gives s at =
 
 -- the whole file
 file-gives : (s : List ℕ) → OfBytes s → Gives (λ p next. Encoded s p) (planFile s 0)
-unfolding planFile GateOf
+unfolding wholeFile GateOf
 file-gives s small =
     gives-then _ s (start-gives s) λ _ o start.
     gives-then _ s (field-gives word-coded s (countAllowed maxInputs) Fault.Inputs o small) λ u a inputs.
     gives-then _ s (field-gives word-coded s (countAllowed maxGates) Fault.Gates a small) λ k b gates.
     gives-then _ s (field-gives word-coded s (countAllowed maxOutputs) Fault.Outputs b small) λ v c outputs.
     let own : (i : ℕ) → 2 ≤ gateWire u i = λ i. omega (arith, count-bounds maxInputs u .0 (inputs .0)) in
-    gives-then _ s (in-order-gives (GateOf u) encodeGate zeroGate s (λ i. gateStep (gateWire u i)) k
+    gives-then _ s (in-order-gives (GateOf u) encodeGate zeroGate s (λ i. gateStepWithin (gateWire u i) (gateWire u i)) k
     (λ i at _. gate-gives s (gateWire u i) at small (own i)) c) λ gs d each-gate.
     gives-then _ s (in-order-gives (OutputOf u k) (λ _ w. word (w .0)) (wire 0) s (λ _. outputStep u k) v
     (λ j at _. output-gives s u k j at small) d) λ os e each-output.

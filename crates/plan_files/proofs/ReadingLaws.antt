@@ -15,7 +15,8 @@ use borrow.Author.Tests.{ltb-false, le-ltb}
 use Rattle.lists.specs.Lists.{listOf}
 use Rattle.fault.specs.declared.Fault.{Fault}
 use Rattle.fault.proofs.ChecksLaws.{number-positive}
-use Rattle.plan_fields.specs.Parsing.{Parsed, got, refused, Step, followed, field, wordAt, byteAt, standing, inOrder}
+use Rattle.plan_fields.specs.Parsing.{Parsed, got, Step, field, wordAt, byteAt, standing, inOrder}
+use Rattle.plan_fields.proofs.ParsingLaws.{ParsedAs, gives, refuses, gives-then, gives-also}
 use Rattle.plan_files.specs.Encoding.{byte, word, joinedBytes, whereStanding, OfBytes}
 use Rattle.plan_files.proofs.ListLaws.{joined-same}
 
@@ -65,15 +66,8 @@ module _ {s : List ℕ} where
   stands-at {e} {a} {c} i x h = cc (getD-drop a s i 0, List·getD-append e (drop c s) 0 i h)
 
 -- what reading gave: P holds of the value and the next cursor, or the refusal's number is not 0
-pub data Gives {A : Type 0} (P : A → ℕ → Type 0) : Parsed A → Type 0 where
-  gives : {a : A} {next : ℕ} → P a next → Gives P (got a next)
-  refuses : {n at : ℕ} → 1 ≤ n → Gives P (refused n at)
-
--- what holds of a step's value and cursor serves the next step
-pub gives-then : {A B : Type 0} {P : A → ℕ → Type 0} {R : B → ℕ → Type 0} (f : A → Step B) (s : List ℕ) {o : Parsed A}
-    → Gives P o → ((a : A) (next : ℕ) → P a next → Gives R (f a s next)) → Gives R (followed f s o)
-gives-then f s (gives h) k = k _ _ h
-gives-then f s (refuses h) k = refuses h
+abbrev pub Gives : {A : Type 0} → (A → ℕ → Type 0) → Parsed A → Type 0
+Gives P = ParsedAs P (λ n. 1 ≤ n)
 
 -- by the two cases of a test
 pub by-test : {T : Type 0} (b : Bool) → (b ≡ true → T) → (b ≡ false → T) → T
@@ -141,12 +135,7 @@ module _
   pub standing-gives : (stands : Bool) (default at : ℕ) → OfBytes s → allowed default ≡ true
       → Gives (λ w next. (stands ≡ false → w ≡ default) × (allowed w ≡ true) × BytesStand s at (whereStanding stands (bytes w)) next)
       (standing stands (field width value allowed f) default s at)
-  standing-gives true default at small h = here (field-gives at small)
-    where
-      here : {o : Parsed ℕ} → Gives (λ w next. (allowed w ≡ true) × BytesStand s at (bytes w) next) o
-          → Gives (λ w next. (true ≡ false → w ≡ default) × (allowed w ≡ true) × BytesStand s at (bytes w) next) o
-      here (gives x) = gives (λ e. absurd (true≢false e), x .0, x .1)
-      here (refuses x) = refuses x
+  standing-gives true default at small h = gives-also (λ w next x. (λ e. absurd (true≢false e), x .0, x .1)) (field-gives at small)
   standing-gives false default at small h = gives (λ _. refl, h, nothing-stands)
 
 -- items whose bytes stand one after another are read in order

@@ -68,20 +68,20 @@ module _ (d : Plan) (orderable : Orderable d) where
   in-order = order-theorem u k (drawnFirst d) (drawnSecond d) (orderable .all)
 
   -- drawn gate g stands at its place
-  record Stands (g : ℕ) : Type 0 where
-    here : getD O (placeIn O g) 0 ≡ g
-    low : placeIn O g < k
+  pub record Stands (g : ℕ) : Type 0 where
+    pub here : getD O (placeIn O g) 0 ≡ g
+    pub low : placeIn O g < k
 
-  stands : (g : ℕ) → g < k → Stands g
+  pub stands : (g : ℕ) → g < k → Stands g
   stands g l = let h = place-holds O g (in-order .every g l) in record { here = h .0; low = omega (arith, h .1, orderable .all) }
 
   -- ---- wires renumbered
 
-  input-number : (w : ℕ) → w ≤ u → renumbered d w ≡ w
+  pub input-number : (w : ℕ) → w ≤ u → renumbered d w ≡ w
   unfolding renumbered
   input-number w l = rw (le-leb w u l)
 
-  gate-number : (w : ℕ) → u < w → renumbered d w ≡ gateWire u (placeIn O (w - suc u))
+  pub gate-number : (w : ℕ) → u < w → renumbered d w ≡ gateWire u (placeIn O (w - suc u))
   unfolding renumbered
   gate-number w l = rw (lt-leb w u l)
 

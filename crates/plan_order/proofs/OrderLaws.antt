@@ -7,17 +7,18 @@ use mathlib.Core.List.{List, [], _∷_, _++_}
 use Prim.Native.Nat.{ℕ, zero, suc, _+_, _-_, _≤_, _<_}
 use native.Mathlib.Decide.{ℕ-discrete, decLe, decLt}
 use native.Mathlib.Omega.{arith}
-use borrow.Author.Tests.{eq-eqb, ne-eqb, lt-leb, le-leb, lt-ltb, ltb-true}
+use borrow.Author.Tests.{eq-eqb, ne-eqb, lt-leb, le-leb, lt-ltb, ltb-true, eqb-true}
 use lib.Dec.{eqb, ltb}
 use lib.ListN.{length, getD, take, length-append}
 use lib.Seq.{take-all, take-append-le, getD-take, getD-at}
 use Rattle.lists.specs.Counting.{oneIf, countOf, nthOf}
-use Rattle.lists.proofs.CountingLaws.{passed, both-ways, not-fails, count-le, count-none, count-rest, count-before, all-pass, none-before, count-single, count-sum, NthOf, nth-at}
-use Rattle.plan_order.specs.Order.{has, supplied, ready, withNext, taken, isLeft, lowestLeft, From, Ring, OperandsWithin, RingExactly, TakenInOrder, RingTheorem, OrderTheorem}
+use Rattle.lists.proofs.CountingLaws.{passed, both-ways, not-fails, count-le, count-none, count-rest, count-before, count-ext, nth-ext, nth-lowest, each-passes, all-pass, none-before, count-single, count-sum, NthOf, nth-at}
+use Rattle.plan_order.specs.Order.{has, supplied, ready, withNext, taken, isLeft, lowestLeft, From, Cyclic, OperandsWithin, CycleExactly, TakenInOrder, CycleTheorem, FedByItselfTheorem, OrderTheorem}
 
 -- ---- what stands in a list
 
-has-more : (L : List ℕ) (y g : ℕ) → has (L ++ (y ∷ [])) g ≡ (has L g || eqb y g)
+-- one entry more
+pub has-more : (L : List ℕ) (y g : ℕ) → has (L ++ (y ∷ [])) g ≡ (has L g || eqb y g)
 unfolding has
 has-more [] y g = or-false (eqb y g)
 has-more (x ∷ xs) y g = elim (passed (eqb x g)) [ inl t ↦ rw t | inr f ↦ rw f (has-more xs y g) ]
@@ -74,9 +75,33 @@ module _ (u k : ℕ) (first second : ℕ → ℕ) where
         makes = rw (ne-eqb (countOf (Ready L) k) 0 f);
       })
 
+  -- a gate that is ready, where none before it is, is taken
+  pub next-taken : (L : List ℕ) (g : ℕ) → g < k → Ready L g ≡ true → ((i : ℕ) → i < g → Ready L i ≡ false) → Next L ≡ L ++ (g ∷ [])
+  unfolding withNext
+  next-taken L g l e lower =
+      let some : countOf (Ready L) k ≡ 0 → ⊥ = λ z. absurd (omega (arith, count-before (Ready L) g k l e)) in
+      rw (ne-eqb (countOf (Ready L) k) 0 some, nth-lowest (Ready L) k g l e lower)
+
+  -- where none is ready, none is taken
+  pub none-taken : (L : List ℕ) → ((i : ℕ) → i < k → Ready L i ≡ false) → Next L ≡ L
+  none-taken L none = go (turn L)
+    where
+      go : (Stuck L × (Next L ≡ L)) ⊎ Takes L → Next L ≡ L
+      go (inl (_, same)) = same
+      go (inr t) = absurd (both-ways (t .lowest .passes) (none (t .gate) (t .lowest .low)))
+
+  -- and none in any later turn
+  pub taken-stays : (n m : ℕ) → n ≤ m → Next (Taken n) ≡ Taken n → Taken m ≡ Taken n
+  unfolding taken
+  taken-stays n zero l same = let z : n ≡ 0 = omega arith in rw z
+  taken-stays n (suc m) l same = elim (ℕ-discrete n (suc m)) [
+    | yes e ↦ rw e
+    | no f ↦ ap Next (taken-stays n m (omega arith) same) ∙ same
+  ]
+
   -- ---- no gate of a ring is ever taken
 
-  module _ (set : ℕ → Bool) (ring : Ring u k first second set) where
+  module _ (set : ℕ → Bool) (cyclic : Cyclic u k first second set) where
     unsupplied : (L : List ℕ) (w : ℕ) → ((g : ℕ) → set g ≡ true → has L g ≡ false) → From u k first second set w → supplied u k first second L w ≡ false
     unfolding supplied
     unsupplied L w none (l, s) = rw (lt-leb w u l, none (w - suc u) s)
@@ -92,7 +117,7 @@ module _ (u k : ℕ) (first second : ℕ → ℕ) where
         step none (inr t) =
             let L = Taken n in
             let parts = ready-parts L (t .gate) (t .lowest .passes) in
-            let other : t .gate ≡ g → ⊥ = λ e. elim (ring .fed g s) [
+            let other : t .gate ≡ g → ⊥ = λ e. elim (cyclic .fed g s) [
               | inl a ↦ both-ways (parts .1) (rw e (unsupplied L (first g) none a))
               | inr b ↦ both-ways (parts .2) (rw e (unsupplied L (second g) none b))
             ] in
@@ -127,6 +152,10 @@ module _ (u k : ℕ) (first second : ℕ → ℕ) where
           (one-taken L (t .gate) (t .lowest .low) (ready-parts L (t .gate) (t .lowest .passes) .0) ∙ ap (λ c. c + 1) e
           ∙ sym (length-append L (t .gate ∷ [])))
 
+  -- no more gates are taken than there are
+  pub taken-within : (n : ℕ) → length (Taken n) ≤ k
+  taken-within n = omega (arith, counted n, count-le (has (Taken n)) k)
+
   -- after n turns n gates are taken, or none is ready any more
   grown : (n : ℕ) → Stuck (Taken n) ⊎ (length (Taken n) ≡ n)
   unfolding taken
@@ -139,8 +168,11 @@ module _ (u k : ℕ) (first second : ℕ → ℕ) where
       step (inl e) (inr t) = absurd (omega (arith, count-before (Ready (Taken n)) (t .gate) k (t .lowest .low) (t .lowest .passes)))
       step (inr e) (inr t) = rw (t .makes) (inr (length-append (Taken n) (t .gate ∷ []) ∙ omega arith))
 
-  -- where k gates are taken, each of the k is
-  all-taken : (n : ℕ) → length (Taken n) ≡ k → (g : ℕ) → g < k → has (Taken n) g ≡ true
+  -- where k gates are taken, each of the k is, and where each is, k are
+  pub taken-all : (n : ℕ) → ((g : ℕ) → g < k → has (Taken n) g ≡ true) → length (Taken n) ≡ k
+  taken-all n each = sym (counted n) ∙ each-passes (has (Taken n)) k each
+
+  pub all-taken : (n : ℕ) → length (Taken n) ≡ k → (g : ℕ) → g < k → has (Taken n) g ≡ true
   all-taken n e = all-pass (has (Taken n)) k (counted n ∙ e)
 
   stuck-end : Stuck (Taken k)
@@ -179,9 +211,9 @@ module _ (u k : ℕ) (first second : ℕ → ℕ) where
       | no n ↦ (omega arith, in-left (w - suc u) (omega arith) (rw (lt-leb w u (omega arith)) at f))
     ]
 
-    left-ring : (g : ℕ) → leftSet g ≡ true → Ring u k first second leftSet
+    left-cycle : (g : ℕ) → leftSet g ≡ true → Cyclic u k first second leftSet
     unfolding ready
-    left-ring g m = record {
+    left-cycle g m = record {
       gate = g;
       member = m;
       below = left-low;
@@ -204,18 +236,18 @@ module _ (u k : ℕ) (first second : ℕ → ℕ) where
     lowest-left : (length (Taken k) ≡ k → ⊥) → leftSet (lowestLeft u k first second) ≡ true
     lowest-left f = let y = some-left f in in-left _ (y .low) (not-fails (y .passes))
 
-    ring-exactly : RingExactly u k first second
-    ring-exactly = record {
+    cycle-exactly : CycleExactly u k first second
+    cycle-exactly = record {
       exactly = (
-        λ f. record { set = leftSet; ring = left-ring _ (lowest-left f) },
+        λ f. record { set = leftSet; cyclic = left-cycle _ (lowest-left f) },
         λ r e.
-            let ring = r .ring in
-            both-ways (all-taken k e (ring .gate) (ring .below _ (ring .member))) (never-taken (r .set) ring k (ring .gate) (ring .member)),
+            let cyclic = r .cyclic in
+            both-ways (all-taken k e (cyclic .gate) (cyclic .below _ (cyclic .member))) (never-taken (r .set) cyclic k (cyclic .gate) (cyclic .member)),
       );
       least = λ f.
           let y = some-left f in record {
             low = y .low;
-            never = λ n. never-taken leftSet (left-ring _ (lowest-left f)) n _ (lowest-left f);
+            never = λ n. never-taken leftSet (left-cycle _ (lowest-left f)) n _ (lowest-left f);
             least = λ h l. elim (passed (has (Taken k) h)) [
               | inl t ↦ t
               | inr n ↦ absurd (both-ways (rw n) (none-before Left _ h (y .rank) l))
@@ -303,9 +335,41 @@ module _ (u k : ℕ) (first second : ℕ → ℕ) where
           rw (t .before) (none-before (Ready (Taken p)) (t .takes .gate) g (t .takes .lowest .rank) (rw (t .here) at h));
     }
 
+-- operands that agree below k give the same order
+module _ (u k : ℕ) (first second first′ second′ : ℕ → ℕ) (same₁ : (g : ℕ) → g < k → first g ≡ first′ g) (same₂ : (g : ℕ) → g < k → second g ≡ second′ g) where
+  ready-ext : (L : List ℕ) (g : ℕ) → g < k → ready u k first second L g ≡ ready u k first′ second′ L g
+  unfolding ready supplied
+  ready-ext L g l = rw (same₁ g l, same₂ g l)
+
+  pub taken-ext : (n : ℕ) → taken u k first second n ≡ taken u k first′ second′ n
+  unfolding taken withNext
+  taken-ext zero = refl
+  taken-ext (suc n) =
+      let L = taken u k first′ second′ n in
+      ap (withNext u k first second) (taken-ext n)
+      ∙ rw (count-ext (ready u k first second L) (ready u k first′ second′ L) k (ready-ext L), nth-ext (ready u k first second L) (ready u k first′ second′ L) k 0 (ready-ext L))
+
 -- a ring exactly, or an order
-pub ring-theorem : RingTheorem
-ring-theorem = ring-exactly
+pub cycle-theorem : CycleTheorem
+cycle-theorem = cycle-exactly
+
+-- a gate on its own wire is a ring by itself
+pub fed-by-itself-theorem : FedByItselfTheorem
+fed-by-itself-theorem u k first second g l own = record {
+  set = eqb g;
+  cyclic = record {
+    gate = g;
+    member = eq-eqb g g refl;
+    below = λ h e. omega (arith, eqb-true g h e);
+    fed = λ h e. elim own [
+      | inl f ↦ inl (itself h e (first h) (ap first (sym (eqb-true g h e)) ∙ f))
+      | inr f ↦ inr (itself h e (second h) (ap second (sym (eqb-true g h e)) ∙ f))
+    ];
+  };
+}
+  where
+    itself : (h : ℕ) → eqb g h ≡ true → (w : ℕ) → w ≡ u + suc g → (u < w) × (eqb g (w - suc u) ≡ true)
+    itself h e w f = (omega arith, eq-eqb g (w - suc u) (omega arith))
 
 pub order-theorem : OrderTheorem
 order-theorem u k first second e = taken-in-order u k first second e

@@ -13,7 +13,7 @@ use Rattle.plan.specs.Record.{maxGates, wire, places, planOf, gateAt, outputAt,
 use Rattle.plan.specs.Faults.{Accepted, CountsWithin, GateWithin, OutputWithin}
 use Rattle.plan_evaluation_checks.specs.EvaluationChecks.{contactFault}
 use Rattle.plan_evaluation.specs.Evaluation.{planOutputs, tableBit, gateBit}
-use Rattle.plan_order.specs.Order.{order}
+use Rattle.plan_order.specs.Order.{order, lowestLeft}
 
 -- where g stands in a list, counted from 0
 unfoldable pub placeIn : List ℕ → ℕ → ℕ
@@ -31,6 +31,10 @@ module _ (d : Plan) where
   -- the drawn gates in the order in which they are taken
   abbrev pub drawnOrder : List ℕ
   drawnOrder = order (d .inputs) (d .«gate_count») drawnFirst drawnSecond
+
+  -- the lowest drawn gate that is left over
+  abbrev pub drawnLeft : ℕ
+  drawnLeft = lowestLeft (d .inputs) (d .«gate_count») drawnFirst drawnSecond
 
   -- the number of a drawn wire in the plan: an input's own, a gate's by its place in the order
   unfoldable pub renumbered : ℕ → ℕ

@@ -51,16 +51,16 @@ module _ (u k : ℕ) (first second : ℕ → ℕ) where
   From set w = (u < w) × (set (w - suc u) ≡ true)
 
   -- "some gates each draw from a gate of the same set"
-  pub record Ring (set : ℕ → Bool) : Type 0 where
+  pub record Cyclic (set : ℕ → Bool) : Type 0 where
     pub gate : ℕ
     pub member : set gate ≡ true
     pub below : (g : ℕ) → set g ≡ true → g < k
     pub fed : (g : ℕ) → set g ≡ true → From set (first g) ⊎ From set (second g)
 
   -- there is such a set
-  pub record HasRing : Type 0 where
+  pub record HasCycle : Type 0 where
     pub set : ℕ → Bool
-    pub ring : Ring set
+    pub cyclic : Cyclic set
 
   -- every operand is a wire of the drawing
   abbrev pub OperandsWithin : Type 0
@@ -73,8 +73,8 @@ module _ (u k : ℕ) (first second : ℕ → ℕ) where
     pub least : (h : ℕ) → h < g → has order h ≡ true
 
   -- not all gates are taken exactly if there is a ring, and the lowest gate that is left over is then the least that is never taken
-  pub record RingExactly : Type 0 where
-    pub exactly : (length order ≡ k → ⊥) ↔ HasRing
+  pub record CycleExactly : Type 0 where
+    pub exactly : (length order ≡ k → ⊥) ↔ HasCycle
     pub least : (length order ≡ k → ⊥) → LeastLeft lowestLeft
 
   -- ---- the order, where all gates are taken
@@ -88,8 +88,12 @@ module _ (u k : ℕ) (first second : ℕ → ℕ) where
     pub lowest : (p g : ℕ) → p < k → g < getD order p 0 → ready (take p order) g ≡ false
 
 -- for a drawing whose operands are its wires: a ring exactly, or an order
-abbrev pub RingTheorem : Type 0
-RingTheorem = (u k : ℕ) (first second : ℕ → ℕ) → OperandsWithin u k first second → RingExactly u k first second
+abbrev pub CycleTheorem : Type 0
+CycleTheorem = (u k : ℕ) (first second : ℕ → ℕ) → OperandsWithin u k first second → CycleExactly u k first second
+
+-- "one gate fed by itself is such a set"
+abbrev pub FedByItselfTheorem : Type 0
+FedByItselfTheorem = (u k : ℕ) (first second : ℕ → ℕ) (g : ℕ) → g < k → (first g ≡ u + suc g) ⊎ (second g ≡ u + suc g) → HasCycle u k first second
 
 abbrev pub OrderTheorem : Type 0
 OrderTheorem = (u k : ℕ) (first second : ℕ → ℕ) → length (order u k first second) ≡ k → TakenInOrder u k first second

@@ -1,6 +1,7 @@
 -- Laws of the parts. A loop that reads n items to their places has, after i of them, read the first i items and holds them with the other
 -- places zero; the header, then the body, is the whole file.
 use mathlib.Core.Path.{_≡_, refl, sym, ap, _∙_}
+use mathlib.Core.Bool.{Bool}
 use mathlib.Core.List.{List, [], _∷_, _++_}
 use Prim.Native.Nat.{ℕ, suc, _+_, _<_, _≤_}
 use borrow.Author.Tests.{lt-ltb, le-ltb}
@@ -22,7 +23,7 @@ use Rattle.plan_fields.specs.Answers.{refusal}
 use Rattle.plan_reading.specs.declared.reading.Header.{Header}
 use Rattle.plan_reading.specs.declared.reading.ReadAnswer.{ReadAnswer}
 use Rattle.plan_reading.specs.declared.reading.PlanRead.{PlanRead}
-use Rattle.plan_reading.specs.PlanFile.{gateSteps, outputSteps, atEnd, planFile, parsedOutcome}
+use Rattle.plan_reading.specs.PlanFile.{gateSteps, outputSteps, atEnd, wholeFile, parsedOutcome}
 use Rattle.plan_reading.specs.Answers.{answerOutcome, readOutcome}
 use Rattle.plan_reading.specs.Parts.{countsPart, headerPart, bodyPart}
 
@@ -89,26 +90,26 @@ unfolding atEnd
 at-tail s at h = rw (lt-ltb at (length s) h)
 
 -- what the body gives, by the first of its parts that is refused
-module _ (h : Header) (s : List ℕ) (at : ℕ) where
+module _ (drawn : Bool) (h : Header) (s : List ℕ) (at : ℕ) where
   -- a gate is refused
-  pub gates-refused : {m o : ℕ} → refused m o ≡ gateSteps (h .inputs) (h .gates) s at → refused m o ≡ bodyPart h s at
+  pub gates-refused : {m o : ℕ} → refused m o ≡ gateSteps drawn (h .inputs) (h .gates) (h .gates) s at → refused m o ≡ bodyPart drawn h s at
   unfolding bodyPart
   gates-refused e = ap (followed _ s) e
 
-  module _ {gs : List Gate} {at₁ : ℕ} (e₁ : got gs at₁ ≡ gateSteps (h .inputs) (h .gates) s at) where
+  module _ {gs : List Gate} {at₁ : ℕ} (e₁ : got gs at₁ ≡ gateSteps drawn (h .inputs) (h .gates) (h .gates) s at) where
     -- an output is refused
-    pub outputs-refused : {m o : ℕ} → refused m o ≡ outputSteps (h .inputs) (h .gates) (h .outputs) s at₁ → refused m o ≡ bodyPart h s at
+    pub outputs-refused : {m o : ℕ} → refused m o ≡ outputSteps (h .inputs) (h .gates) (h .outputs) s at₁ → refused m o ≡ bodyPart drawn h s at
     unfolding bodyPart
     outputs-refused e = ap (followed _ s) e ∙ ap (followed _ s) e₁
 
     module _ {os : List PlanWire} {at₂ : ℕ} (e₂ : got os at₂ ≡ outputSteps (h .inputs) (h .gates) (h .outputs) s at₁) where
       -- bytes follow
-      pub tail-refused : at₂ < length s → refuse Fault.Tail at₂ ≡ bodyPart h s at
+      pub tail-refused : at₂ < length s → refuse Fault.Tail at₂ ≡ bodyPart drawn h s at
       unfolding bodyPart
       tail-refused l = ap (followed _ s) (at-tail s at₂ l) ∙ ap (followed _ s) e₂ ∙ ap (followed _ s) e₁
 
       -- the plan is read
-      pub body-read : length s ≤ at₂ → got (planOf (h .inputs) (h .gates) (h .outputs) gs os) at₂ ≡ bodyPart h s at
+      pub body-read : length s ≤ at₂ → got (planOf (h .inputs) (h .gates) (h .outputs) gs os) at₂ ≡ bodyPart drawn h s at
       unfolding bodyPart
       body-read l = ap (followed _ s) (at-end s at₂ l) ∙ ap (followed _ s) e₂ ∙ ap (followed _ s) e₁
 
@@ -124,6 +125,14 @@ assoc f g s (got a at) = refl
 assoc f g s (refused n at) = refl
 
 -- the header, then the body
-pub whole-file : (s : List ℕ) → planFile s 0 ≡ (headerPart >>= bodyPart) s 0
-unfolding planFile headerPart countsPart bodyPart
-whole-file s = simp assoc
+whole-file : (drawn : Bool) (s : List ℕ) → wholeFile drawn s 0 ≡ (headerPart >>= bodyPart drawn) s 0
+unfolding wholeFile headerPart countsPart bodyPart
+whole-file drawn s = simp assoc
+
+-- once the header is read the file is its body
+pub whole-body : (drawn : Bool) (s : List ℕ) {h : Header} {at : ℕ} → got h at ≡ headerPart s 0 → bodyPart drawn h s at ≡ wholeFile drawn s 0
+whole-body drawn s e = ap (followed (bodyPart drawn) s) e ∙ sym (whole-file drawn s)
+
+-- and where the header is refused, so is the file
+pub no-body : (drawn : Bool) (s : List ℕ) {m o : ℕ} → refused m o ≡ headerPart s 0 → refused m o ≡ wholeFile drawn s 0
+no-body drawn s e = ap (followed (bodyPart drawn) s) e ∙ sym (whole-file drawn s)

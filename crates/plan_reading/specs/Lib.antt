@@ -1,5 +1,5 @@
 -- Document 01, "The plan": the plan file, and reading it.
--- the plan file and the order of its checks
+-- the file of a plan, or of a drawing, and the order of its checks
 pub mod PlanFile
 -- what the answers of reading say
 pub mod Answers

@@ -1,6 +1,7 @@
 -- The plan file in the two parts that the code reads one after the other: the header, and the body.
 use Prim.Native.Nat.{ℕ, _≤_}
 use mathlib.Core.Path.{_≡_}
+use mathlib.Core.Bool.{Bool}
 use mathlib.Core.List.{List}
 use Rattle.fault.specs.declared.Fault.{Fault}
 use Rattle.plan.specs.declared.record.Plan.{Plan}
@@ -24,10 +25,10 @@ countsPart =
 unfoldable pub headerPart : Step Header
 headerPart = notStub >>= λ _. countsPart
 
--- the gates, the outputs and the end of a file with these counts
-unfoldable pub bodyPart : Header → Step Plan
-bodyPart h =
-    gateSteps (h .inputs) (h .gates) >>= λ gs.
+-- the gates, the outputs and the end of a file with these counts, of a plan or of a drawing
+unfoldable pub bodyPart : Bool → Header → Step Plan
+bodyPart drawn h =
+    gateSteps drawn (h .inputs) (h .gates) (h .gates) >>= λ gs.
     outputSteps (h .inputs) (h .gates) (h .outputs) >>= λ os.
     atEnd >>= λ _.
     pure (planOf (h .inputs) (h .gates) (h .outputs) gs os)

@@ -1,6 +1,6 @@
--- Document 01, "The plan": the plan file, and the order of checks in reading.
+-- Document 01, "The plan", and document 02, W1: the file of a plan or of a drawing, and the order of checks in reading.
 use Prim.Native.Nat.{ℕ}
-use mathlib.Core.Bool.{cond}
+use mathlib.Core.Bool.{Bool, true, false, cond}
 use mathlib.Core.List.{List}
 use lib.Dec.{ltb}
 use lib.ListN.{length}
@@ -10,11 +10,16 @@ use Rattle.plan.specs.declared.record.Plan.{Plan}
 use Rattle.plan.specs.declared.record.PlanWire.{PlanWire}
 use Rattle.plan.specs.Record.{maxInputs, maxGates, maxOutputs, wire, gateWire, planOf, zeroPlan}
 use Rattle.plan_fields.specs.Parsing.{Parsed, Step, got, refused, refuse, _>>=_, pure, inOrder}
-use Rattle.plan_fields.specs.Fields.{countField, outputField, gateStep}
+use Rattle.plan_fields.specs.Fields.{countField, outputField, gateStepWithin}
 
--- the k gates of a plan with u inputs; gate i, counted from 0, has the wire u + i + 1
-abbrev pub gateSteps : ℕ → ℕ → Step (List Gate)
-gateSteps u k = inOrder (λ i. gateStep (gateWire u i)) k
+-- the bound of the operands of gate i, counted from 0, with u inputs and k gates: its own wire; in a drawing (document 02, W1) the wire after the
+-- last, so that an operand may be any wire from 1 to u + k
+abbrev pub operandBound : Bool → ℕ → ℕ → ℕ → ℕ
+operandBound drawn u k i = gateWire u (cond drawn k i)
+
+-- the first n gates of a plan, or of a drawing, with u inputs and k gates; gate i, counted from 0, has the wire u + i + 1
+abbrev pub gateSteps : Bool → ℕ → ℕ → ℕ → Step (List Gate)
+gateSteps drawn u k n = inOrder (λ i. gateStepWithin (operandBound drawn u k i) (gateWire u i)) n
 
 -- an output of a plan with u inputs and k gates
 abbrev pub outputStep : ℕ → ℕ → Step PlanWire
@@ -36,17 +41,25 @@ notStub s at = cond (ltb (length s) headerBytes) (refuse Fault.Stub 0) (got tt a
 unfoldable pub atEnd : Step Unit
 atEnd s at = cond (ltb at (length s)) (refuse Fault.Tail at) (got tt at)
 
--- the whole file
-unfoldable pub planFile : Step Plan
-planFile =
+-- the whole file of a plan, or of a drawing
+unfoldable pub wholeFile : Bool → Step Plan
+wholeFile drawn =
     notStub >>= λ _.
     countField maxInputs Fault.Inputs >>= λ u.
     countField maxGates Fault.Gates >>= λ k.
     countField maxOutputs Fault.Outputs >>= λ v.
-    gateSteps u k >>= λ gs.
+    gateSteps drawn u k k >>= λ gs.
     outputSteps u k v >>= λ os.
     atEnd >>= λ _.
     pure (planOf u k v gs os)
+
+-- the file of a plan
+abbrev pub planFile : Step Plan
+planFile = wholeFile false
+
+-- the file of a drawing: the same bytes, with the drawing's bound
+abbrev pub drawingFile : Step Plan
+drawingFile = wholeFile true
 
 -- what reading says: the refusal's number and offset with the all-zero record, or 0 and 0 with the plan
 pub record ReadOutcome : Type 0 where
@@ -62,3 +75,7 @@ parsedOutcome (refused n at) = record { number = n; at = at; plan = zeroPlan }
 -- reading a file
 unfoldable pub planRead : List ℕ → ReadOutcome
 planRead s = parsedOutcome (planFile s 0)
+
+-- reading the drawing that a file holds
+unfoldable pub drawingRead : List ℕ → ReadOutcome
+drawingRead s = parsedOutcome (drawingFile s 0)

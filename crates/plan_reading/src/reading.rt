@@ -1,13 +1,14 @@
 // Reading a plan file: the header, each gate, each output, the end. The first failing check decides, and a refusal leaves no trace of
 // the file in the record.
 ghost use mathlib.Core.Path.{_≡_};
-ghost use Rattle.plan.specs.Record.{zeroPlan};
-ghost use Rattle.plan_reading.specs.PlanFile.{planRead, parsedOutcome};
+ghost use mathlib.Core.Bool.{cond};
+ghost use Rattle.plan_reading.specs.PlanFile.{wholeFile, planRead, drawingRead, parsedOutcome};
 ghost use Rattle.plan_reading.specs.Answers.{readOutcome};
-ghost use Rattle.plan_reading.specs.Parts.{Limited, HeaderRead, countsPart, headerPart, bodyPart};
+ghost use Rattle.plan_reading.specs.Parts.{HeaderRead, countsPart, headerPart};
 use fault::Fault;
 use fault::Refusal;
 use plan::Plan;
+use plan::PlanWire;
 use plan::gate_wire;
 use plan_fields::CountStep;
 use plan_fields::Cursor;
@@ -16,7 +17,7 @@ use plan_fields::OutputStep;
 use plan_fields::read_gate;
 
 // The bytes of the three counts.
-const HEADER_BYTES: usize = 6;
+pub const HEADER_BYTES: usize = 6;
 
 // Whether a file holds a plan.
 pub enum ReadAnswer {
@@ -43,15 +44,18 @@ pub(crate) enum HeaderStep {
     Refused(Refusal),
 }
 
-// The plan that a file holds. The record is made zero, once, before the header is looked at.
+// The plan that a file holds.
 pub fn read_plan(file: &[u8]) -> PlanRead
     ensures { λ r. ⌜ readOutcome r ≡ planRead (now (file .entry)) ⌝ }
 {
-    let zero = Plan::zero();
-    match read_header(file) {
-        HeaderStep::Refused(x) => refused_read(zero, x),
-        HeaderStep::Header(header, next) => read_body(zero, file, next, header),
-    }
+    read_whole(file, false)
+}
+
+// The drawing that a file holds: an operand may be any of its wires.
+pub fn read_drawing(file: &[u8]) -> PlanRead
+    ensures { λ r. ⌜ readOutcome r ≡ drawingRead (now (file .entry)) ⌝ }
+{
+    read_whole(file, true)
 }
 
 // A refusal with the record that reading made zero.
@@ -100,62 +104,78 @@ fn read_counts(file: &[u8], c: Cursor) -> HeaderStep
     }
 }
 
-// The gates and the outputs, each to its place in a copy of the zero record, and the end of the file, where no byte may stand. A refusal
-// hands the zero record back.
-fn read_body(zero: Plan, file: &[u8], c: Cursor, header: Header) -> PlanRead
-    requires { ⌜ Limited header ⌝ }
-    requires { ⌜ zero ≡ zeroPlan ⌝ }
-    ensures { λ r. ⌜ readOutcome r ≡ parsedOutcome (bodyPart header (now (file .entry)) (c .at)) ⌝ }
+// The bound of a gate's operands: its own wire; in a drawing the wire after the last.
+fn operand_bound(drawn: bool, after_last: PlanWire, own: PlanWire) -> PlanWire
+    ensures { λ r. ⌜ r ≡ cond drawn «after_last» own ⌝ }
 {
-    let inputs = header.inputs;
-    let gates = header.gates;
-    let outputs = header.outputs;
-    let gate_count = gates as usize;
-    let output_count = outputs as usize;
-    let mut plan = zero;
-    plan.inputs = inputs;
-    plan.gate_count = gates;
-    plan.output_count = outputs;
-    let mut at = c;
-    let mut i: usize = 0;
-    while i < gate_count {
-        let own = gate_wire(inputs, i);
-        match read_gate(file, at, own, own) {
-            GateStep::Refused(x) => {
-                return refused_read(zero, x);
+    if drawn {
+        return after_last;
+    }
+    own
+}
+
+// The plan, or the drawing, that a file holds: the counts; the gates and the outputs, each to its place in a copy of the record, which is made zero once,
+// before the header is looked at; and the end of the file, where no byte may stand. A refusal hands the zero record back. One function, because each call
+// that hands a record on copies it.
+fn read_whole(file: &[u8], drawn: bool) -> PlanRead
+    ensures { λ r. ⌜ readOutcome r ≡ parsedOutcome (wholeFile drawn (now (file .entry)) 0) ⌝ }
+{
+    let zero = Plan::zero();
+    match read_header(file) {
+        HeaderStep::Refused(x) => refused_read(zero, x),
+        HeaderStep::Header(header, c) => {
+            let inputs = header.inputs;
+            let gates = header.gates;
+            let outputs = header.outputs;
+            let gate_count = gates as usize;
+            let output_count = outputs as usize;
+            let mut plan = zero;
+            plan.inputs = inputs;
+            plan.gate_count = gates;
+            plan.output_count = outputs;
+            let after_last = gate_wire(inputs, gate_count);
+            let mut at = c;
+            let mut i: usize = 0;
+            while i < gate_count {
+                let own = gate_wire(inputs, i);
+                match read_gate(file, at, operand_bound(drawn, after_last, own), own) {
+                    GateStep::Refused(x) => {
+                        return refused_read(zero, x);
+                    }
+                    GateStep::Gate(gate, next) => {
+                        plan.gates[i] = gate;
+                        at = next;
+                    }
+                }
+                i += 1;
             }
-            GateStep::Gate(gate, next) => {
-                plan.gates[i] = gate;
-                at = next;
+            let mut j: usize = 0;
+            while j < output_count {
+                match at.output(file, inputs, gates) {
+                    OutputStep::Refused(y) => {
+                        return refused_read(zero, y);
+                    }
+                    OutputStep::Output(wire, next) => {
+                        plan.outputs[j] = wire;
+                        at = next;
+                    }
+                }
+                j += 1;
             }
+            let end = at.at;
+            if end < file.len() {
+                return refused_read(
+                    zero,
+                    Refusal {
+                        fault: Fault::Tail,
+                        at: end,
+                    },
+                );
+            }
+            return PlanRead {
+                answer: ReadAnswer::Accepted,
+                plan: plan,
+            };
         }
-        i += 1;
-    }
-    let mut j: usize = 0;
-    while j < output_count {
-        match at.output(file, inputs, gates) {
-            OutputStep::Refused(y) => {
-                return refused_read(zero, y);
-            }
-            OutputStep::Output(wire, next) => {
-                plan.outputs[j] = wire;
-                at = next;
-            }
-        }
-        j += 1;
-    }
-    let end = at.at;
-    if end < file.len() {
-        return refused_read(
-            zero,
-            Refusal {
-                fault: Fault::Tail,
-                at: end,
-            },
-        );
-    }
-    PlanRead {
-        answer: ReadAnswer::Accepted,
-        plan: plan,
     }
 }

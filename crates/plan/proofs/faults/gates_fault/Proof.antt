@@ -2,7 +2,6 @@
 use native.Mathlib.Omega.{arith}
 use mathlib.Core.Path.{_≡_, refl, sym, ap, _∙_}
 use Prim.Native.Nat.{_≤_, _-_}
-use native.Mathlib.Nat.{lt-of-lt-of-le}
 use native.Mathlib.Numerals.{add-one}
 use borrow.Author.Needs.{needs}
 use Rattle.fault.specs.Number.{answerNumber}
@@ -35,7 +34,7 @@ gate-i c =
     let within = turn .before .pre in
     c .gate-fault .ensures
     ∙ ap (λ w. gateFault w (gateAt (turn .before .args .t1) (turn .loop .i)))
-    (c .before .gate-wire .ensures ∙ wire-fits (within .inputs) (lt-of-lt-of-le (c .before .before .before .loop-test .taken) (within .gates)))
+    (c .before .gate-wire .ensures ∙ wire-fits {i = turn .loop .i} (within .inputs) (omega (arith, c .before .before .before .loop-test .taken, within .gates)))
 
 found : tie.Need-returns Inv-loop μ-loop
 found c =
