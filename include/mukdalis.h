@@ -1,7 +1,7 @@
 /*
- * Mukdalis, the contact fabric library: plans, their faults and their evaluation; the permutation
- * network P and the selection network S of the block library, their rows and their programs; the
- * fabric of three counts, a plan's program for it, and the run of a fabric table.
+ * Mukdalis, the contact fabric library: plans and drawn plans, their faults and their evaluation;
+ * the permutation network P and the selection network S of the block library, their rows and their
+ * programs; the fabric of three counts, a plan's program for it, and the run of a fabric table.
  *
  * example.c beside this file shows the whole path, from a plan file to a run. A program is linked
  * with libcapi.a, which `rt staticlib capi` writes.
@@ -105,8 +105,8 @@ extern "C" {
 #define MKD_U_WIRES(l) (MKD_POWER(l) * (uint32_t)(2 * (l) * (l) + 4) - 3)
 
 /*
- * The refusal table. The block library reads 2, 4, 9, 12 and 13 otherwise: its calls say how. No
- * other number is given.
+ * The refusal table. The block library reads 2, 4, 9, 12 and 13 otherwise, and drawn reading 7:
+ * their calls say how. No other number is given.
  */
 enum mkd_fault {
     MKD_STUB = 1,     /* file below 6 bytes */
@@ -122,7 +122,8 @@ enum mkd_fault {
     MKD_SHORT = 11,   /* a buffer that is written is below its stated length */
     MKD_CONTACT = 12, /* input row not of length u, or an entry not 0 or 1 */
     MKD_FABRIC = 13,  /* fabric table malformed: mkd_run says when */
-    MKD_PROGRAM = 14  /* program not of its exact length, or a spare bit set */
+    MKD_PROGRAM = 14, /* program not of its exact length, or a spare bit set */
+    MKD_RING = 15     /* drawn gates that each draw from one of them */
 };
 
 /*
@@ -173,6 +174,42 @@ struct mkd_read {
  * Done: number and at are 0, and the plan has no plan fault. Refused: the plan is all zero.
  */
 struct mkd_read mkd_plan_read(const uint8_t *file, size_t len);
+
+/* The answer of a drawn read. */
+struct mkd_drawn {
+    uint32_t number; /* 0, or the refusal */
+    uint64_t at;     /* 0, or the byte offset where the faulty field begins or would begin */
+    struct mkd_plan plan;
+    uint16_t drawn[MKD_MAX_GATES]; /* the drawn number, from 1, of the gate at each place */
+};
+
+/*
+ * Reads a plan file whose gates stand in the order in which they were drawn: a gate may stand
+ * before what feeds it.
+ *
+ * The file: the bytes of mkd_plan_read, but an operand may be any wire from 1 to u + k. Absent
+ * fields mean what they mean there, in drawn numbers: an absent first operand is the wire just
+ * before the gate as it was drawn.
+ *
+ * The plan has the drawn gates in the order in which they are taken: again and again the
+ * lowest-numbered one whose operands are inputs or gates already taken; after each taking the
+ * search begins at the lowest gate again. Operands and outputs are renumbered to match;
+ * drawn[p - 1] is the drawn number of the gate at place p, its wire in the plan being u + p. The
+ * plan's outputs are those of the drawing, whose wire bits are the one choice that fits every drawn
+ * gate. A file that mkd_plan_read reads gives the same plan here, with the drawn numbers 1 to k.
+ *
+ * Buffer: file as in mkd_plan_read.
+ *
+ * Refusals: those of mkd_plan_read in their order and at their offsets, but 7 if an operand is 0 or
+ * above u + k; after 10, 15 exactly if gates are left over, at the map byte of the lowest of them.
+ * Gates are left over exactly if some gates each draw from one of the same set; one gate fed by
+ * itself is such a set. An operand that a table ignores counts. The lowest gate left over may lie
+ * outside every ring and only draw from one.
+ *
+ * Done: number and at are 0, the plan has no plan fault, and its unused places and those of drawn
+ * are zero. Refused: plan and drawn are all zero.
+ */
+struct mkd_drawn mkd_plan_read_drawn(const uint8_t *file, size_t len);
 
 /*
  * The first plan fault of a plan in memory, or 0 where it has none: the plan is then accepted.

@@ -1,11 +1,17 @@
--- The exports' structs in document 01's numbers and values.
+-- The exports' structs in the documents' numbers and values.
 use Rattle.elements.specs.Elements.{CountOutcome}
 use Rattle.plan_reading.specs.PlanFile.{ReadOutcome}
+use Rattle.plan_drawn.specs.DrawnFile.{DrawnOutcome}
 use Rattle.capi.specs.declared.Counted.{Counted}
+use Rattle.capi.specs.declared.Drawn.{Drawn}
 use Rattle.capi.specs.declared.Read.{Read}
 
 abbrev pub exportOutcome : Read → ReadOutcome
 exportOutcome r = record { number = r .number; at = r .at; plan = r .plan }
+
+-- what the header's struct mkd_drawn says
+abbrev pub exportDrawn : Drawn → DrawnOutcome
+exportDrawn r = record { number = r .number; at = r .at; plan = r .plan; drawn = r .drawn }
 
 -- what the header's struct mkd_counts says
 abbrev pub countsOf : Counted → CountOutcome

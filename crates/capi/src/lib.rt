@@ -9,8 +9,9 @@ ghost use Rattle.plan.specs.Faults.{planFault};
 ghost use Rattle.plan_evaluation_checks.specs.EvaluationChecks.{evaluateFault};
 ghost use Rattle.plan_evaluation.specs.Evaluation.{evaluateResult};
 ghost use Rattle.plan_reading.specs.PlanFile.{planRead};
+ghost use Rattle.plan_drawn.specs.DrawnFile.{drawnRead};
 ghost use Rattle.fabric.specs.Fabrics.{counting, fabricResult, fabricFault, planProgramFault, planProgramResult, runFault, runWork, runResult};
-ghost use Rattle.capi.specs.Exports.{exportOutcome, countsOf};
+ghost use Rattle.capi.specs.Exports.{exportOutcome, exportDrawn, countsOf};
 use elements::CountAnswer;
 use elements::FabricWire;
 use plan::Plan;
@@ -44,6 +45,43 @@ pub extern "C" fn mkd_plan_read(file: &[u8]) -> Read
                 number: fault.number(),
                 at: x.at as u64,
                 plan: record,
+            }
+        }
+    }
+}
+
+// The header's struct mkd_drawn: the same with the drawn number of the gate at each place, plan and numbers all zero where no plan was read.
+#[repr(C)]
+pub struct Drawn {
+    pub number: u32,
+    pub at: u64,
+    pub plan: Plan,
+    pub drawn: [u16; Plan::MAX_GATES],
+}
+
+// Reads the plan that a file holds as it was drawn.
+#[no_mangle]
+pub extern "C" fn mkd_plan_read_drawn(file: &[u8]) -> Drawn
+    ensures { λ r. ⌜ exportDrawn r ≡ drawnRead (now (file .entry)) ⌝ }
+{
+    let read = plan_drawn::read_drawn(file);
+    let answer = read.answer;
+    let ordered = read.plan;
+    let numbers = read.drawn;
+    match answer {
+        ReadAnswer::Accepted => Drawn {
+            number: 0,
+            at: 0,
+            plan: ordered,
+            drawn: numbers,
+        },
+        ReadAnswer::Refused(y) => {
+            let fault = y.fault;
+            Drawn {
+                number: fault.number(),
+                at: y.at as u64,
+                plan: ordered,
+                drawn: numbers,
             }
         }
     }

@@ -5,6 +5,7 @@ use mukdalis::Plan;
 use super::show::{hex, show_plan};
 use super::{Comparison, Difference, Outcome};
 use crate::random::Random;
+use crate::samples::damage::random_body;
 use crate::samples::{
     accepted_file, accepted_plan, Counts, PlanFile, Standing, LIMIT_COUNTS, LONGEST_FILE,
 };
@@ -56,7 +57,7 @@ fn sound_files(comparison: &mut Comparison, random: &mut Random) -> Outcome {
     Ok(())
 }
 
-fn not_as_written(comparison: &Comparison, plan: &Plan, file: &PlanFile) -> Difference {
+pub fn not_as_written(comparison: &Comparison, plan: &Plan, file: &PlanFile) -> Difference {
     comparison.difference(&[
         ("file", hex(&file.bytes)),
         ("written from", show_plan(plan)),
@@ -96,10 +97,8 @@ fn fields_at_limits(comparison: &mut Comparison, random: &mut Random) -> Outcome
             0 => any_file(random),
             _ => small_file(random),
         };
-        for &field in &file.fields {
-            for value in field.1.limits() {
-                comparison.reading(&file.with_field(field, value).bytes)?;
-            }
+        for (_, _, damaged) in file.at_limits() {
+            comparison.reading(&damaged.bytes)?;
         }
     }
     Ok(())
@@ -118,8 +117,8 @@ fn two_damages(comparison: &mut Comparison, random: &mut Random) -> Outcome {
                 let value = random.choose(&later.1.limits());
                 comparison.reading(&damaged.with_field(later, value).bytes)?;
             }
-            for end in field.0..damaged.bytes.len() {
-                comparison.reading(&damaged.bytes[..end])?;
+            for cut in damaged.cuts().skip(field.0) {
+                comparison.reading(cut)?;
             }
             comparison.reading(&[&damaged.bytes[..], &[0]].concat())?;
         }
@@ -131,9 +130,8 @@ fn two_damages(comparison: &mut Comparison, random: &mut Random) -> Outcome {
 fn cut_files(comparison: &mut Comparison, random: &mut Random) -> Outcome {
     comparison.begin("cut at every byte");
     for _ in 0..400 {
-        let file = any_file(random);
-        for end in 0..file.bytes.len() {
-            comparison.reading(&file.bytes[..end])?;
+        for cut in any_file(random).cuts() {
+            comparison.reading(cut)?;
         }
     }
     Ok(())
@@ -150,8 +148,7 @@ fn longer_files(comparison: &mut Comparison, random: &mut Random) -> Outcome {
             extra.extend([256, LONGEST_FILE, 1 << 16]);
         }
         for extra in extra {
-            let tail = random.bytes(extra);
-            comparison.reading(&[&file.bytes[..], &tail].concat())?;
+            comparison.reading(&file.with_tail(random, extra))?;
         }
     }
     Ok(())
@@ -161,11 +158,8 @@ fn longer_files(comparison: &mut Comparison, random: &mut Random) -> Outcome {
 fn every_byte_value(comparison: &mut Comparison, random: &mut Random) -> Outcome {
     comparison.begin("one byte changed, every value");
     for _ in 0..40 {
-        let file = small_file(random).bytes;
-        for at in 0..file.len() {
-            for value in 0..=u8::MAX {
-                comparison.reading(&with_byte(&file, at, value))?;
-            }
+        for changed in small_file(random).every_byte_value() {
+            comparison.reading(&changed)?;
         }
     }
     Ok(())
@@ -175,35 +169,18 @@ fn every_byte_value(comparison: &mut Comparison, random: &mut Random) -> Outcome
 fn changed_bytes(comparison: &mut Comparison, random: &mut Random) -> Outcome {
     comparison.begin("one byte changed, every place");
     for _ in 0..200 {
-        let file = any_file(random).bytes;
-        for (at, &byte) in file.iter().enumerate() {
-            let flipped = byte ^ 1 << random.between(0, 7);
-            for value in [byte.wrapping_add(1), flipped, random.byte()] {
-                comparison.reading(&with_byte(&file, at, value))?;
-            }
+        let file = any_file(random);
+        for changed in file.changed_bytes(random) {
+            comparison.reading(&changed)?;
         }
     }
     Ok(())
 }
 
-fn with_byte(file: &[u8], at: usize, value: u8) -> Vec<u8> {
-    let mut file = file.to_vec();
-    file[at] = value;
-    file
-}
-
-/// A header in range before random bytes, most of them so small that reading gets far.
 fn random_bodies(comparison: &mut Comparison, random: &mut Random) -> Outcome {
     comparison.begin("random bytes after a header in range");
     for _ in 0..60_000 {
-        let Counts(u, k, v) = Counts::random(random);
-        let mut file = [u, k, v].map(u16::to_le_bytes).concat();
-        let most = random.choose(&[0, 1, 2, 4, 7, 8, 255]);
-        for _ in 0..random.between(0, 60) {
-            let byte = random.between(0, most) as u8;
-            file.push(random.choose(&[0, byte, byte]));
-        }
-        comparison.reading(&file)?;
+        comparison.reading(&random_body(random))?;
     }
     Ok(())
 }

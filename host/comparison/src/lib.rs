@@ -1,7 +1,7 @@
 //! The library and the reference on the same cases: answers, records and lent buffers.
 //!
-//! [`mod@reference`] does the library's work in plain Rust, written from document 01 alone; of the
-//! library it uses the records and the refusal table. [`samples`] makes the cases, from the numbers
+//! [`mod@reference`] does the library's work in plain Rust, written from documents 01 and 02 alone;
+//! of the library it uses the records and the refusal table. [`samples`] makes the cases, from the numbers
 //! of [`random`].
 //!
 //! The first difference ends a comparison. Otherwise it has counted its cases by kind and by call,
@@ -12,6 +12,7 @@ pub mod reference;
 pub mod samples;
 
 mod blocks;
+mod drawn;
 mod fabric;
 mod files;
 mod memory;
@@ -39,6 +40,8 @@ enum Call {
     Reading,
     Faults,
     Evaluation,
+    DrawnReading,
+    DrawnOutputs,
     PermutationWriting,
     PermutationProgramming,
     PermutationDelivery,
@@ -54,10 +57,12 @@ enum Call {
 }
 
 /// Each call's name, and the numbers that it must have given at least once.
-const CALLS: [(&str, &[usize]); 15] = [
+const CALLS: [(&str, &[usize]); 17] = [
     ("reading", &[0, 1, 2, 3, 4, 5, 6, 7, 8, 9, 10]),
     ("plan faults", &[0, 2, 3, 4, 7, 8, 9]),
     ("evaluation", &[0, 2, 3, 4, 7, 8, 9, 11, 12]),
+    ("drawn reading", &[0, 1, 2, 3, 4, 5, 6, 7, 8, 9, 10, 15]),
+    ("drawn outputs", &[0]),
     ("writing P", &[0, 2, 11, 12, 13]),
     ("programming P", &[0, 2, 9, 11, 12]),
     ("delivery by P", &[0]),
@@ -72,7 +77,7 @@ const CALLS: [(&str, &[usize]); 15] = [
     ("plans' runs", &[0]),
 ];
 
-/// What ends a comparison: a case with both answers, or a number that was never given.
+/// What ends a comparison: a case with both answers, or what it never met.
 #[derive(Debug)]
 pub struct Difference(String);
 
@@ -92,6 +97,7 @@ impl Comparison {
         let mut random = Random::new(seed);
         files::compare(&mut comparison, &mut random)?;
         memory::compare(&mut comparison, &mut random)?;
+        drawn::compare(&mut comparison, &mut random)?;
         blocks::compare(&mut comparison, &mut random)?;
         fabric::compare(&mut comparison, &mut random)?;
         program::compare(&mut comparison, &mut random)?;

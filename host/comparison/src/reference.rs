@@ -1,5 +1,7 @@
-//! The second implementation, in plain safe Rust from document 01 alone: one module a subject.
+//! The second implementation, in plain safe Rust from documents 01 and 02 alone: one module a
+//! subject.
 
+pub mod drawn;
 pub mod plan;
 
 pub mod elements;

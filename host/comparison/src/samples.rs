@@ -1,7 +1,9 @@
-//! Random accepted plans and their files, calls of the block library, and fabric tables, from which
-//! the comparisons make their cases.
+//! Random accepted plans and their files, drawings, calls of the block library, and fabric tables,
+//! from which the comparisons make their cases.
 
 pub mod blocks;
+pub mod damage;
+pub mod drawings;
 pub mod fabric;
 pub mod permutation;
 pub mod plans;
@@ -119,8 +121,7 @@ impl Standing {
 /// The file of a random accepted plan, with any fields standing.
 pub fn accepted_file(random: &mut Random, counts: Counts) -> PlanFile {
     let plan = accepted_plan(random, counts);
-    let standing = random.choose(&Standing::ALL);
-    PlanFile::new(random, &plan, standing)
+    PlanFile::random(random, &plan)
 }
 
 /// A field of a plan file, with what decides whether a value of it is good.
@@ -128,7 +129,7 @@ pub fn accepted_file(random: &mut Random, counts: Counts) -> PlanFile {
 pub enum Field {
     Count { most: u16 },
     Map,
-    Operand { own: u16 },
+    Operand { own: u16, last: u16 },
     Table,
     Output { first: u16, last: u16 },
 }
@@ -139,7 +140,9 @@ impl Field {
         match self {
             Field::Count { most } => vec![0, 1, most, most + 1, 256, u16::MAX],
             Field::Map => vec![0, 7, 8, 16, 128, 255],
-            Field::Operand { own } => vec![0, 1, own - 1, own, own + 1, 256, u16::MAX],
+            Field::Operand { own, last } => {
+                vec![0, 1, own - 1, own, own + 1, last, last + 1, 256, u16::MAX]
+            }
             Field::Table => vec![0, 15, 16, 128, 255],
             Field::Output { first, last } => {
                 vec![0, first - 1, first, last, last + 1, last + 256, u16::MAX]
@@ -161,8 +164,8 @@ pub struct PlanFile {
 }
 
 impl PlanFile {
-    /// The file of an accepted plan: every field that differs from its default stands, and of
-    /// the others those that `standing` adds.
+    /// The file of an accepted plan, or of a drawing: every field that differs from its default
+    /// stands, and of the others those that `standing` adds.
     pub fn new(random: &mut Random, plan: &Plan, standing: Standing) -> PlanFile {
         let Counts(most_inputs, most_gates, most_outputs) = Counts::MOST;
         let (u, k, v) = (plan.inputs, plan.gate_count, plan.output_count);
@@ -171,7 +174,7 @@ impl PlanFile {
         file.put(Field::Count { most: most_gates }, k);
         file.put(Field::Count { most: most_outputs }, v);
         for (own, gate) in (u + 1..=u + k).zip(&plan.gates) {
-            file.put_gate(random, gate, own, standing);
+            file.put_gate(random, gate, own, u + k, standing);
         }
         for &output in &plan.outputs[..usize::from(v)] {
             let (first, last) = (u + 1, u + k);
@@ -180,18 +183,28 @@ impl PlanFile {
         file
     }
 
-    /// The file with one field set to another value.
-    pub fn with_field(&self, (at, field): (usize, Field), value: u16) -> PlanFile {
-        let mut file = self.clone();
-        let [low, high] = value.to_le_bytes();
-        file.bytes[at] = low;
-        if field.is_number() {
-            file.bytes[at + 1] = high;
-        }
-        file
+    /// The same with any fields standing.
+    pub fn random(random: &mut Random, plan: &Plan) -> PlanFile {
+        let standing = random.choose(&Standing::ALL);
+        PlanFile::new(random, plan, standing)
     }
 
-    fn put_gate(&mut self, random: &mut Random, gate: &Gate, own: u16, standing: Standing) {
+    /// Where the map byte of gate g, from 1, stands.
+    pub fn map_offset(&self, g: u16) -> usize {
+        let maps = self.fields.iter();
+        let mut maps = maps.filter(|(_, field)| matches!(field, Field::Map));
+        maps.nth(usize::from(g) - 1).expect("the gate is there").0
+    }
+
+    /// The gate whose wire is `own`, in a plan whose last wire is `last`.
+    fn put_gate(
+        &mut self,
+        random: &mut Random,
+        gate: &Gate,
+        own: u16,
+        last: u16,
+        standing: Standing,
+    ) {
         let mut stands = |differs: bool| differs || standing.decide(random);
         let first = stands(gate.first != own - 1);
         let second = stands(gate.second != gate.first);
@@ -199,10 +212,10 @@ impl PlanFile {
         let map = u16::from(first) | u16::from(second) << 1 | u16::from(table) << 2;
         self.put(Field::Map, map);
         if first {
-            self.put(Field::Operand { own }, gate.first);
+            self.put(Field::Operand { own, last }, gate.first);
         }
         if second {
-            self.put(Field::Operand { own }, gate.second);
+            self.put(Field::Operand { own, last }, gate.second);
         }
         if table {
             self.put(Field::Table, gate.table);

@@ -20,6 +20,12 @@ pub fn show_read(read: &raw::Read) -> String {
     format!("{number} at {}, {}", read.at, show_plan(&read.plan))
 }
 
+pub fn show_drawn(read: &raw::Drawn) -> String {
+    let number = show_number(read.number);
+    let (plan, drawn) = (show_plan(&read.plan), up_to_last(&read.drawn, &0));
+    format!("{number} at {}, {plan} drawn {drawn:?}", read.at)
+}
+
 /// All places of a plan up to the last that is not zero: counts in decimal, the rest in hex.
 pub fn show_plan(plan: &Plan) -> String {
     let (u, k, v) = (plan.inputs, plan.gate_count, plan.output_count);
@@ -52,6 +58,15 @@ pub fn first_difference(expected: &Plan, found: &Plan) -> String {
         return format!("the plan's outputs[{j}]");
     }
     "the number or the offset".to_string()
+}
+
+/// The same of two drawn reads: their plans, or else their drawn numbers.
+pub fn first_drawn_difference(expected: &raw::Drawn, found: &raw::Drawn) -> String {
+    let mut places = 0..Plan::MAX_GATES;
+    match places.find(|&p| expected.drawn[p] != found.drawn[p]) {
+        Some(p) if expected.plan == found.plan => format!("drawn[{p}]"),
+        _ => first_difference(&expected.plan, &found.plan),
+    }
 }
 
 pub fn show_writing(case: &Writing) -> String {

@@ -7,8 +7,9 @@ use super::show::show_number;
 use super::{Call, Comparison, CALLS, NUMBERS};
 
 /// The calls that share a table.
-const SUBJECTS: [&[Call]; 5] = [
+const SUBJECTS: [&[Call]; 6] = [
     &[Call::Reading, Call::Faults, Call::Evaluation],
+    &[Call::DrawnReading, Call::DrawnOutputs],
     &[
         Call::PermutationWriting,
         Call::PermutationProgramming,
@@ -29,16 +30,16 @@ impl fmt::Display for Comparison {
             self.write_tables(out, calls)?;
         }
         let total: u64 = self.seen.iter().flatten().sum();
-        let files = self.cases(Call::Reading);
+        let (files, drawn) = (self.cases(Call::Reading), self.cases(Call::DrawnReading));
         let permutations = self.cases(Call::PermutationDelivery);
         let selections = self.cases(Call::SelectionDelivery);
         let (fabrics, runs) = (self.cases(Call::Fabric), self.cases(Call::Run));
         let plans = self.cases(Call::PlanInFabric);
         writeln!(
             out,
-            "compared {total} cases, {files} of them files, {permutations} permutations, \
-             {selections} selections, {fabrics} fabrics, {runs} runs, {plans} plans in their \
-             fabrics: no difference"
+            "compared {total} cases, {files} of them files, {drawn} drawn files, {permutations} \
+             permutations, {selections} selections, {fabrics} fabrics, {runs} runs, {plans} plans \
+             in their fabrics: no difference"
         )
     }
 }
@@ -60,7 +61,7 @@ impl Comparison {
         writeln!(out)
     }
 
-    fn cases(&self, call: Call) -> u64 {
+    pub(super) fn cases(&self, call: Call) -> u64 {
         self.seen[call as usize].iter().sum()
     }
 }

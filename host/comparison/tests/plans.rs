@@ -1,49 +1,67 @@
-//! The example plans of `plans/`: the library reads each file, evaluates the plan and runs its
-//! fabric, and both give what the plan's rule says. What `plans/README.md` and the worked example
-//! of `README.md` show is what the library gives.
+//! The example plans of `plans/`: the library reads each file, plain or drawn, evaluates the plan
+//! and runs its fabric, and both give what the plan's rule says. What `plans/README.md` and the
+//! worked example of `README.md` show is what the library gives.
 
 use std::fs;
 use std::path::{Path, PathBuf};
 
 use comparison::random::Random;
 use comparison::reference::twintest::text;
-use mukdalis::{count_fabric, evaluate, program_plan, read, run_fabric, write_fabric, Plan};
+use mukdalis::{
+    count_fabric, evaluate, program_plan, read, read_drawn, run_fabric, write_fabric, Fault, Plan,
+};
 
-/// An example plan: its file, its counts u, k, v, and its rule, the outputs on a row of inputs.
+/// An example plan: its file, its counts u, k, v, and its rule, the outputs on a row of inputs. A
+/// drawing, which the plain reading refuses, has the drawn number at each place.
 struct Example {
     file: &'static str,
     counts: [u32; 3],
+    drawn: Option<&'static [u16]>,
     rule: fn(&[bool]) -> Vec<bool>,
 }
 
 /// In the order of their names.
-const EXAMPLES: [Example; 5] = [
+const EXAMPLES: [Example; 6] = [
     Example {
         file: "count.plan",
         counts: [56, 256, 6],
+        drawn: None,
         rule: |inputs| {
             let closed = closed(inputs);
             (0..6).map(|bit| closed >> bit & 1 == 1).collect()
         },
     },
     Example {
+        file: "drawn.plan",
+        counts: [4, 4, 2],
+        drawn: Some(&[2, 3, 1, 4]),
+        rule: |inputs| {
+            let main = inputs[0] && inputs[1] && !inputs[2];
+            vec![main, main || inputs[3]]
+        },
+    },
+    Example {
         file: "example.plan",
         counts: [2, 2, 1],
+        drawn: None,
         rule: |inputs| vec![inputs[0] && !inputs[1]],
     },
     Example {
         file: "majority.plan",
         counts: [3, 4, 1],
+        drawn: None,
         rule: |inputs| vec![closed(inputs) >= 2],
     },
     Example {
         file: "not.plan",
         counts: [1, 1, 1],
+        drawn: None,
         rule: |inputs| vec![!inputs[0]],
     },
     Example {
         file: "shed.plan",
         counts: [6, 17, 4],
+        drawn: None,
         rule: |inputs| {
             let n = usize::from(inputs[4]) + 2 * usize::from(inputs[5]);
             let mut strings = inputs[..4].to_vec();
@@ -84,9 +102,17 @@ struct Loaded {
     wires: usize,
 }
 
+/// The plan of an example, by the reading that it is for.
+fn plan_of(example: &Example) -> Plan {
+    let file = file_of(example.file);
+    match example.drawn {
+        Some(_) => read_drawn(&file).expect("the gates have an order").plan,
+        None => read(&file).expect("the file is a plan"),
+    }
+}
+
 impl Loaded {
-    fn new(file: &[u8]) -> Loaded {
-        let plan = read(file).expect("the file is a plan");
+    fn new(plan: Plan) -> Loaded {
         let counts = plan.counts();
         let [u, k, v] = counts;
         let size = count_fabric(u, k, v).expect("the counts are in range");
@@ -149,13 +175,34 @@ fn every_plan_has_a_rule() {
 fn plans_and_their_fabrics_follow_the_rules() {
     let mut random = Random::new(SEED);
     for example in EXAMPLES {
-        let loaded = Loaded::new(&file_of(example.file));
+        let loaded = Loaded::new(plan_of(&example));
         assert_eq!(loaded.counts, example.counts, "{}", example.file);
         for row in rows(&mut random, loaded.counts[0]) {
             let inputs: Vec<bool> = row.iter().map(|&bit| bit == 1).collect();
             let outputs: Vec<u8> = (example.rule)(&inputs).into_iter().map(u8::from).collect();
             assert_eq!(loaded.evaluated(&row), outputs, "{} {row:?}", example.file);
             assert_eq!(loaded.run(&row).1, outputs, "{} {row:?}", example.file);
+        }
+    }
+}
+
+/// A drawing has its drawn numbers and is no plan; a plan is drawn in its own order.
+#[test]
+fn drawings_are_read_in_their_order() {
+    for example in EXAMPLES {
+        let file = file_of(example.file);
+        let drawn = read_drawn(&file).expect(example.file);
+        match example.drawn {
+            Some(numbers) => {
+                assert_eq!(drawn.drawn_numbers(), numbers);
+                let refusal = read(&file).expect_err("a gate stands before what feeds it");
+                assert_eq!(refusal.fault, Fault::Operand);
+            }
+            None => {
+                let in_order: Vec<u16> = (1..=drawn.plan.gate_count).collect();
+                assert_eq!(drawn.drawn_numbers(), in_order);
+                assert_eq!(Ok(drawn.plan), read(&file));
+            }
         }
     }
 }
@@ -176,6 +223,10 @@ fn the_list_of_plans_shows_their_counts_and_bytes() {
         let lines: Vec<&str> = list.lines().filter(|l| l.starts_with(&start)).collect();
         assert_eq!(lines.len(), 1, "{start}");
         assert!(lines[0].ends_with(&format!(" | {bytes} |")), "{bytes}");
+        if let Some(drawn) = example.drawn {
+            let drawn = format!("`drawn {}`", numbers(drawn));
+            assert!(list.contains(&drawn), "{drawn}");
+        }
     }
 }
 
@@ -210,7 +261,7 @@ fn bytes_first(line: &str) -> Option<&str> {
 #[test]
 fn the_worked_example_shows_the_fabric() {
     let page = text_of("README.md");
-    let not = Loaded::new(&file_of("not.plan"));
+    let not = Loaded::new(read(&file_of("not.plan")).expect("the file is a plan"));
     let (header, rest) = not.table.split_at(3);
     let (rows, outputs) = rest.split_at(rest.len() - 1);
     let parts = [header].into_iter().chain(rows.chunks(3)).chain([outputs]);

@@ -1,4 +1,4 @@
-//! Document 01's refusal table: its words and numbers, and a refused read with its place.
+//! The refusal table of documents 01 and 02: its words and numbers, and a refused read with its place.
 
 use std::error::Error;
 use std::fmt;
@@ -28,7 +28,7 @@ pub enum Fault {
     Cut = 5,
     /// A map byte is above 7.
     Map = 6,
-    /// An operand is wire 0, or not below the gate's own.
+    /// An operand is wire 0, or not below the gate's own; in drawn reading wire 0, or above u + k.
     Operand = 7,
     /// A table is above 15.
     Table = 8,
@@ -47,11 +47,13 @@ pub enum Fault {
     Fabric = 13,
     /// A program is not of its exact length, or a spare bit is set.
     Program = 14,
+    /// Some drawn gates each draw from one of the same set.
+    Ring = 15,
 }
 
 impl Fault {
     /// Every word, in the order of the numbers.
-    pub const TABLE: [(Fault, &'static str); 14] = [
+    pub const TABLE: [(Fault, &'static str); 15] = [
         (Fault::Stub, "stub"),
         (Fault::Inputs, "inputs"),
         (Fault::Gates, "gates"),
@@ -66,6 +68,7 @@ impl Fault {
         (Fault::Contact, "contact"),
         (Fault::Fabric, "fabric"),
         (Fault::Program, "program"),
+        (Fault::Ring, "ring"),
     ];
 
     /// The fault's number in the table.
@@ -144,6 +147,6 @@ mod tests {
             assert_eq!(fault.word(), word);
         }
         assert_eq!(Fault::from_number(0), None);
-        assert_eq!(Fault::from_number(15), None);
+        assert_eq!(Fault::from_number(16), None);
     }
 }

@@ -34,7 +34,7 @@
 //! takes it from `target/staticlib` of the repository, or from the folder that MUKDALIS_LIB_DIR
 //! names.
 //!
-//! [`raw`] has the records of the header and the two calls that hand one back.
+//! [`raw`] has the records of the header and the calls that hand one back.
 
 mod blocks;
 mod fabric;
@@ -47,6 +47,6 @@ pub use blocks::{
 };
 pub use fabric::{count_fabric, program_plan, run_fabric, write_fabric, Size};
 pub use fault::{Fault, Refusal};
-pub use plan::{check, evaluate, read, Gate, Plan};
+pub use plan::{check, evaluate, read, read_drawn, DrawnPlan, Gate, Plan};
 
 pub mod raw;

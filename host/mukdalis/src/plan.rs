@@ -46,6 +46,22 @@ pub struct Plan {
     pub outputs: [u16; Plan::MAX_OUTPUTS],
 }
 
+/// A plan that was read from a drawing.
+#[derive(Clone, Copy, Debug, PartialEq, Eq)]
+pub struct DrawnPlan {
+    /// The plan: the drawn gates, each behind those that feed it.
+    pub plan: Plan,
+    /// The drawn number, from 1, of the gate at each place; 0 in unused places.
+    pub drawn: [u16; Plan::MAX_GATES],
+}
+
+impl DrawnPlan {
+    /// The drawn numbers of the plan's gates, in the order of their places.
+    pub fn drawn_numbers(&self) -> &[u16] {
+        &self.drawn[..usize::from(self.plan.gate_count)]
+    }
+}
+
 impl Gate {
     /// An unused place.
     pub const ZERO: Gate = Gate {
@@ -116,6 +132,50 @@ pub fn read(file: &[u8]) -> Result<Plan, Refusal> {
     let raw::Read { number, at, plan } = raw::plan_read(file);
     match answer(number) {
         Ok(()) => Ok(plan),
+        Err(fault) => Err(Refusal { fault, at }),
+    }
+}
+
+/// Reads a plan file whose gates stand in the order in which they were drawn: an operand may be any
+/// wire from 1 to u + k, so that a gate may stand before what feeds it.
+///
+/// The bytes are those of [`read`]; absent fields mean what they mean there, in drawn numbers. The
+/// plan is made by taking again and again the lowest-numbered gate whose operands are inputs or
+/// gates already taken; operands and outputs are renumbered to match. It gives what the drawing
+/// gives. A file that [`read`] reads gives the same plan, with the drawn numbers 1 to k.
+///
+/// # Errors
+///
+/// Those of [`read`] in its order, but operand if a wire is 0 or above u + k; then ring exactly if
+/// gates are left over, at the map byte of the lowest of them. An operand that a table ignores
+/// counts.
+///
+/// ```
+/// use mukdalis::{read, read_drawn, Fault, Refusal};
+///
+/// // Wires 1 and 2 are inputs. Gate 1 is drawn from gate 3, wire 5; gates 2 to 4 from inputs.
+/// let mut file = [2, 0, 4, 0, 1, 0, 1, 5, 0, 1, 1, 0, 1, 2, 0, 3, 1, 0, 2, 0, 3, 0];
+/// let drawn = read_drawn(&file)?;
+/// assert_eq!(drawn.drawn_numbers(), [2, 3, 1, 4]);
+///
+/// // Gate 1 stands at place 3, behind gate 3 at place 2, and the output names it there.
+/// assert_eq!((drawn.plan.gates[2].first, drawn.plan.outputs[0]), (4, 5));
+/// assert_eq!(read(&file), Err(Refusal { fault: Fault::Operand, at: 7 }));
+///
+/// // Gate 3 drawn from gate 1: both are left over, and gate 1's map byte is at 6.
+/// file[13] = 3;
+/// assert_eq!(read_drawn(&file), Err(Refusal { fault: Fault::Ring, at: 6 }));
+/// # Ok::<(), Refusal>(())
+/// ```
+pub fn read_drawn(file: &[u8]) -> Result<DrawnPlan, Refusal> {
+    let raw::Drawn {
+        number,
+        at,
+        plan,
+        drawn,
+    } = raw::plan_read_drawn(file);
+    match answer(number) {
+        Ok(()) => Ok(DrawnPlan { plan, drawn }),
         Err(fault) => Err(Refusal { fault, at }),
     }
 }

@@ -14,6 +14,17 @@ pub struct Read {
     pub plan: Plan,
 }
 
+/// `struct mkd_drawn`: number and offset 0 with the plan and the drawn number at each place, or a
+/// refusal with both all zero.
+#[repr(C)]
+#[derive(Clone, Copy, Debug, PartialEq, Eq)]
+pub struct Drawn {
+    pub number: u32,
+    pub at: u64,
+    pub plan: Plan,
+    pub drawn: [u16; Plan::MAX_GATES],
+}
+
 /// `struct mkd_counts`: number 0 with a block's or a fabric's counts, or a refusal with counts 0.
 #[repr(C)]
 #[derive(Clone, Copy, Debug, PartialEq, Eq)]
@@ -26,6 +37,7 @@ pub struct Counts {
 
 extern "C" {
     fn mkd_plan_read(file: *const u8, len: usize) -> Read;
+    fn mkd_plan_read_drawn(file: *const u8, len: usize) -> Drawn;
     pub(crate) fn mkd_plan_fault(plan: Plan) -> u32;
     pub(crate) fn mkd_plan_evaluate(
         plan: Plan,
@@ -93,6 +105,12 @@ extern "C" {
 pub fn plan_read(file: &[u8]) -> Read {
     // SAFETY: the pointer and length are a slice's; the call only reads it and keeps no pointer.
     unsafe { mkd_plan_read(file.as_ptr(), file.len()) }
+}
+
+/// `mkd_plan_read_drawn` of a whole file.
+pub fn plan_read_drawn(file: &[u8]) -> Drawn {
+    // SAFETY: the pointer and length are a slice's; the call only reads it and keeps no pointer.
+    unsafe { mkd_plan_read_drawn(file.as_ptr(), file.len()) }
 }
 
 /// `mkd_permutation_count` of a size.

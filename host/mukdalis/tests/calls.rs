@@ -25,6 +25,52 @@ fn refused_plans_have_their_words() {
     assert_eq!(check(&Plan::ZERO), Err(Fault::Inputs));
 }
 
+/// Four gates: 1 draws from 3 and is the output, 2 is input 1, 3 draws from 2, 4 from the one before.
+const DRAWN: [u8; 18] = [1, 0, 4, 0, 1, 0, 1, 4, 0, 1, 1, 0, 1, 3, 0, 0, 2, 0];
+
+#[test]
+fn a_drawn_plan_is_read_with_its_drawn_numbers() {
+    let DrawnPlan { plan, drawn } = read_drawn(&DRAWN).expect("the gates have an order");
+    assert_eq!((check(&plan), plan.counts()), (Ok(()), [1, 4, 1]));
+    assert_eq!(drawn[..5], [2, 3, 1, 4, 0]);
+    let operands = plan.gates.map(|gate| (gate.first, gate.second));
+    assert_eq!(operands[..5], [(1, 1), (2, 2), (3, 3), (3, 3), (0, 0)]);
+    assert_eq!(plan.outputs[..2], [4, 0]);
+}
+
+#[test]
+fn a_plan_is_drawn_in_its_own_order() {
+    let drawn = read_drawn(&NOT).expect("the file is a plan");
+    assert_eq!(Ok(drawn.plan), read(&NOT));
+    assert_eq!(drawn.drawn_numbers(), [1]);
+}
+
+#[test]
+fn refused_drawn_plans_have_their_words() {
+    let refused = |at: usize, byte: u8, tail: &[u8]| {
+        let mut file = [&DRAWN[..], tail].concat();
+        file[at] = byte;
+        let Refusal { fault, at } = read_drawn(&file).expect_err("the file is refused");
+        (fault, at)
+    };
+    assert_eq!(refused(7, 0, &[]), (Fault::Operand, 7));
+    assert_eq!(refused(7, 6, &[]), (Fault::Operand, 7));
+    // Gate 1 fed by itself.
+    assert_eq!(refused(7, 2, &[]), (Fault::Ring, 6));
+    assert_eq!(refused(7, 2, &[0]), (Fault::Tail, 18));
+    // Gate 3 fed by itself: gate 1 only draws from it.
+    assert_eq!(refused(13, 4, &[]), (Fault::Ring, 6));
+    // Gates 2, 4 and 3 in a ring: gate 1 only draws from it.
+    assert_eq!(refused(10, 5, &[]), (Fault::Ring, 6));
+    assert_eq!(
+        read_drawn(&DRAWN[..16]),
+        Err(Refusal {
+            fault: Fault::Cut,
+            at: 16
+        })
+    );
+}
+
 /// P(4) on wires 1 to 4.
 #[test]
 fn a_permutation_is_written() {

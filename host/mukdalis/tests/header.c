@@ -32,6 +32,34 @@ static int plans_fail(void)
     return 0;
 }
 
+/* Gate 1 drawn from gate 2, and gate 2 from input 1; then gate 2 from gate 1. */
+static int drawn_plans_fail(void)
+{
+    uint8_t file[] = {1, 0, 2, 0, 1, 0, 1, 3, 0, 5, 1, 0, 1, 2, 0};
+    const struct mkd_read plain = mkd_plan_read(file, sizeof file);
+    const struct mkd_drawn done = mkd_plan_read_drawn(file, sizeof file);
+    struct mkd_drawn refused;
+    size_t i;
+
+    if (plain.number != MKD_OPERAND || plain.at != 7)
+        return fails("a drawn plan in plain reading");
+    if (done.number != 0 || done.at != 0 || mkd_plan_fault(done.plan) != 0)
+        return fails("a drawn plan");
+    if (done.drawn[0] != 2 || done.drawn[1] != 1 || done.drawn[2] != 0)
+        return fails("the drawn numbers");
+    if (done.plan.gates[0].first != 1 || done.plan.gates[0].table != 1 ||
+        done.plan.gates[1].first != 2 || done.plan.gates[1].table != 8 || done.plan.outputs[0] != 3)
+        return fails("the plan of a drawing");
+    file[10] = 2;
+    refused = mkd_plan_read_drawn(file, sizeof file);
+    if (refused.number != MKD_RING || refused.at != 6 || refused.plan.inputs != 0)
+        return fails("a ring");
+    for (i = 0; i < MKD_MAX_GATES; i++)
+        if (refused.drawn[i] != 0)
+            return fails("the drawn numbers of a ring");
+    return 0;
+}
+
 static int permutations_fail(void)
 {
     const uint16_t pair[2] = {2, 1};
@@ -170,6 +198,8 @@ static void print_layout(void)
            offsetof(struct mkd_plan, outputs));
     printf(" %zu %zu %zu", sizeof(struct mkd_read), offsetof(struct mkd_read, at),
            offsetof(struct mkd_read, plan));
+    printf(" %zu %zu %zu %zu", sizeof(struct mkd_drawn), offsetof(struct mkd_drawn, at),
+           offsetof(struct mkd_drawn, plan), offsetof(struct mkd_drawn, drawn));
     printf(" %zu %zu %zu %zu\n", sizeof(struct mkd_counts), offsetof(struct mkd_counts, rows),
            offsetof(struct mkd_counts, wires), offsetof(struct mkd_counts, bits));
 }
@@ -180,13 +210,14 @@ static void print_faults(void)
     printf("stub %d inputs %d gates %d outputs %d", MKD_STUB, MKD_INPUTS, MKD_GATES, MKD_OUTPUTS);
     printf(" cut %d map %d operand %d table %d", MKD_CUT, MKD_MAP, MKD_OPERAND, MKD_TABLE);
     printf(" source %d tail %d short %d", MKD_SOURCE, MKD_TAIL, MKD_SHORT);
-    printf(" contact %d fabric %d program %d\n", MKD_CONTACT, MKD_FABRIC, MKD_PROGRAM);
+    printf(" contact %d fabric %d program %d", MKD_CONTACT, MKD_FABRIC, MKD_PROGRAM);
+    printf(" ring %d\n", MKD_RING);
 }
 
 int main(void)
 {
-    if (plans_fail() || counts_fail() || permutations_fail() || selections_fail() ||
-        fabrics_fail())
+    if (plans_fail() || drawn_plans_fail() || counts_fail() || permutations_fail() ||
+        selections_fail() || fabrics_fail())
         return 1;
     print_layout();
     print_faults();

@@ -6,7 +6,7 @@ use std::mem::{offset_of, size_of};
 use std::path::{Path, PathBuf};
 use std::process::Command;
 
-use mukdalis::raw::{Counts, Read};
+use mukdalis::raw::{Counts, Drawn, Read};
 use mukdalis::{Fault, Gate, Plan, Size, MAX_SIZE};
 
 const C11: &[&str] = &["cc", "-std=c11"];
@@ -63,6 +63,10 @@ fn records_and_refusals_are_the_packages() {
         size_of::<Read>(),
         offset_of!(Read, at),
         offset_of!(Read, plan),
+        size_of::<Drawn>(),
+        offset_of!(Drawn, at),
+        offset_of!(Drawn, plan),
+        offset_of!(Drawn, drawn),
         size_of::<Counts>(),
         offset_of!(Counts, rows),
         offset_of!(Counts, wires),

@@ -24,13 +24,14 @@ static int fails(const char *what)
     return 1;
 }
 
-/* The longest plan: every field of every gate stands. */
+/* The longest plan, plain and drawn: every field of every gate stands. */
 static int longest_file_fails(void)
 {
     static uint8_t file[MKD_MAX_FILE_LEN + 1];
     const uint8_t counts[6] = {MKD_MAX_INPUTS, 0, 0, MKD_MAX_GATES / 256, MKD_MAX_OUTPUTS, 0};
     const uint8_t gate[6] = {7, 1, 0, 1, 0, 8};
     struct mkd_read read;
+    struct mkd_drawn drawn;
     size_t i, len = 0;
 
     for (i = 0; i < 6; i++)
@@ -46,6 +47,12 @@ static int longest_file_fails(void)
     read = mkd_plan_read(file, len + 1);
     if (read.number != MKD_TAIL || read.at != len)
         return fails("a byte more than the longest file");
+    drawn = mkd_plan_read_drawn(file, len);
+    if (drawn.number != 0 || drawn.drawn[MKD_MAX_GATES - 1] != MKD_MAX_GATES)
+        return fails("the longest drawn file");
+    drawn = mkd_plan_read_drawn(file, len + 1);
+    if (drawn.number != MKD_TAIL || drawn.at != len)
+        return fails("a byte more than the longest drawn file");
     return 0;
 }
 

@@ -1,10 +1,12 @@
 //! Times the library's calls beside the reference, which is plain Rust, and prints one table.
 //!
-//! Usage: `cargo run --release --bin benchmark`; it takes about 20 seconds. No time is judged. It
+//! Usage: `cargo run --release --bin benchmark`; it takes about 25 seconds. No time is judged. It
 //! stops, with exit status 101, if the two sides differ on a case that is timed.
 //!
 //! A case is a call with random accepted plans of the same counts (u,k,v), one plan after another,
-//! or, for P(N), with random permutations. Both sides make the same checks and write to the same lent
+//! or, for P(N), with random permutations. Drawn reading has the files of the largest plans, whose
+//! gates stand in their order, and drawings of the same counts in which gate g draws from gate g + 1,
+//! so that every search goes through all gates that are left. Both sides make the same checks and write to the same lent
 //! buffers. The library is called by its safe wrappers. Its exports take a plan's record by value, and
 //! copying it is part of their time; the reference borrows it. Reading hands the record back by value
 //! on both sides. The reference has its work lists on the heap, a few for each block.
@@ -16,6 +18,9 @@
 //! - Rattle stack, Rust stack: bytes of stack that a call uses below its caller's frame, measured;
 //!   a record that goes by value is among them, heap memory is not; 256 is that or less;
 //! - growth: the time of P(N) over that of P(N / 2), and what N log N gives for it.
+//!
+//! A line below has the time of drawn reading over that of the plain reading of the same files, for
+//! either side, measured by turns as the ratio is.
 
 use std::hint::black_box;
 use std::time::{Duration, Instant};
@@ -24,13 +29,14 @@ use std::{mem, ptr, thread};
 use comparison::random::Random;
 use comparison::reference;
 use comparison::samples::blocks::Block;
+use comparison::samples::drawings::backwards;
 use comparison::samples::fabric::wires;
 use comparison::samples::permutation::random_permutation;
 use comparison::samples::plans::{shaped_plan, PlanShape};
 use comparison::samples::{Counts, PlanFile, Standing};
 use mukdalis::{
     count_fabric, evaluate, program_permutation, program_plan, raw, run_fabric, write_fabric,
-    Fault, Plan,
+    DrawnPlan, Fault, Plan,
 };
 
 const SEED: u64 = 0x6265_6e63_686d_6172;
@@ -64,6 +70,11 @@ fn main() {
             println!("{line}");
         }
     }
+    let drawings = Drawings::new(&mut random, &plans[COUNTS.len() - 1]);
+    for call in Call::OF_DRAWINGS {
+        let line = line(call, &drawings.size, drawings.measure(call));
+        println!("{line}");
+    }
     let mut half: Option<Measured> = None;
     for n in SIZES {
         let measured = measure_permutation(&mut random, n);
@@ -73,6 +84,7 @@ fn main() {
             None => println!("{line}"),
         }
     }
+    drawings.print_beside_plain();
     print_arrays();
 }
 
@@ -84,6 +96,8 @@ enum Call {
     WriteFabric,
     ProgramPlan,
     Run,
+    ReadInOrder,
+    ReadBackwards,
     ProgramP,
 }
 
@@ -92,6 +106,10 @@ type Arrays = (usize, &'static str);
 
 /// A bit for each wire.
 const EVALUATION: Arrays = (320, "crates/plan_evaluation/src/evaluation.rt");
+/// The drawn gates' operands, and the number of each drawn wire in the plan.
+const TAKING: Arrays = (1_666, "crates/plan_drawn/src/reading.rt");
+/// The renumbered outputs.
+const RENUMBERED: Arrays = (128, "crates/plan_drawn/src/ordering.rt");
 /// Wires: the inputs, the pins, the gates.
 const FABRIC: Arrays = (1_664, "crates/fabric_rows/src/writing.rt");
 /// Wires: the outputs.
@@ -114,6 +132,14 @@ impl Call {
         Call::Run,
     ];
 
+    const OF_DRAWINGS: [Call; 2] = [Call::ReadInOrder, Call::ReadBackwards];
+
+    /// All calls, in the order of the table.
+    fn all() -> impl Iterator<Item = Call> {
+        let of_plans = Call::OF_PLANS.into_iter();
+        of_plans.chain(Call::OF_DRAWINGS).chain([Call::ProgramP])
+    }
+
     fn name(self) -> &'static str {
         match self {
             Call::Read => "reading",
@@ -121,15 +147,19 @@ impl Call {
             Call::WriteFabric => "fabric table",
             Call::ProgramPlan => "program bits",
             Call::Run => "run",
+            Call::ReadInOrder => "drawn in order",
+            Call::ReadBackwards => "drawn backwards",
             Call::ProgramP => "P's program",
         }
     }
 
-    /// The arrays of the call and of those under it.
+    /// The arrays of the call and of those under it. A drawing in order is read plainly and makes
+    /// none.
     fn arrays(self) -> &'static [Arrays] {
         match self {
-            Call::Read | Call::Run => &[],
+            Call::Read | Call::Run | Call::ReadInOrder => &[],
             Call::Evaluate => &[EVALUATION],
+            Call::ReadBackwards => &[TAKING, RENUMBERED],
             Call::WriteFabric => &[FABRIC, OUTPUTS, SELECTION],
             Call::ProgramPlan => &[GATES, POSITIONS, MAPPING],
             Call::ProgramP => &[MAPPING],
@@ -230,8 +260,73 @@ impl Plans {
                 },
                 are_done,
             ),
-            Call::ProgramP => unreachable!("no call of plans"),
+            Call::ReadInOrder | Call::ReadBackwards | Call::ProgramP => {
+                unreachable!("no call of plans")
+            }
         }
+    }
+}
+
+/// Files of drawings of the same counts: those of plans, and others drawn backwards.
+struct Drawings {
+    size: String,
+    in_order: Vec<Vec<u8>>,
+    backwards: Vec<Vec<u8>>,
+}
+
+impl Drawings {
+    fn new(random: &mut Random, plans: &Plans) -> Drawings {
+        let [u, k, v] = plans.counts.map(|count| count as u16);
+        let backwards = (0..SAMPLES).map(|_| {
+            let drawing = backwards(random, Counts(u, k, v));
+            PlanFile::new(random, &drawing, Standing::None).bytes
+        });
+        Drawings {
+            size: plans.size(),
+            in_order: plans.samples.iter().map(|s| s.file.clone()).collect(),
+            backwards: backwards.collect(),
+        }
+    }
+
+    fn measure(&self, call: Call) -> Measured {
+        let files = match call {
+            Call::ReadBackwards => &self.backwards,
+            _ => &self.in_order,
+        };
+        measure(
+            files,
+            (),
+            |file, ()| raw::plan_read_drawn(file),
+            |file, ()| reference::drawn::read(file),
+            |raw::Drawn {
+                 number,
+                 plan,
+                 drawn,
+                 ..
+             },
+             answer| { number == 0 && answer == Ok(DrawnPlan { plan, drawn }) },
+        )
+    }
+
+    /// Drawn reading over plain reading of the files in order, for the library and the reference.
+    fn print_beside_plain(&self) {
+        let files = &self.in_order;
+        let rattle = time(
+            files,
+            &mut (),
+            &|file: &Vec<u8>, (): &mut ()| raw::plan_read_drawn(file),
+            &|file: &Vec<u8>, (): &mut ()| raw::plan_read(file),
+        );
+        let rust = time(
+            files,
+            &mut (),
+            &|file: &Vec<u8>, (): &mut ()| reference::drawn::read(file),
+            &|file: &Vec<u8>, (): &mut ()| reference::plan::read(file),
+        );
+        println!(
+            "\ndrawn in order over plain reading of the same files, {}: Rattle {:.2}, Rust {:.2}",
+            self.size, rattle.ratio, rust.ratio
+        );
     }
 }
 
@@ -402,11 +497,11 @@ fn used_below(top: usize) -> usize {
 
 fn print_head() {
     println!(
-        "{:26} {:>9} {:>9} {:>6} {:>7} {:>7} {:>7}   growth",
+        "{:29} {:>9} {:>9} {:>6} {:>7} {:>7} {:>7}   growth",
         "", "Rattle", "Rust", "", "", "Rattle", "Rust"
     );
     println!(
-        "{:13}{:13} {:>9} {:>9} {:>6} {:>7} {:>7} {:>7}   Rattle  Rust  N log N",
+        "{:16}{:13} {:>9} {:>9} {:>6} {:>7} {:>7} {:>7}   Rattle  Rust  N log N",
         "call", "size", "ns", "ns", "ratio", "arrays", "stack", "stack"
     );
 }
@@ -415,7 +510,7 @@ fn line(call: Call, size: &str, measured: Measured) -> String {
     let Times { nanoseconds, ratio } = measured.times;
     let ([rattle, rust], [rattle_stack, rust_stack]) = (nanoseconds, measured.stack);
     format!(
-        "{:13}{size:13} {rattle:>9.1} {rust:>9.1} {ratio:>6.2} {:>7} {rattle_stack:>7} {rust_stack:>7}",
+        "{:16}{size:13} {rattle:>9.1} {rust:>9.1} {ratio:>6.2} {:>7} {rattle_stack:>7} {rust_stack:>7}",
         call.name(),
         call.array_bytes(),
     )
@@ -435,9 +530,9 @@ fn growth(n: u32, half: Measured, whole: Measured) -> String {
 /// The sources of the column arrays.
 fn print_arrays() {
     println!("\nbytes of arrays");
-    for call in Call::OF_PLANS.into_iter().chain([Call::ProgramP]) {
+    for call in Call::all() {
         for (bytes, source) in call.arrays() {
-            println!("{:13}{bytes:>6}  {source}", call.name());
+            println!("{:16}{bytes:>6}  {source}", call.name());
         }
     }
     let record = mem::size_of::<Plan>();
@@ -467,7 +562,7 @@ mod tests {
     #[test]
     fn the_sources_of_the_arrays_are_there() {
         let root = Path::new(env!("CARGO_MANIFEST_DIR")).join("../..");
-        for call in Call::OF_PLANS.into_iter().chain([Call::ProgramP]) {
+        for call in Call::all() {
             for (_, source) in call.arrays() {
                 assert!(root.join(source).is_file(), "{source}");
             }
@@ -480,6 +575,11 @@ mod tests {
         let plans = Plans::new(&mut Random::new(SEED), Counts::MOST);
         for call in Call::OF_PLANS {
             let [rattle, _] = plans.measure(call).stack;
+            assert!(rattle >= call.array_bytes(), "{}: {rattle}", call.name());
+        }
+        let drawings = Drawings::new(&mut Random::new(SEED), &plans);
+        for call in Call::OF_DRAWINGS {
+            let [rattle, _] = drawings.measure(call).stack;
             assert!(rattle >= call.array_bytes(), "{}: {rattle}", call.name());
         }
     }

@@ -5,7 +5,7 @@
 use mukdalis::{Fault, Gate, Plan, Refusal};
 
 /// Bytes of u, k and v at the start of a plan file.
-const HEADER: usize = 6;
+pub(super) const HEADER: usize = 6;
 
 /// The highest map byte: one bit for each of a gate's three fields.
 const LAST_MAP: u16 = 7;
@@ -17,10 +17,16 @@ const LAST_TABLE: u16 = 15;
 const ABSENT_TABLE: u16 = 8;
 
 /// Places for the wires of the largest plan, and place 0.
-const WIRES: usize = 1 + Plan::MAX_INPUTS + Plan::MAX_GATES;
+pub(super) const WIRES: usize = 1 + Plan::MAX_INPUTS + Plan::MAX_GATES;
 
 /// Reads a plan file. Unused places of the plan are zero.
 pub fn read(file: &[u8]) -> Result<Plan, Refusal> {
+    read_whole(file, |_, own| own)
+}
+
+/// Reads a file whose operands are wires below `bound`, which is given the counts and the gate's
+/// own wire.
+pub(super) fn read_whole(file: &[u8], bound: impl Fn(&Plan, u16) -> u16) -> Result<Plan, Refusal> {
     if file.len() < HEADER {
         return Err(refusal(Fault::Stub, 0));
     }
@@ -30,7 +36,8 @@ pub fn read(file: &[u8]) -> Result<Plan, Refusal> {
     plan.gate_count = reader.count(Plan::MAX_GATES, Fault::Gates)?;
     plan.output_count = reader.count(Plan::MAX_OUTPUTS, Fault::Outputs)?;
     for g in 1..=plan.gate_count {
-        plan.gates[usize::from(g) - 1] = reader.gate(plan.inputs + g)?;
+        let own = plan.inputs + g;
+        plan.gates[usize::from(g) - 1] = reader.gate(own, bound(&plan, own))?;
     }
     for j in 1..=plan.output_count {
         plan.outputs[usize::from(j) - 1] = reader.output(&plan)?;
@@ -110,16 +117,23 @@ impl Reader<'_> {
         self.number(|count| is_count(count.into(), most), fault)
     }
 
-    /// The gate whose wire is `own`: its map byte, then the fields whose map bit stands.
-    fn gate(&mut self, own: u16) -> Result<Gate, Refusal> {
+    /// The gate whose wire is `own`, with operands below `bound`: its map byte, then the fields
+    /// whose map bit stands. Left as a call in the two readings' loops, it takes almost three times as
+    /// long.
+    #[inline(always)]
+    fn gate(&mut self, own: u16, bound: u16) -> Result<Gate, Refusal> {
         let map = self.byte(LAST_MAP, Fault::Map)?;
         let stands = |bit: u8| map >> bit & 1 == 1;
         let first = if stands(0) {
-            self.operand(own)?
+            self.operand(bound)?
         } else {
             own - 1
         };
-        let second = if stands(1) { self.operand(own)? } else { first };
+        let second = if stands(1) {
+            self.operand(bound)?
+        } else {
+            first
+        };
         let table = if stands(2) {
             self.byte(LAST_TABLE, Fault::Table)?
         } else {
@@ -132,9 +146,9 @@ impl Reader<'_> {
         })
     }
 
-    /// An operand of the gate whose wire is `own`.
-    fn operand(&mut self, own: u16) -> Result<u16, Refusal> {
-        self.number(|wire| is_operand(wire, own), Fault::Operand)
+    /// An operand, which is to be below `bound`.
+    fn operand(&mut self, bound: u16) -> Result<u16, Refusal> {
+        self.number(|wire| is_operand(wire, bound), Fault::Operand)
     }
 
     /// An output wire of a plan whose counts are read.
@@ -151,7 +165,7 @@ impl Reader<'_> {
     }
 }
 
-fn refusal(fault: Fault, at: usize) -> Refusal {
+pub(super) fn refusal(fault: Fault, at: usize) -> Refusal {
     Refusal {
         fault,
         at: at as u64,
@@ -162,9 +176,9 @@ pub fn is_count(count: usize, most: usize) -> bool {
     (1..=most).contains(&count)
 }
 
-/// An operand is a wire below the gate's own.
-fn is_operand(wire: u16, own: u16) -> bool {
-    (1..own).contains(&wire)
+/// An operand is a wire below a bound, in a plan the gate's own.
+fn is_operand(wire: u16, bound: u16) -> bool {
+    (1..bound).contains(&wire)
 }
 
 /// An output names a gate wire, u + 1 to u + k.

@@ -4,8 +4,6 @@ use std::fs;
 use std::io;
 use std::path::Path;
 
-use mukdalis::Plan;
-
 use super::plans::{shaped_plan, PlanShape};
 use super::{accepted_file, accepted_plan, Counts, PlanFile, Standing, LONGEST_FILE};
 use crate::random::Random;
@@ -63,12 +61,6 @@ pub fn random_files(random: &mut Random) -> Vec<Kind> {
     ]
 }
 
-/// The file of a plan with any fields standing.
-fn file_of(random: &mut Random, plan: &Plan) -> Vec<u8> {
-    let standing = random.choose(&Standing::ALL);
-    PlanFile::new(random, plan, standing).bytes
-}
-
 fn every_shape(random: &mut Random) -> Vec<Vec<u8>> {
     let mut files = Vec::new();
     for size in [1, 2, 4, 8, 16, 32, SHOWN_GATES] {
@@ -77,7 +69,7 @@ fn every_shape(random: &mut Random) -> Vec<Vec<u8>> {
                 let Counts(u, _, v) = Counts::random(random);
                 let k = random.between(size / 2 + 1, size);
                 let plan = shaped_plan(random, Counts(u, k, v), shape);
-                files.push(file_of(random, &plan));
+                files.push(PlanFile::random(random, &plan).bytes);
             }
         }
     }
@@ -136,8 +128,8 @@ fn cut_files(random: &mut Random) -> Vec<Vec<u8>> {
     let mut files = Vec::new();
     for _ in 0..3 {
         let counts = Counts::small(random);
-        let file = accepted_file(random, counts).bytes;
-        files.extend((0..file.len()).map(|end| file[..end].to_vec()));
+        let file = accepted_file(random, counts);
+        files.extend(file.cuts().map(<[u8]>::to_vec));
     }
     for _ in 0..30 {
         let counts = Counts::random(random);
@@ -154,14 +146,13 @@ fn longer_files(random: &mut Random) -> Vec<Vec<u8>> {
     let mut files = Vec::new();
     for _ in 0..5 {
         let plan = accepted_plan(random, Counts::MOST);
-        let longest = PlanFile::new(random, &plan, Standing::All).bytes;
+        let longest = PlanFile::new(random, &plan, Standing::All);
         let counts = Counts::small(random);
-        let small = accepted_file(random, counts).bytes;
+        let small = accepted_file(random, counts);
         for file in [longest, small] {
-            let to_longest = LONGEST_FILE - file.len();
+            let to_longest = LONGEST_FILE - file.bytes.len();
             for extra in [0, 1, 2, 300, to_longest, to_longest + 1, 1 << 16] {
-                let tail = random.bytes(extra);
-                files.push([&file[..], &tail].concat());
+                files.push(file.with_tail(random, extra));
             }
         }
     }
