@@ -2,3 +2,5 @@
 pub mod FigureLaws
 -- the starred figures hold
 pub mod StatedFiguresLaws
+-- the figures of drawn reading hold
+pub mod DrawnFiguresLaws

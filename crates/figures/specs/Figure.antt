@@ -1,4 +1,4 @@
--- A figure sets a computed answer beside what the bench sheet says, each whole and as a row of numbers.
+-- A figure sets a computed answer beside what the paper says, each whole and as a row of numbers.
 use Prim.Native.Nat.{ℕ}
 use mathlib.Core.Path.{_≡_}
 use mathlib.Core.List.{List, [], _∷_}

@@ -1,5 +1,7 @@
--- Document 01, "Bench sheet".
+-- Document 01, "Bench sheet", and document 02, W1, on figures.
 -- a figure, and the claim that a table of them holds
 pub mod Figure
 -- the starred figures
 pub mod StatedFigures
+-- document 02, W1, on figures
+pub mod DrawnFigures
