@@ -172,6 +172,7 @@ fn read_whole(file: &[u8], drawn: bool) -> PlanRead
                     },
                 );
             }
+            // As the value of the match the record would be copied once more.
             return PlanRead {
                 answer: ReadAnswer::Accepted,
                 plan: plan,
