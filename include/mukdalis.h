@@ -292,7 +292,7 @@ uint32_t mkd_permutation_write(uint32_t n, const uint16_t *inputs, size_t inputs
  * 0 lowest; spare bits of the last byte are 0.
  *
  * Buffers: wanted has n entries; program has MKD_PROGRAM_LEN(MKD_PERMUTATION_BITS(n)) or more,
- * which is 0 for P(1).
+ * which is 0 for P(1). Besides these the call holds at most 2,560 bytes of arrays at one time.
  *
  * Refusals, in this order: 2 if n is not a power of two from 1 to 512; 12 if wanted_len is not n;
  * 9 if a wanted input is not in 1 to n or comes twice; 11 if program_len is below its stated

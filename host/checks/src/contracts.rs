@@ -4,7 +4,7 @@
 use std::io;
 use std::path::Path;
 
-use crate::rattle::{is_word, without_comments};
+use crate::rattle::{is_word, past_group, without_comments};
 use crate::{files, listing, Report};
 
 /// What is wrong with one public function.
@@ -97,22 +97,6 @@ fn clauses_from(text: &str, name_at: usize) -> Clauses {
         }
     }
     clauses
-}
-
-/// Past the group that opens at `at`, inner groups included.
-fn past_group(text: &str, at: usize, open: char, close: char) -> usize {
-    let mut depth = 0;
-    for (i, c) in text[at..].char_indices() {
-        if c == open {
-            depth += 1;
-        } else if c == close {
-            depth -= 1;
-            if depth == 0 {
-                return at + i + c.len_utf8();
-            }
-        }
-    }
-    text.len()
 }
 
 fn word_at(text: &str, at: usize) -> &str {

@@ -8,6 +8,7 @@ use std::io;
 use std::path::Path;
 
 pub mod apart;
+pub mod arrays;
 pub mod contracts;
 pub mod edits;
 pub mod names;
@@ -32,7 +33,7 @@ pub struct Report {
 pub type Check = fn(&Path) -> io::Result<Report>;
 
 /// Every check by its name.
-pub const CHECKS: [(&str, Check); 7] = [
+pub const CHECKS: [(&str, Check); 8] = [
     ("contracts", contracts::problems),
     ("names", names::problems),
     ("specs", specs::problems),
@@ -40,4 +41,5 @@ pub const CHECKS: [(&str, Check); 7] = [
     ("names apart", apart::problems),
     ("reading order", reading_order::problems),
     ("edits", edits::problems),
+    ("arrays", arrays::problems),
 ];

@@ -17,6 +17,22 @@ pub fn without_comments(source: &str) -> String {
     text
 }
 
+/// Past the group that opens at `at`, inner groups included.
+pub fn past_group(text: &str, at: usize, open: char, close: char) -> usize {
+    let mut depth = 0;
+    for (i, c) in text[at..].char_indices() {
+        if c == open {
+            depth += 1;
+        } else if c == close {
+            depth -= 1;
+            if depth == 0 {
+                return at + i + c.len_utf8();
+            }
+        }
+    }
+    text.len()
+}
+
 /// A function, type or constant that a source declares.
 #[derive(Debug, PartialEq, Eq)]
 pub struct Item {

@@ -113,7 +113,8 @@ pub fn write_permutation(
 ///
 /// `wanted` has each of 1 to n once. The program goes to the first bytes of `program`; its stated
 /// length is [`BlockSize::program_len`]. Bit p lies in byte p / 8 at place p % 8, place 0 lowest;
-/// spare bits are 0, bytes past the stated length unchanged.
+/// spare bits are 0, bytes past the stated length unchanged. The library's call holds at most 2,560
+/// bytes of arrays at one time.
 ///
 /// # Errors
 ///

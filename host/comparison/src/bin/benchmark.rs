@@ -14,7 +14,9 @@
 //! Both sides run in short batches by turns, so that a busy machine disturbs both. The columns:
 //! - Rattle ns, Rust ns: nanoseconds a call, the least of all batches;
 //! - ratio: Rattle's time over Rust's, the median of all batches beside each other;
-//! - arrays: bytes of the arrays that the library's code declares for such a call;
+//! - arrays: the most bytes of arrays that the export's source holds at one time, whatever it is
+//!   called with, as `check_repository` counts them; each copy of a record that goes by value is
+//!   among them, and the compiler spares most of these;
 //! - Rattle stack, Rust stack: bytes of stack that a call uses below its caller's frame, measured;
 //!   a record that goes by value is among them, heap memory is not; 256 is that or less;
 //! - growth: the time of P(N) over that of P(N / 2), and what N log N gives for it.
@@ -23,9 +25,11 @@
 //! either side, measured by turns as the ratio is.
 
 use std::hint::black_box;
+use std::path::Path;
 use std::time::{Duration, Instant};
-use std::{mem, ptr, thread};
+use std::{ptr, thread};
 
+use checks::arrays::{counted, Arrays};
 use comparison::random::Random;
 use comparison::reference;
 use comparison::samples::blocks::Block;
@@ -61,31 +65,31 @@ const BATCH_TIME: Duration = Duration::from_micros(100);
 const CASE_TIME: Duration = Duration::from_millis(if cfg!(test) { 1 } else { 600 });
 
 fn main() {
+    let arrays = arrays();
     let mut random = Random::new(SEED);
     let plans = COUNTS.map(|counts| Plans::new(&mut random, counts));
     print_head();
     for call in Call::OF_PLANS {
         for plans in &plans {
-            let line = line(call, &plans.size(), plans.measure(call));
+            let line = line(&arrays, call, &plans.size(), plans.measure(call));
             println!("{line}");
         }
     }
     let drawings = Drawings::new(&mut random, &plans[COUNTS.len() - 1]);
     for call in Call::OF_DRAWINGS {
-        let line = line(call, &drawings.size, drawings.measure(call));
+        let line = line(&arrays, call, &drawings.size, drawings.measure(call));
         println!("{line}");
     }
     let mut half: Option<Measured> = None;
     for n in SIZES {
         let measured = measure_permutation(&mut random, n);
-        let line = line(Call::ProgramP, &format!("P({n})"), measured);
+        let line = line(&arrays, Call::ProgramP, &format!("P({n})"), measured);
         match half.replace(measured) {
             Some(half) => println!("{line}{}", growth(n, half, measured)),
             None => println!("{line}"),
         }
     }
     drawings.print_beside_plain();
-    print_arrays();
 }
 
 /// The timed calls.
@@ -101,28 +105,6 @@ enum Call {
     ProgramP,
 }
 
-/// Bytes of the arrays that a source of the library declares.
-type Arrays = (usize, &'static str);
-
-/// A bit for each wire.
-const EVALUATION: Arrays = (320, "crates/plan_evaluation/src/evaluation.rt");
-/// The drawn gates' operands, and the number of each drawn wire in the plan.
-const TAKING: Arrays = (1_666, "crates/plan_drawn/src/reading.rt");
-/// The renumbered outputs.
-const RENUMBERED: Arrays = (128, "crates/plan_drawn/src/ordering.rt");
-/// Wires: the inputs, the pins, the gates.
-const FABRIC: Arrays = (1_664, "crates/fabric_rows/src/writing.rt");
-/// Wires: the outputs.
-const OUTPUTS: Arrays = (128, "crates/fabric_parts/src/selections.rt");
-/// What feeds a network of S, and what it gave.
-const SELECTION: Arrays = (2_048, "crates/block_selection_rows/src/writing.rt");
-/// Operands and tables of the gates, and wanted inputs.
-const GATES: Arrays = (2_560, "crates/fabric_bits/src/programming.rt");
-/// S's counts, heads and wanted list.
-const POSITIONS: Arrays = (3_072, "crates/block_selection_bits/src/program.rt");
-/// P's mapping, its inverse and the marks.
-const MAPPING: Arrays = (2_560, "crates/block_permutation_bits/src/programming.rt");
-
 impl Call {
     const OF_PLANS: [Call; 5] = [
         Call::Read,
@@ -133,12 +115,6 @@ impl Call {
     ];
 
     const OF_DRAWINGS: [Call; 2] = [Call::ReadInOrder, Call::ReadBackwards];
-
-    /// All calls, in the order of the table.
-    fn all() -> impl Iterator<Item = Call> {
-        let of_plans = Call::OF_PLANS.into_iter();
-        of_plans.chain(Call::OF_DRAWINGS).chain([Call::ProgramP])
-    }
 
     fn name(self) -> &'static str {
         match self {
@@ -153,21 +129,17 @@ impl Call {
         }
     }
 
-    /// The arrays of the call and of those under it. A drawing in order is read plainly and makes
-    /// none.
-    fn arrays(self) -> &'static [Arrays] {
+    /// The export that is called.
+    fn export(self) -> &'static str {
         match self {
-            Call::Read | Call::Run | Call::ReadInOrder => &[],
-            Call::Evaluate => &[EVALUATION],
-            Call::ReadBackwards => &[TAKING, RENUMBERED],
-            Call::WriteFabric => &[FABRIC, OUTPUTS, SELECTION],
-            Call::ProgramPlan => &[GATES, POSITIONS, MAPPING],
-            Call::ProgramP => &[MAPPING],
+            Call::Read => "mkd_plan_read",
+            Call::Evaluate => "mkd_plan_evaluate",
+            Call::WriteFabric => "mkd_fabric",
+            Call::ProgramPlan => "mkd_program",
+            Call::Run => "mkd_run",
+            Call::ReadInOrder | Call::ReadBackwards => "mkd_plan_read_drawn",
+            Call::ProgramP => "mkd_permutation_program",
         }
-    }
-
-    fn array_bytes(self) -> usize {
-        self.arrays().iter().map(|(bytes, _)| bytes).sum()
     }
 }
 
@@ -506,13 +478,29 @@ fn print_head() {
     );
 }
 
-fn line(call: Call, size: &str, measured: Measured) -> String {
+/// The arrays that the library's exports hold, counted from the sources beside this one.
+fn arrays() -> Arrays {
+    let root = Path::new(env!("CARGO_MANIFEST_DIR")).join("../..");
+    let arrays = counted(&root).expect("the sources are there");
+    assert!(arrays.problems.is_empty(), "{}", arrays.problems.join("\n"));
+    arrays
+}
+
+/// The bytes of arrays that a call holds at one time.
+fn array_bytes(arrays: &Arrays, call: Call) -> usize {
+    let mut exports = arrays.exports.iter();
+    let export = exports.find(|export| export.call == call.export());
+    let bytes = export.expect("every timed call is an export").bytes;
+    usize::try_from(bytes).expect("a stack is smaller")
+}
+
+fn line(arrays: &Arrays, call: Call, size: &str, measured: Measured) -> String {
     let Times { nanoseconds, ratio } = measured.times;
     let ([rattle, rust], [rattle_stack, rust_stack]) = (nanoseconds, measured.stack);
     format!(
         "{:16}{size:13} {rattle:>9.1} {rust:>9.1} {ratio:>6.2} {:>7} {rattle_stack:>7} {rust_stack:>7}",
         call.name(),
-        call.array_bytes(),
+        array_bytes(arrays, call),
     )
 }
 
@@ -527,22 +515,8 @@ fn growth(n: u32, half: Measured, whole: Measured) -> String {
     )
 }
 
-/// The sources of the column arrays.
-fn print_arrays() {
-    println!("\nbytes of arrays");
-    for call in Call::all() {
-        for (bytes, source) in call.arrays() {
-            println!("{:16}{bytes:>6}  {source}", call.name());
-        }
-    }
-    let record = mem::size_of::<Plan>();
-    println!("a plan's record, which is none of them, has {record} bytes");
-}
-
 #[cfg(test)]
 mod tests {
-    use std::path::Path;
-
     use super::*;
 
     /// A call that holds an array of N bytes.
@@ -559,28 +533,31 @@ mod tests {
         assert!((9_000..9_600).contains(&large), "{large}");
     }
 
-    #[test]
-    fn the_sources_of_the_arrays_are_there() {
-        let root = Path::new(env!("CARGO_MANIFEST_DIR")).join("../..");
-        for call in Call::all() {
-            for (_, source) in call.arrays() {
-                assert!(root.join(source).is_file(), "{source}");
-            }
-        }
-    }
-
-    /// The measured stack has the arrays in it.
+    /// Where no record goes by value, the measured stack has the arrays in it.
     #[test]
     fn the_sides_agree_and_calls_hold_their_arrays() {
-        let plans = Plans::new(&mut Random::new(SEED), Counts::MOST);
+        let arrays = arrays();
+        let mut random = Random::new(SEED);
+        let plans = Plans::new(&mut random, Counts::MOST);
+        let mut measured = Vec::new();
         for call in Call::OF_PLANS {
-            let [rattle, _] = plans.measure(call).stack;
-            assert!(rattle >= call.array_bytes(), "{}: {rattle}", call.name());
+            measured.push((call, plans.measure(call)));
         }
-        let drawings = Drawings::new(&mut Random::new(SEED), &plans);
+        let drawings = Drawings::new(&mut random, &plans);
         for call in Call::OF_DRAWINGS {
-            let [rattle, _] = drawings.measure(call).stack;
-            assert!(rattle >= call.array_bytes(), "{}: {rattle}", call.name());
+            measured.push((call, drawings.measure(call)));
+        }
+        measured.push((Call::ProgramP, measure_permutation(&mut random, 512)));
+        for (
+            call,
+            Measured {
+                stack: [rattle, _], ..
+            },
+        ) in measured
+        {
+            let bytes = array_bytes(&arrays, call);
+            let has_record = !matches!(call, Call::WriteFabric | Call::Run | Call::ProgramP);
+            assert!(has_record || rattle >= bytes, "{}: {rattle}", call.name());
         }
     }
 }
