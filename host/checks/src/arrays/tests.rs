@@ -18,12 +18,17 @@ fn sources() -> (Vec<Listed>, Vec<File>) {
     (crates, files)
 }
 
+/// The text of a file.
+fn text<'a>(files: &'a mut [File], path: &str) -> &'a mut String {
+    let file = files.iter_mut().find(|file| file.path == path);
+    &mut file.unwrap_or_else(|| panic!("no {path}")).text
+}
+
 /// Puts `new` for `old` in a file, where it has to stand once.
 fn put(files: &mut [File], path: &str, old: &str, new: &str) {
-    let file = files.iter_mut().find(|file| file.path == path);
-    let file = file.unwrap_or_else(|| panic!("no {path}"));
-    assert_eq!(file.text.matches(old).count(), 1, "{path}: {old}");
-    file.text = file.text.replace(old, new);
+    let text = text(files, path);
+    assert_eq!(text.matches(old).count(), 1, "{path}: {old}");
+    *text = text.replace(old, new);
 }
 
 /// The repository with changes, each a file, a text in it, and what stands there instead.
@@ -38,32 +43,24 @@ fn planted(changes: &[(&str, &str, &str)]) -> Arrays {
 /// With locals beside P's three arrays, and items below the functions.
 fn beside(locals: &str, items: &str) -> Arrays {
     let (crates, mut files) = sources();
-    put(
-        &mut files,
-        PROGRAMMING,
-        BESIDE,
-        &format!("{locals}\n{BESIDE}"),
-    );
-    let file = files.iter_mut().find(|file| file.path == PROGRAMMING);
-    file.expect("it was found before").text.push_str(items);
+    let more = format!("{locals}\n{BESIDE}");
+    put(&mut files, PROGRAMMING, BESIDE, &more);
+    text(&mut files, PROGRAMMING).push_str(items);
     arrays(&crates, &files)
 }
 
-/// The line in which a text of a file begins.
-fn line_of(path: &str, text: &str) -> usize {
-    let (_, files) = sources();
-    let file = files.iter().find(|file| file.path == path);
-    let file = file.unwrap_or_else(|| panic!("no {path}"));
-    let at = file.text.find(text);
-    let at = at.unwrap_or_else(|| panic!("{path}: {text}"));
-    file.text[..at].matches('\n').count() + 1
+/// The line of a file in which something begins.
+fn line_of(path: &str, what: &str) -> usize {
+    let (_, mut files) = sources();
+    let before = text(&mut files, path).split_once(what);
+    let (before, _) = before.unwrap_or_else(|| panic!("{path}: {what}"));
+    before.matches('\n').count() + 1
 }
 
 /// The line of a local that is planted beside P's arrays, and that of the first item below.
 fn planted_lines() -> (usize, usize) {
-    let (_, files) = sources();
-    let file = files.iter().find(|file| file.path == PROGRAMMING);
-    let lines = file.map_or(0, |file| file.text.matches('\n').count());
+    let (_, mut files) = sources();
+    let lines = text(&mut files, PROGRAMMING).matches('\n').count();
     (line_of(PROGRAMMING, BESIDE), lines + 2)
 }
 
@@ -294,6 +291,7 @@ fn comments_and_contracts_hold_nothing() {
     // A brace that is none of the contract's would move its end.
     let line = line_of(PROGRAMMING, contract) + 1;
     let problem = "not read: antt with a comment, a text or a character";
+    let name = "not read: a name with a brace or a semicolon";
     for (brace, problem) in [
         ("-- }\n", problem),
         ("// }\n", problem),
@@ -301,7 +299,7 @@ fn comments_and_contracts_hold_nothing() {
         ("\"}\"", problem),
         ("⟦b'{'⟧", problem),
         ("'}'", problem),
-        ("λ «}».", "not read: a name with a brace"),
+        ("λ «}».", name),
     ] {
         let more = format!("{contract}    requires {{ ⌜ wide {brace} ⌝ }}\n");
         let found = planted(&[(PROGRAMMING, contract, &more)]);
@@ -309,9 +307,11 @@ fn comments_and_contracts_hold_nothing() {
     }
     let used = "ghost use lib.ListN.{length};\n";
     let line = line_of(PROGRAMMING, used);
-    let more = "ghost use lib.ListN.{length, -- ; type\n};\n";
-    let found = planted(&[(PROGRAMMING, used, more)]);
-    is_refused(&found, &format!("{PROGRAMMING}:{line}: {problem}"));
+    for (end, problem) in [("-- ;", problem), ("«;»", name)] {
+        let more = format!("ghost use lib.ListN.{{length, {end} type\n}};\n");
+        let found = planted(&[(PROGRAMMING, used, &more)]);
+        is_refused(&found, &format!("{PROGRAMMING}:{line}: {problem}"));
+    }
 }
 
 #[test]

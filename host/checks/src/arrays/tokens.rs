@@ -220,16 +220,6 @@ impl<'a> Reader<'a> {
             return fail(line, "a contract has no braces");
         }
         let text = self.antt(past_group(self.rest, 0, '{', '}'))?;
-        // What stands between these is one name, whatever it spells.
-        let mut names = text.split('«').skip(1);
-        let is_brace = |c| c == '{' || c == '}';
-        if names.any(|name| {
-            name.split('»')
-                .next()
-                .is_some_and(|name| name.contains(is_brace))
-        }) {
-            return fail(line, "not read: a name with a brace");
-        }
         Ok(Token::Contract(text.to_string()))
     }
 
@@ -239,6 +229,13 @@ impl<'a> Reader<'a> {
         let text = self.take(bytes);
         if UNREAD_IN_ANTT.iter().any(|mark| text.contains(mark)) {
             return fail(line, "not read: antt with a comment, a text or a character");
+        }
+        // What stands in these brackets is one name, whatever it spells.
+        for name in text.split('«').skip(1) {
+            let name = name.split('»').next().unwrap_or_default();
+            if name.contains(['{', '}', ';']) {
+                return fail(line, "not read: a name with a brace or a semicolon");
+            }
         }
         Ok(text)
     }

@@ -548,14 +548,8 @@ mod tests {
             measured.push((call, drawings.measure(call)));
         }
         measured.push((Call::ProgramP, measure_permutation(&mut random, 512)));
-        for (
-            call,
-            Measured {
-                stack: [rattle, _], ..
-            },
-        ) in measured
-        {
-            let bytes = array_bytes(&arrays, call);
+        for (call, measured) in measured {
+            let (bytes, [rattle, _]) = (array_bytes(&arrays, call), measured.stack);
             let has_record = !matches!(call, Call::WriteFabric | Call::Run | Call::ProgramP);
             assert!(has_record || rattle >= bytes, "{}: {rattle}", call.name());
         }
