@@ -49,7 +49,7 @@ cargo build --quiet --release --manifest-path host/Cargo.toml --bins
 host/target/release/compare >"$TMPDIR/compared" &
 comparison=$!
 cargo test --quiet --release --manifest-path host/Cargo.toml
-host/target/release/check_twintest target/bin/twintest
+host/target/release/check_programs target/bin
 
 # The block library goes to the relay-card maker by itself: a copy that holds nothing but the foundations and the block library, with what rt ci
 # proved of them, lacks nothing.

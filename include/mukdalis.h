@@ -1,7 +1,8 @@
 /*
  * Mukdalis, the contact fabric library: plans and drawn plans, their faults and their evaluation;
  * the permutation network P and the selection network S of the block library, their rows and their
- * programs; the fabric of three counts, a plan's program for it, and the run of a fabric table.
+ * programs; the fabric of three counts, its rows by kind, a plan's program for it, and the run of a
+ * fabric table.
  *
  * example.c beside this file shows the whole path, from a plan file to a run. A program is linked
  * with libcapi.a, which `rt staticlib capi` writes.
@@ -356,6 +357,32 @@ uint32_t mkd_selection_program(uint32_t m, uint32_t n, const uint16_t *wanted, s
  * Refusals, in this order: 2, 3, 4. Refused: rows, wires and bits are 0. No buffer is written.
  */
 struct mkd_counts mkd_count(uint32_t u, uint32_t k, uint32_t v);
+
+/* Rows by kind: of a part of a fabric's table, or of all of it. */
+struct mkd_kinds {
+    uint32_t x;     /* rows of kind 1 */
+    uint32_t y;     /* rows of kind 2 */
+    uint32_t g;     /* rows of kind 3 */
+    uint32_t total; /* the three together */
+};
+
+/* The answer of a counting by kind. */
+struct mkd_sheet {
+    uint32_t number;         /* 0, or the refusal */
+    struct mkd_kinds input;  /* of S(u, 2K) */
+    struct mkd_kinds block;  /* of U(K) */
+    struct mkd_kinds output; /* of S(K, v) */
+    struct mkd_kinds sum;    /* of the whole table */
+};
+
+/*
+ * Counts the rows of each kind that stand in the table of the fabric of u inputs, k gates and v
+ * outputs: in each of its three parts, which stand there one after another, see mkd_fabric, and in
+ * the whole table. sum.total is MKD_FABRIC_ROWS(u, k, v).
+ *
+ * Refusals, in this order: 2, 3, 4. Refused: all figures are 0. No buffer is written.
+ */
+struct mkd_sheet mkd_fabric_sheet(uint32_t u, uint32_t k, uint32_t v);
 
 /*
  * Writes the table of the fabric of u inputs, k gates and v outputs: 16-bit entries u, v, R (its

@@ -1,9 +1,10 @@
 -- The exports' structs in the documents' numbers and values.
-use Rattle.elements.specs.Elements.{CountOutcome}
+use Rattle.elements.specs.Elements.{CountOutcome, SheetOutcome}
 use Rattle.plan_reading.specs.PlanFile.{ReadOutcome}
 use Rattle.plan_drawn.specs.DrawnFile.{DrawnOutcome}
 use Rattle.capi.specs.declared.Counted.{Counted}
 use Rattle.capi.specs.declared.Drawn.{Drawn}
+use Rattle.capi.specs.declared.FabricSheet.{FabricSheet}
 use Rattle.capi.specs.declared.Read.{Read}
 
 abbrev pub exportOutcome : Read → ReadOutcome
@@ -16,3 +17,7 @@ exportDrawn r = record { number = r .number; at = r .at; plan = r .plan; drawn =
 -- what the header's struct mkd_counts says
 abbrev pub countsOf : Counted → CountOutcome
 countsOf r = record { number = r .number; rows = r .rows; wires = r .wires; bits = r .bits }
+
+-- what the header's struct mkd_sheet says
+abbrev pub exportSheet : FabricSheet → SheetOutcome
+exportSheet r = record { number = r .number; sheet = record { input = r .input; block = r .block; output = r .output; sum = r .sum } }

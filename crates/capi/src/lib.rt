@@ -10,10 +10,12 @@ ghost use Rattle.plan_evaluation_checks.specs.EvaluationChecks.{evaluateFault};
 ghost use Rattle.plan_evaluation.specs.Evaluation.{evaluateResult};
 ghost use Rattle.plan_reading.specs.PlanFile.{planRead};
 ghost use Rattle.plan_drawn.specs.DrawnFile.{drawnRead};
-ghost use Rattle.fabric.specs.Fabrics.{counting, fabricResult, fabricFault, planProgramFault, planProgramResult, runFault, runWork, runResult};
-ghost use Rattle.capi.specs.Exports.{exportOutcome, exportDrawn, countsOf};
+ghost use Rattle.fabric.specs.Fabrics.{counting, kindCounting, fabricResult, fabricFault, planProgramFault, planProgramResult, runFault, runWork, runResult};
+ghost use Rattle.capi.specs.Exports.{exportOutcome, exportDrawn, countsOf, exportSheet};
 use elements::CountAnswer;
 use elements::FabricWire;
+use elements::KindCounts;
+use elements::SheetAnswer;
 use plan::Plan;
 use plan_reading::ReadAnswer;
 
@@ -206,6 +208,53 @@ pub extern "C" fn mkd_count(u: u32, k: u32, v: u32) -> Counted
     ensures { λ r. ⌜ countsOf r ≡ counting u k v ⌝ }
 {
     export_counts(fabric::count_fabric(u, k, v))
+}
+
+// The header's struct mkd_sheet: number 0 where the fabric was counted, its rows by kind all zero where not.
+#[repr(C)]
+pub struct FabricSheet {
+    pub number: u32,
+    pub input: KindCounts,
+    pub block: KindCounts,
+    pub output: KindCounts,
+    pub sum: KindCounts,
+}
+
+// The rows of each kind in that fabric's three parts, and in its whole table.
+#[no_mangle]
+pub extern "C" fn mkd_fabric_sheet(u: u32, k: u32, v: u32) -> FabricSheet
+    ensures { λ r. ⌜ exportSheet r ≡ kindCounting u k v ⌝ }
+{
+    match fabric::count_kinds(u, k, v) {
+        SheetAnswer::Counted(s) => {
+            let input = s.input;
+            let block = s.block;
+            let output = s.output;
+            let sum = s.sum;
+            FabricSheet {
+                number: 0,
+                input,
+                block,
+                output,
+                sum,
+            }
+        }
+        SheetAnswer::Refused(f) => {
+            let none = KindCounts {
+                x: 0,
+                y: 0,
+                g: 0,
+                total: 0,
+            };
+            FabricSheet {
+                number: f.number(),
+                input: none,
+                block: none,
+                output: none,
+                sum: none,
+            }
+        }
+    }
 }
 
 // The table of that fabric.

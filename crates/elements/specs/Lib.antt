@@ -1,2 +1,2 @@
--- the limit of wires, the kinds' numbers, what counting says
+-- the limit of wires, the kinds' numbers, what counting says, also by kind
 pub mod Elements

@@ -1,5 +1,5 @@
-// What every storey above says of fabrics in common: wires, the kinds of elements, and counts of rows, wires and program bits. Types and numbers
-// alone; nothing here knows of blocks or plans.
+// What every storey above says of fabrics in common: wires, the kinds of elements, counts of rows, wires and program bits, and of rows by kind.
+// Types and numbers alone; nothing here knows of blocks or plans.
 ghost use mathlib.Core.Path.{_≡_};
 ghost use Prim.Native.Nat.{_+_, _%_, _^_};
 ghost use Rattle.elements.specs.Elements.{kindNumber};
@@ -38,6 +38,29 @@ pub struct Counts {
 // The answer of counting.
 pub enum CountAnswer {
     Counted(Counts),
+    Refused(Fault),
+}
+
+// The rows of each kind, and their total.
+#[repr(C)]
+pub struct KindCounts {
+    pub x: u32,
+    pub y: u32,
+    pub g: u32,
+    pub total: u32,
+}
+
+// The sheet of a fabric: its rows by kind, in each of its three parts and in all of it.
+pub struct Sheet {
+    pub input: KindCounts,
+    pub block: KindCounts,
+    pub output: KindCounts,
+    pub sum: KindCounts,
+}
+
+// The answer of counting by kind.
+pub enum SheetAnswer {
+    Counted(Sheet),
     Refused(Fault),
 }
 

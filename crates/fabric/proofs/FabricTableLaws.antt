@@ -40,7 +40,7 @@ use Rattle.fabric.specs.Promise.{FabricPromise}
 
 module _ (u k v : ℕ) where
   -- the number of rows that it names is that of its rows
-  table-of : fabricTable u k v ≡ tableOf u v (fabricRows u k v) (fabricOuts u k v)
+  pub table-of : fabricTable u k v ≡ tableOf u v (fabricRows u k v) (fabricOuts u k v)
   unfolding fabricTable
   table-of = ap (λ n. u ∷ v ∷ n ∷ (flat (fabricRows u k v) ++ fabricOuts u k v)) (sym (length-fabricRows u k v))
 

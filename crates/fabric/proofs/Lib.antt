@@ -2,3 +2,5 @@
 pub mod FabricsLaws
 -- the fabric's table is well formed, a plan's program exact, and their run gives what the plan gives
 pub mod FabricTableLaws
+-- the sheet's figures stand in the table that is written
+pub mod SheetPromiseLaws

@@ -3,3 +3,5 @@
 pub mod Fabrics
 -- what the fabric promises of a plan
 pub mod Promise
+-- what its sheet promises of its table
+pub mod SheetPromise

@@ -51,7 +51,8 @@ pub fn universal_counts(k: u16) -> Counts
 pub fn output_counts(k: u16, v: u16) -> Counts
     ensures { λ r. ⌜ SelectionIs (2 ^ gateLevel k) v r ⌝ }
 {
-    selection_counts(gate_places(k), v as u32)
+    let places = gate_places(k);
+    selection_counts(places, v as u32)
 }
 
 // S(m, n). Each of its rows takes one bit.

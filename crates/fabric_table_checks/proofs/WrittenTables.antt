@@ -53,11 +53,18 @@ module _ (u v : ℕ) (rows : List Row) (outs : List ℕ) (family : Every InFamil
 
 -- ---- its kinds
 
-kind-of : (row : Row) (more : List ℕ) → (1 ≤ getD (entries row ++ more) 0 0) × (getD (entries row ++ more) 0 0 ≤ 3)
+-- a row's kind is the first of its entries
+kind-first : (row : Row) (more : List ℕ) → getD (entries row ++ more) 0 0 ≡ getD (entries row) 0 0
 unfolding entries
-kind-of (X l r) more = (lit≤ tt, lit≤ tt)
-kind-of (Y l r) more = (lit≤ tt, lit≤ tt)
-kind-of (Gate ws) more = (lit≤ tt, lit≤ tt)
+kind-first (X l r) more = refl
+kind-first (Y l r) more = refl
+kind-first (Gate ws) more = refl
+
+kind-within : (row : Row) → (1 ≤ getD (entries row) 0 0) × (getD (entries row) 0 0 ≤ 3)
+unfolding entries
+kind-within (X l r) = (lit≤ tt, lit≤ tt)
+kind-within (Y l r) = (lit≤ tt, lit≤ tt)
+kind-within (Gate ws) = (lit≤ tt, lit≤ tt)
 
 past-row : (row : Row) (more : List ℕ) (x : ℕ) → InFamily row → getD (entries row ++ more) (stride + x) 0 ≡ getD more x 0
 unfolding entries inputsOf
@@ -65,13 +72,18 @@ past-row (X l r) more x e = getD-append-add (1 ∷ l ∷ r ∷ []) more x 0
 past-row (Y l r) more x e = getD-append-add (2 ∷ l ∷ r ∷ []) more x 0
 past-row (Gate ws) more x e = ap (λ k. getD (3 ∷ (ws ++ more)) (suc k + x) 0) (sym e) ∙ getD-append-add (3 ∷ ws) more x 0
 
-kinds : {rows : List Row} → Every InFamily rows → (i : ℕ) → i < length rows → (1 ≤ getD (flat rows) (stride * i) 0) × (getD (flat rows) (stride * i) 0 ≤ 3)
+kind-at : {rows : List Row} → Every InFamily rows → (i : ℕ) (d : Row) → i < length rows
+    → getD (flat rows) (stride * i) 0 ≡ getD (entries (getD rows i d)) 0 0
 unfolding flat
-kinds every-none i l = absurd (omega arith)
-kinds (every-more {a = row} {l = rows} f fs) zero l = kind-of row (flat rows)
-kinds (every-more {a = row} {l = rows} f fs) (suc i) l =
+kind-at every-none i d l = absurd (omega arith)
+kind-at (every-more {a = row} {l = rows} f fs) zero d l = kind-first row (flat rows)
+kind-at (every-more {a = row} {l = rows} f fs) (suc i) d l =
     let e : stride * suc i ≡ stride + stride * i = omega arith in
-    rw (e, past-row row (flat rows) (stride * i) f) (kinds fs i (omega arith))
+    rw (e, past-row row (flat rows) (stride * i) f) (kind-at fs i d (omega arith))
+
+pub kindAt-of : (u v : ℕ) (rows : List Row) (outs : List ℕ) → Every InFamily rows → (i : ℕ) (d : Row) → i < length rows
+    → kindAt (tableOf u v rows outs) i ≡ getD (entries (getD rows i d)) 0 0
+kindAt-of u v rows outs family i d l = row-entry u v rows outs family (stride * i) (omega arith) ∙ kind-at family i d l
 
 -- ---- its wires
 
@@ -137,7 +149,8 @@ module _ (u v : ℕ) (rows : List Row) (outs : List ℕ) (family : Every InFamil
   unfolding wiresBefore rowAt
   row-of made i l =
       let table : List ℕ = tableOf u v rows outs in
-      let kind : (1 ≤ kindAt table i) × (kindAt table i ≤ 3) = rw (row-entry u v rows outs family (stride * i) (omega arith)) (kinds family i l) in
+      let kind : (1 ≤ kindAt table i) × (kindAt table i ≤ 3)
+      = rw (kindAt-of u v rows outs family i (X 0 0) l) (kind-within (getD rows i (X 0 0))) in
       let before : Below (suc u + total makes (rowsTo table i)) (leftAt table i ∷ rightAt table i ∷ [])
       = rw (wires-of (kindAt table i) (leftAt table i) (rightAt table i)) at
       (made-at (suc u) (length rows) (rowAt table) (rw (tableRows-of u v rows outs family) made) i l) in

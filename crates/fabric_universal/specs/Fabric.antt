@@ -39,12 +39,19 @@ fabricOutputNext u k = universalNext u k + universalWires selection (gateLevel k
 abbrev pub gateOuts : ℕ → ℕ → List ℕ
 gateOuts u k = universalOuts selection (gateLevel k) (universalNext u k)
 
+-- the rows of its three parts: S(u, 2K), U(K), S(K, v)
+abbrev pub inputPart : ℕ → ℕ → List Row
+inputPart u k = selectionRows u (pinCount (gateLevel k)) (inputWires u) (suc u)
+
+abbrev pub blockPart : ℕ → ℕ → List Row
+blockPart u k = universalRows selection (gateLevel k) (fabricPins u k) (universalNext u k)
+
+abbrev pub outputPart : ℕ → ℕ → ℕ → List Row
+outputPart u k v = selectionRows (2 ^ gateLevel k) v (gateOuts u k) (fabricOutputNext u k)
+
 -- the fabric's rows, and its output wires
 unfoldable pub fabricRows : ℕ → ℕ → ℕ → List Row
-fabricRows u k v =
-    selectionRows u (pinCount (gateLevel k)) (inputWires u) (suc u)
-    ++ (universalRows selection (gateLevel k) (fabricPins u k) (universalNext u k)
-    ++ selectionRows (2 ^ gateLevel k) v (gateOuts u k) (fabricOutputNext u k))
+fabricRows u k v = inputPart u k ++ (blockPart u k ++ outputPart u k v)
 
 unfoldable pub fabricOuts : ℕ → ℕ → ℕ → List ℕ
 fabricOuts u k v = selectionOuts (2 ^ gateLevel k) v (gateOuts u k) (fabricOutputNext u k)

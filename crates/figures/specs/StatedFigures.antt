@@ -1,9 +1,11 @@
--- The starred figures of document 01's bench sheet, each entry by the definition that a public call's contract cites.
+-- The starred figures of document 01's bench sheet, and the lines of document 02, W3, each entry by the definition that a public call's contract
+-- cites.
 use Prim.Native.Nat.{ℕ}
 use mathlib.Core.List.{List, [], _∷_, _++_}
 use lib.ListN.{length, replicate}
 use Rattle.lists.specs.Lists.{listOf}
 use Rattle.fault.specs.Checks.{firstOf, roomFault, listFault}
+use Rattle.elements.specs.declared.KindCounts.{KindCounts}
 use Rattle.powers.specs.Powers.{firstFit, ceilLog, ceilPower}
 use Rattle.block_elements.specs.Bits.{setBit, storeBits, pack}
 use Rattle.block_elements.specs.Rows.{entries}
@@ -28,6 +30,7 @@ use Rattle.fabric_universal.specs.Universal.{universalCount, universalWires, un
 use Rattle.fabric_universal.specs.Fabric.{fabricCount, fabricWires, fabricTakes}
 use Rattle.fabric_sizes.specs.Counting.{counting}
 use Rattle.fabric_sizes.specs.FabricChecks.{fabricFault, planProgramFault}
+use Rattle.fabric_sheet.specs.Sheet.{kindCounting}
 use Rattle.fabric_bits.specs.ProgramCalls.{planProgramResult}
 use Rattle.fabric_rows.specs.FabricCalls.{fabricResult}
 use Rattle.figures.specs.Figure.{Figure}
@@ -82,6 +85,19 @@ counts u k v rows wires bits = record {
   stated = 0 ∷ rows ∷ wires ∷ bits ∷ [];
 }
 
+-- the sheet of that fabric has these lines: the X, Y and G rows of S(u, 2K), of U(K), of S(K, v) and of the whole, each with their total
+lineNumbers : KindCounts → List ℕ
+lineNumbers c = c .x ∷ c .y ∷ c .g ∷ c .total ∷ []
+
+unfoldable pub sheets : ℕ → ℕ → ℕ → List ℕ → List ℕ → List ℕ → List ℕ → Figure
+unfolding lineNumbers countAllowed countsFault
+sheets u k v input block output sum = record {
+  computed =
+      let o = kindCounting u k v in
+      o .number ∷ (lineNumbers (o .sheet .input) ++ lineNumbers (o .sheet .block) ++ lineNumbers (o .sheet .output) ++ lineNumbers (o .sheet .sum));
+  stated = 0 ∷ (input ++ block ++ output ++ sum);
+}
+
 -- writing the fabric of three counts succeeds in a table of zeros that is as long as these entries, and makes it these
 unfoldable pub fabricates : ℕ → ℕ → ℕ → List ℕ → Figure
 unfolding fabricFault roomFault
@@ -130,6 +146,8 @@ statedFigures =
     ∷ counts 1 1 1 4 8 7
     ∷ counts 2 2 1 23 40 29
     ∷ counts 3 3 2 85 147 97
+    -- the five-line case: input 10 3 0 13, block 2 3 2 7, output 2 1 0 3, sum 14 7 2 23
+    ∷ sheets 2 2 1 (10 ∷ 3 ∷ 0 ∷ 13 ∷ []) (2 ∷ 3 ∷ 2 ∷ 7 ∷ []) (2 ∷ 1 ∷ 0 ∷ 3 ∷ []) (14 ∷ 7 ∷ 2 ∷ 23 ∷ [])
     -- fabric (1,1,1): 1 1 4, 1 1 0, 2 2 3, 1 2 4, 3 5 6, 7
     ∷ fabricates 1 1 1 (1 ∷ 1 ∷ 4 ∷ 1 ∷ 1 ∷ 0 ∷ 2 ∷ 2 ∷ 3 ∷ 1 ∷ 2 ∷ 4 ∷ 3 ∷ 5 ∷ 6 ∷ 7 ∷ [])
     -- plan hex 01 00 01 00 01 00 04 01 02 00 (NOT): program hex 08

@@ -1,9 +1,9 @@
 // The lines of the input rows.
 use crate::line::blank;
 use crate::line::print;
-use crate::line::put_byte;
 use crate::line::put_entries;
 use blocks::STRIDE;
+use console::put_byte;
 use equivalence::run_both;
 use fabric::HEADER;
 use fault::Answer;

@@ -1,18 +1,20 @@
-//! The fabric of three counts and the run of any table: counting, writing, running.
+//! The fabric of three counts and the run of any table: counting, rows by kind, writing, running.
 
 mod counts;
 mod damage;
 mod runs;
 mod tables;
 
-use mukdalis::{raw, Fault};
+use std::fmt::Debug;
+
+use mukdalis::{raw, Fault, Kinds};
 
 use super::buffer::{Both, Buffer};
 use super::show::{show_counts, show_number, show_run};
-use super::{number, Call, Comparison, Difference, Outcome};
+use super::{number, Call, Comparison, Difference, Outcome, CALLS};
 use crate::random::Random;
 use crate::reference;
-use crate::samples::fabric::{table_len, wires, Run};
+use crate::samples::fabric::{sheet_of, table_len, wires, Run};
 use crate::samples::{Counts, LIMIT_COUNTS};
 
 pub fn compare(comparison: &mut Comparison, random: &mut Random) -> Outcome {
@@ -41,33 +43,77 @@ fn count_checks([u, k, v]: [u32; 3]) -> [(Fault, bool); 3] {
     ]
 }
 
-/// Compares a counting whose answer is to be `due`. A refusal's counts are 0.
+/// Compares a counting whose answer is to be `due`.
 fn compare_counting(comparison: &mut Comparison, counts: [u32; 3], due: u32) -> Outcome {
     let [u, k, v] = counts;
-    let expected = match reference::fabric::count(u, k, v) {
-        Ok(size) => raw::Counts {
-            number: 0,
-            rows: size.rows,
-            wires: size.wires,
-            bits: size.bits,
-        },
-        Err(fault) => raw::Counts {
-            number: fault.number(),
-            rows: 0,
-            wires: 0,
-            bits: 0,
-        },
-    };
+    let answer = reference::fabric::count(u, k, v);
+    let expected = counted(answer.map(|size| [size.rows, size.wires, size.bits]), 0);
     let found = raw::count(u, k, v);
-    if found != expected || found.number != due {
+    let found = (found.number, [found.rows, found.wires, found.bits]);
+    compare_counted(comparison, Call::Counting, counts, due, expected, found)
+}
+
+/// Compares a counting by kind whose answer is to be `due`.
+fn compare_sheet(comparison: &mut Comparison, counts: [u32; 3], due: u32) -> Outcome {
+    let [u, k, v] = counts;
+    let answer = reference::fabric::count_kinds(u, k, v);
+    let parts = answer.map(|sheet| [sheet.input, sheet.block, sheet.output, sheet.sum]);
+    let expected = counted(parts, NO_ROWS);
+    let found = raw::count_kinds(u, k, v);
+    let parts = [found.input, found.block, found.output, found.sum];
+    let found = (found.number, parts);
+    compare_counted(comparison, Call::Sheet, counts, due, expected, found)
+}
+
+const NO_ROWS: Kinds = Kinds {
+    x: 0,
+    y: 0,
+    g: 0,
+    total: 0,
+};
+
+/// A call's number with its figures, those of a refusal all zero.
+fn counted<T: Copy, const N: usize>(answer: Result<[T; N], Fault>, zero: T) -> (u32, [T; N]) {
+    match answer {
+        Ok(figures) => (0, figures),
+        Err(fault) => (fault.number(), [zero; N]),
+    }
+}
+
+/// Compares a call's number, which is to be `due`, and its figures.
+fn compare_counted<T: PartialEq + Debug>(
+    comparison: &mut Comparison,
+    call: Call,
+    counts: [u32; 3],
+    due: u32,
+    expected: (u32, T),
+    found: (u32, T),
+) -> Outcome {
+    if found != expected || found.0 != due {
         return Err(comparison.difference(&[
-            ("counting", show_counts(counts)),
+            (CALLS[call as usize].0, show_counts(counts)),
             ("due", show_number(due)),
             ("reference", format!("{expected:?}")),
             ("library", format!("{found:?}")),
         ]));
     }
-    comparison.count(Call::Counting, due);
+    comparison.count(call, due);
+    Ok(())
+}
+
+/// Compares the library's sheet with the rows that stand in the table that it wrote.
+fn compare_kinds(comparison: &mut Comparison, counts: [u32; 3], table: &[u16]) -> Outcome {
+    let [u, k, v] = counts;
+    let standing = sheet_of(table, k);
+    let sheet = mukdalis::count_kinds(u, k, v);
+    if sheet != Ok(standing) {
+        return Err(comparison.difference(&[
+            ("fabric", show_counts(counts)),
+            ("rows in the table", format!("{standing:?}")),
+            ("sheet", format!("{sheet:?}")),
+        ]));
+    }
+    comparison.count(Call::KindsInTable, 0);
     Ok(())
 }
 

@@ -34,7 +34,7 @@ use crate::random::Random;
 /// One place for each number of the refusal table, and place 0 for done.
 const NUMBERS: usize = Fault::TABLE.len() + 1;
 
-/// A call that is compared, or the run of what several calls wrote.
+/// A call that is compared, or what several calls gave together.
 #[derive(Clone, Copy)]
 enum Call {
     Reading,
@@ -49,7 +49,9 @@ enum Call {
     SelectionProgramming,
     SelectionDelivery,
     Counting,
+    Sheet,
     Fabric,
+    KindsInTable,
     Run,
     Program,
     PlanInFabric,
@@ -57,7 +59,7 @@ enum Call {
 }
 
 /// Each call's name, and the numbers that it must have given at least once.
-const CALLS: [(&str, &[usize]); 17] = [
+const CALLS: [(&str, &[usize]); 19] = [
     ("reading", &[0, 1, 2, 3, 4, 5, 6, 7, 8, 9, 10]),
     ("plan faults", &[0, 2, 3, 4, 7, 8, 9]),
     ("evaluation", &[0, 2, 3, 4, 7, 8, 9, 11, 12]),
@@ -70,7 +72,9 @@ const CALLS: [(&str, &[usize]); 17] = [
     ("programming S", &[0, 2, 4, 9, 11, 12]),
     ("delivery by S", &[0]),
     ("counting", &[0, 2, 3, 4]),
+    ("sheet", &[0, 2, 3, 4]),
     ("fabric", &[0, 2, 3, 4, 11]),
+    ("table's kinds", &[0]),
     ("run", &[0, 11, 12, 13, 14]),
     ("program bits", &[0, 2, 3, 4, 7, 8, 9, 11]),
     ("plans", &[0]),

@@ -14,4 +14,4 @@ pub mod fabric;
 pub mod program;
 pub mod run;
 
-pub mod twintest;
+pub mod programs;

@@ -7,8 +7,8 @@ pub mod drawings;
 pub mod fabric;
 pub mod permutation;
 pub mod plans;
+pub mod programs;
 pub mod selection;
-pub mod twintest;
 
 use mukdalis::{Gate, Plan};
 

@@ -20,7 +20,13 @@ const SUBJECTS: [&[Call]; 6] = [
         Call::SelectionProgramming,
         Call::SelectionDelivery,
     ],
-    &[Call::Counting, Call::Fabric, Call::Run],
+    &[
+        Call::Counting,
+        Call::Sheet,
+        Call::Fabric,
+        Call::KindsInTable,
+        Call::Run,
+    ],
     &[Call::Program, Call::PlanInFabric, Call::PlanRun],
 ];
 

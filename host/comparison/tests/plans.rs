@@ -6,7 +6,7 @@ use std::fs;
 use std::path::{Path, PathBuf};
 
 use comparison::random::Random;
-use comparison::reference::twintest::text;
+use comparison::reference::programs::Program;
 use mukdalis::{
     count_fabric, evaluate, program_plan, read, read_drawn, run_fabric, write_fabric, Fault, Plan,
 };
@@ -246,7 +246,8 @@ fn the_worked_example_shows_the_plan() {
     let file = file_of("example.plan");
     let fields: Vec<&str> = page.lines().filter_map(bytes_first).collect();
     assert_eq!(fields.join(" "), hex(&file));
-    let lines: Vec<String> = text(&file).lines().map(|l| format!("    {l}\n")).collect();
+    let text = Program::Twintest.text(&file);
+    let lines: Vec<String> = text.lines().map(|l| format!("    {l}\n")).collect();
     assert_shows(&page, &lines.concat());
 }
 

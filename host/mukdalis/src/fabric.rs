@@ -1,4 +1,5 @@
-//! The fabric of three counts: its size and table, a plan's program for it, and the run of a table.
+//! The fabric of three counts: its size, its rows by kind and its table; a plan's program for it; and
+//! the run of a table.
 //!
 //! The rows and how a plan is programmed stand in `include/mukdalis.h`.
 
@@ -75,6 +76,62 @@ pub fn count_fabric(u: u32, k: u32, v: u32) -> Result<Size, Fault> {
         rows: counts.rows,
         wires: counts.wires,
         bits: counts.bits,
+    })
+}
+
+/// Rows by kind: of a part of a fabric's table, or of all of it.
+#[repr(C)]
+#[derive(Clone, Copy, Debug, PartialEq, Eq)]
+pub struct Kinds {
+    /// Rows of kind 1, X.
+    pub x: u32,
+    /// Rows of kind 2, Y.
+    pub y: u32,
+    /// Rows of kind 3, G.
+    pub g: u32,
+    /// The three together.
+    pub total: u32,
+}
+
+/// The rows by kind of a fabric's three parts, which stand in its table one after another, and of
+/// the whole table. K is the smallest power of two not below the number of gates.
+#[derive(Clone, Copy, Debug, PartialEq, Eq)]
+pub struct Sheet {
+    /// S(u, 2K), which gives the gates' pins.
+    pub input: Kinds,
+    /// U(K), the universal block.
+    pub block: Kinds,
+    /// S(K, v), which gives the outputs.
+    pub output: Kinds,
+    /// The whole table.
+    pub sum: Kinds,
+}
+
+/// Counts the rows of each kind in the table of the fabric of u inputs, k gates and v outputs.
+///
+/// # Errors
+///
+/// In this order: inputs, gates, outputs.
+///
+/// ```
+/// use mukdalis::{count_kinds, Fault, Kinds};
+///
+/// let sheet = count_kinds(2, 2, 1)?;
+/// assert_eq!(sheet.input, Kinds { x: 10, y: 3, g: 0, total: 13 });
+/// assert_eq!(sheet.block, Kinds { x: 2, y: 3, g: 2, total: 7 });
+/// assert_eq!(sheet.output, Kinds { x: 2, y: 1, g: 0, total: 3 });
+/// assert_eq!(sheet.sum, Kinds { x: 14, y: 7, g: 2, total: 23 });
+/// assert_eq!(count_kinds(2, 2, 0), Err(Fault::Outputs));
+/// # Ok::<(), Fault>(())
+/// ```
+pub fn count_kinds(u: u32, k: u32, v: u32) -> Result<Sheet, Fault> {
+    let counted = raw::count_kinds(u, k, v);
+    answer(counted.number)?;
+    Ok(Sheet {
+        input: counted.input,
+        block: counted.block,
+        output: counted.output,
+        sum: counted.sum,
     })
 }
 

@@ -45,7 +45,9 @@ pub use blocks::{
     count_permutation, count_selection, program_permutation, program_selection, write_permutation,
     write_selection, BlockSize, MAX_SIZE,
 };
-pub use fabric::{count_fabric, program_plan, run_fabric, write_fabric, Size};
+pub use fabric::{
+    count_fabric, count_kinds, program_plan, run_fabric, write_fabric, Kinds, Sheet, Size,
+};
 pub use fault::{Fault, Refusal};
 pub use plan::{check, evaluate, read, read_drawn, DrawnPlan, Gate, Plan};
 

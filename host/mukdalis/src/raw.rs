@@ -3,6 +3,7 @@
 //! The functions at the crate's root make these calls safe. The records are public so that a test
 //! can compare their layout with the header's.
 
+use crate::fabric::Kinds;
 use crate::plan::Plan;
 
 /// `struct mkd_read`: number and offset 0 with the plan, or a refusal with the all-zero record.
@@ -33,6 +34,17 @@ pub struct Counts {
     pub rows: u32,
     pub wires: u32,
     pub bits: u32,
+}
+
+/// `struct mkd_sheet`: number 0 with a fabric's rows by kind, or a refusal with figures 0.
+#[repr(C)]
+#[derive(Clone, Copy, Debug, PartialEq, Eq)]
+pub struct FabricSheet {
+    pub number: u32,
+    pub input: Kinds,
+    pub block: Kinds,
+    pub output: Kinds,
+    pub sum: Kinds,
 }
 
 extern "C" {
@@ -85,6 +97,7 @@ extern "C" {
         program_len: usize,
     ) -> u32;
     fn mkd_count(u: u32, k: u32, v: u32) -> Counts;
+    fn mkd_fabric_sheet(u: u32, k: u32, v: u32) -> FabricSheet;
     pub(crate) fn mkd_fabric(u: u32, k: u32, v: u32, table: *mut u16, table_len: usize) -> u32;
     pub(crate) fn mkd_program(plan: Plan, program: *mut u8, program_len: usize) -> u32;
     pub(crate) fn mkd_run(
@@ -129,4 +142,10 @@ pub fn count_selection(m: u32, n: u32) -> Counts {
 pub fn count(u: u32, k: u32, v: u32) -> Counts {
     // SAFETY: all goes by value, and every value is allowed.
     unsafe { mkd_count(u, k, v) }
+}
+
+/// `mkd_fabric_sheet` of three counts.
+pub fn count_kinds(u: u32, k: u32, v: u32) -> FabricSheet {
+    // SAFETY: all goes by value, and every value is allowed.
+    unsafe { mkd_fabric_sheet(u, k, v) }
 }

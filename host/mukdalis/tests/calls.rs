@@ -147,11 +147,35 @@ fn a_fabric_is_written_programmed_and_run() {
     assert_eq!(result, [0, 9]);
 }
 
+/// S(1, 2) is rows X, Y, X, U(1) the row G, and S(1, 1) a wire.
+#[test]
+fn the_sheet_of_a_fabric_has_its_rows() {
+    let kinds = |x, y, g| Kinds {
+        x,
+        y,
+        g,
+        total: x + y + g,
+    };
+    let sheet = Sheet {
+        input: kinds(2, 1, 0),
+        block: kinds(0, 0, 1),
+        output: kinds(0, 0, 0),
+        sum: kinds(2, 1, 1),
+    };
+    assert_eq!(count_kinds(1, 1, 1), Ok(sheet));
+}
+
 #[test]
 fn refused_fabrics_and_runs_have_their_words() {
-    assert_eq!(count_fabric(65, 0, 0), Err(Fault::Inputs));
-    assert_eq!(count_fabric(64, 257, 0), Err(Fault::Gates));
-    assert_eq!(count_fabric(64, 256, 65), Err(Fault::Outputs));
+    for (u, k, v, fault) in [
+        (65, 0, 0, Fault::Inputs),
+        (64, 257, 0, Fault::Gates),
+        (64, 256, 65, Fault::Outputs),
+    ] {
+        assert_eq!(count_fabric(u, k, v), Err(fault));
+        assert_eq!(count_kinds(u, k, v), Err(fault));
+        assert_eq!(write_fabric(u, k, v, &mut []), Err(fault));
+    }
     assert_eq!(write_fabric(1, 1, 1, &mut [9; 15]), Err(Fault::Short));
 
     let run = |table: &[u16], program: &[u8], row: &[u8], work: &mut [u8]| {

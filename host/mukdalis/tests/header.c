@@ -135,6 +135,27 @@ static int counts_fail(void)
     return 0;
 }
 
+static int are_kinds(struct mkd_kinds kinds, uint32_t x, uint32_t y, uint32_t g, uint32_t total)
+{
+    return kinds.x == x && kinds.y == y && kinds.g == g && kinds.total == total;
+}
+
+/* The rows by kind of the fabric (2, 2, 1), and of none. */
+static int sheets_fail(void)
+{
+    const struct mkd_sheet done = mkd_fabric_sheet(2, 2, 1);
+    const struct mkd_sheet refused = mkd_fabric_sheet(1, 257, 0);
+
+    if (done.number || !are_kinds(done.input, 10, 3, 0, 13) || !are_kinds(done.block, 2, 3, 2, 7) ||
+        !are_kinds(done.output, 2, 1, 0, 3) || !are_kinds(done.sum, 14, 7, 2, 23))
+        return fails("a sheet");
+    if (refused.number != MKD_GATES || !are_kinds(refused.input, 0, 0, 0, 0) ||
+        !are_kinds(refused.block, 0, 0, 0, 0) || !are_kinds(refused.output, 0, 0, 0, 0) ||
+        !are_kinds(refused.sum, 0, 0, 0, 0))
+        return fails("a refused sheet");
+    return 0;
+}
+
 /* The fabric (1, 1, 1), and its run with the program of NOT. */
 static int fabrics_fail(void)
 {
@@ -200,8 +221,13 @@ static void print_layout(void)
            offsetof(struct mkd_read, plan));
     printf(" %zu %zu %zu %zu", sizeof(struct mkd_drawn), offsetof(struct mkd_drawn, at),
            offsetof(struct mkd_drawn, plan), offsetof(struct mkd_drawn, drawn));
-    printf(" %zu %zu %zu %zu\n", sizeof(struct mkd_counts), offsetof(struct mkd_counts, rows),
+    printf(" %zu %zu %zu %zu", sizeof(struct mkd_counts), offsetof(struct mkd_counts, rows),
            offsetof(struct mkd_counts, wires), offsetof(struct mkd_counts, bits));
+    printf(" %zu %zu %zu %zu", sizeof(struct mkd_kinds), offsetof(struct mkd_kinds, y),
+           offsetof(struct mkd_kinds, g), offsetof(struct mkd_kinds, total));
+    printf(" %zu %zu %zu", sizeof(struct mkd_sheet), offsetof(struct mkd_sheet, input),
+           offsetof(struct mkd_sheet, block));
+    printf(" %zu %zu\n", offsetof(struct mkd_sheet, output), offsetof(struct mkd_sheet, sum));
 }
 
 /* Each word of the refusal table with its number. */
@@ -217,7 +243,7 @@ static void print_faults(void)
 int main(void)
 {
     if (plans_fail() || drawn_plans_fail() || counts_fail() || permutations_fail() ||
-        selections_fail() || fabrics_fail())
+        selections_fail() || sheets_fail() || fabrics_fail())
         return 1;
     print_layout();
     print_faults();

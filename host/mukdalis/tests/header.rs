@@ -6,8 +6,8 @@ use std::mem::{offset_of, size_of};
 use std::path::{Path, PathBuf};
 use std::process::Command;
 
-use mukdalis::raw::{Counts, Drawn, Read};
-use mukdalis::{Fault, Gate, Plan, Size, MAX_SIZE};
+use mukdalis::raw::{Counts, Drawn, FabricSheet, Read};
+use mukdalis::{Fault, Gate, Kinds, Plan, Size, MAX_SIZE};
 
 const C11: &[&str] = &["cc", "-std=c11"];
 const CPP: &[&str] = &["c++", "-x", "c++", "-std=c++11"];
@@ -71,6 +71,15 @@ fn records_and_refusals_are_the_packages() {
         offset_of!(Counts, rows),
         offset_of!(Counts, wires),
         offset_of!(Counts, bits),
+        size_of::<Kinds>(),
+        offset_of!(Kinds, y),
+        offset_of!(Kinds, g),
+        offset_of!(Kinds, total),
+        size_of::<FabricSheet>(),
+        offset_of!(FabricSheet, input),
+        offset_of!(FabricSheet, block),
+        offset_of!(FabricSheet, output),
+        offset_of!(FabricSheet, sum),
     ]);
     let faults = Fault::TABLE.map(|(fault, word)| format!("{word} {}", fault.number()));
     let expected = format!("{layout}\n{}\n", faults.join(" "));

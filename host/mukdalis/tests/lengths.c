@@ -167,7 +167,7 @@ static int blocks_fail(void)
     return 0;
 }
 
-/* Whether the macros give what mkd_count does, for all counts, and none of it passes the most. */
+/* Whether the macros give what the calls count, for all counts, and none of it passes the most. */
 static int counts_fail(void)
 {
     const uint32_t most_u = MKD_MAX_INPUTS, most_k = MKD_MAX_GATES, most_v = MKD_MAX_OUTPUTS;
@@ -181,6 +181,8 @@ static int counts_fail(void)
                     counts.wires != MKD_FABRIC_WIRES(u, k, v) ||
                     counts.bits != MKD_FABRIC_BITS(u, k, v))
                     return fails("the counts of a fabric");
+                if (mkd_fabric_sheet(u, k, v).sum.total != MKD_FABRIC_ROWS(u, k, v))
+                    return fails("the sheet of a fabric");
                 if (counts.rows > MKD_MAX_FABRIC_ROWS || counts.wires > MKD_MAX_FABRIC_WIRES ||
                     counts.bits > MKD_MAX_FABRIC_BITS ||
                     MKD_TABLE_LEN(counts.rows, v) > MKD_MAX_TABLE_LEN)

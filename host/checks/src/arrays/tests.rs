@@ -556,6 +556,8 @@ fn values_of_every_form_are_counted() {
         ("fn held() { let mut a = [0u8; 2]; a = [1; 2]; a[0] = 3; }", "a 2, a value in line 11 2"),
         ("fn held() { let a = [0f64; 2]; let b = [true, false]; let c = [1.5f32; 1]; }", "a 16, b 2, c 4"),
         ("fn held(n: u32) -> u32 { std::num::wrapping_add_u32(u32::count_ones(n), 1) }", ""),
+        ("fn held(n: u64) -> usize { let mut a = [0u8; 20]; io::decimal(n, &mut a) }", "a 20"),
+        ("fn held(file: &mut [u8]) -> usize { io::read_full(0, file) }", "io::read_full in line 11 8192"),
         ("fn held(n: u8) { n = [0u8; 0x1_0][n as usize]; }", "a value in line 11 16"),
         ("fn held<'a>(a: &'a mut [u8], b: &'a [u8; 2]) -> u8 { a.len() as u8 + -(b[1] as i8) as u8 }", ""),
         ("fn held(x: u8) { match step(x) { Step::Pair(_, b) | Step::Last(b) => {} Step::None => {} } }", "a value in line 11 8, b 3, b 3, step"),

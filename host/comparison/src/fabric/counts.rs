@@ -1,7 +1,7 @@
-//! Every three counts in range, and counts at and beside their limits.
+//! Both countings of every three counts in range, and of counts at and beside their limits.
 
 use super::super::{first_failing, Comparison, Outcome};
-use super::{compare_counting, count_checks, limit_counts};
+use super::{compare_counting, compare_sheet, count_checks, limit_counts};
 use crate::samples::Counts;
 
 pub fn compare(comparison: &mut Comparison) -> Outcome {
@@ -15,7 +15,9 @@ fn every_three(comparison: &mut Comparison) -> Outcome {
     for u in 1..=most_inputs {
         for k in 1..=most_gates {
             for v in 1..=most_outputs {
-                compare_counting(comparison, [u, k, v].map(u32::from), 0)?;
+                let counts = [u, k, v].map(u32::from);
+                compare_counting(comparison, counts, 0)?;
+                compare_sheet(comparison, counts, 0)?;
             }
         }
     }
@@ -28,7 +30,9 @@ fn limits(comparison: &mut Comparison) -> Outcome {
         for k in limit_counts() {
             for v in limit_counts() {
                 let counts = [u, k, v];
-                compare_counting(comparison, counts, first_failing(&count_checks(counts)))?;
+                let due = first_failing(&count_checks(counts));
+                compare_counting(comparison, counts, due)?;
+                compare_sheet(comparison, counts, due)?;
             }
         }
     }

@@ -1,10 +1,11 @@
-//! Fabrics of every K, many u and v; counts that have none; table buffers short to long.
+//! Fabrics of every K, many u and v, with their rows by kind; counts that have none; table buffers
+//! short to long.
 
 use mukdalis::Fault;
 
 use super::super::buffer::{buffer_lengths, shorter};
 use super::super::{first_failing, Comparison, Outcome};
-use super::{compare_table, count_checks, limit_counts};
+use super::{compare_kinds, compare_table, count_checks, limit_counts};
 use crate::random::Random;
 use crate::samples::fabric::{gates_of, table_len, UNIVERSAL_SIZES};
 use crate::samples::Counts;
@@ -17,12 +18,12 @@ pub fn compare(comparison: &mut Comparison, random: &mut Random) -> Outcome {
     failing_checks(comparison, random)
 }
 
-/// The fabric, into a buffer that may be longer.
+/// The fabric, into a buffer that may be longer, and the kinds of its rows there.
 fn write(comparison: &mut Comparison, random: &mut Random, counts: [u32; 3]) -> Outcome {
     let [u, k, v] = counts;
     let len = table_len(u, k, v) + random.choose(&[0, 0, 1, 7]);
-    compare_table(comparison, random, counts, len, 0)?;
-    Ok(())
+    let table = compare_table(comparison, random, counts, len, 0)?.library;
+    compare_kinds(comparison, counts, &table)
 }
 
 /// For every K every u with some v and every v with some u.

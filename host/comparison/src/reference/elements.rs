@@ -2,7 +2,7 @@
 
 use std::slice::ChunksExactMut;
 
-use mukdalis::Fault;
+use mukdalis::{Fault, Kinds};
 
 /// What a row is. Its discriminant is its number in a table.
 #[derive(Clone, Copy)]
@@ -77,6 +77,12 @@ impl Tally {
 
     pub fn rows(self) -> usize {
         self.sum(|_| 1)
+    }
+
+    /// The rows by kind, as a sheet has them.
+    pub fn kinds(self) -> Kinds {
+        let [x, y, g, total] = [self.x, self.y, self.g, self.rows()].map(|rows| rows as u32);
+        Kinds { x, y, g, total }
     }
 
     /// Entries of the rows in a table.

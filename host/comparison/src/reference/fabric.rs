@@ -1,8 +1,8 @@
-//! The fabric of three counts u, k, v: its size, and its table.
+//! The fabric of three counts u, k, v: its size, its rows by kind, and its table.
 //!
 //! K is the smallest power of two not below k. The parts are S(u, 2K), U(K) and S(K, v).
 
-use mukdalis::{Fault, Plan, Size};
+use mukdalis::{Fault, Plan, Sheet, Size};
 
 use super::elements::{Drawing, Tally};
 use super::plan::is_count;
@@ -18,6 +18,18 @@ pub fn count(u: u32, k: u32, v: u32) -> Result<Size, Fault> {
         rows: tally.rows() as u32,
         wires: 1 + u + tally.wires() as u32,
         bits: tally.bits() as u32,
+    })
+}
+
+/// The rows of each kind in the fabric's parts, and in all of it. Checks: 2, 3, 4.
+pub fn count_kinds(u: u32, k: u32, v: u32) -> Result<Sheet, Fault> {
+    let counts = Counts::new(u, k, v)?;
+    let [input, block, output] = counts.part_tallies().map(Tally::kinds);
+    Ok(Sheet {
+        input,
+        block,
+        output,
+        sum: counts.tally().kinds(),
     })
 }
 
@@ -63,10 +75,18 @@ impl Counts {
         })
     }
 
+    /// The rows of S(u, 2K), of U(K) and of S(K, v).
+    fn part_tallies(&self) -> [Tally; 3] {
+        [
+            selection::tally(self.inputs, 2 * self.gates),
+            universal_tally(self.gates),
+            selection::tally(self.gates, self.outputs),
+        ]
+    }
+
     fn tally(&self) -> Tally {
-        selection::tally(self.inputs, 2 * self.gates)
-            .and(universal_tally(self.gates))
-            .and(selection::tally(self.gates, self.outputs))
+        let [input, block, output] = self.part_tallies();
+        input.and(block).and(output)
     }
 
     /// Draws the fabric's rows and gives its output wires.
@@ -118,7 +138,8 @@ fn universal_tally(gates: usize) -> Tally {
 #[cfg(test)]
 mod tests {
     use super::*;
-    use crate::samples::fabric::table_len;
+    use crate::samples::fabric::{sheet_of, table_len};
+    use mukdalis::Kinds;
 
     fn size(rows: u32, wires: u32, bits: u32) -> Result<Size, Fault> {
         Ok(Size { rows, wires, bits })
@@ -136,6 +157,41 @@ mod tests {
         assert_eq!(count(2, 2, 1), size(23, 40, 29));
         assert_eq!(count(3, 3, 2), size(85, 147, 97));
         assert_eq!(count(64, 256, 64), size(31_489, 58_180, 32_257));
+    }
+
+    /// The sheet of these figures: X, Y, G and their total, of the three parts and of all.
+    fn sheet(figures: [[u32; 4]; 4]) -> Result<Sheet, Fault> {
+        let [input, block, output, sum] = figures.map(|[x, y, g, total]| Kinds { x, y, g, total });
+        Ok(Sheet {
+            input,
+            block,
+            output,
+            sum,
+        })
+    }
+
+    /// S has 2 N log N - 2N + 2 rows X and N - 1 rows Y. U(K) has two U(K / 2), an S of K positions and
+    /// K rows Y; U(1) is a row G.
+    #[test]
+    fn sheet_figures() {
+        let not = [[2, 1, 0, 3], [0, 0, 1, 1], [0, 0, 0, 0], [2, 1, 1, 4]];
+        let two_gates = [[10, 3, 0, 13], [2, 3, 2, 7], [2, 1, 0, 3], [14, 7, 2, 23]];
+        let three_gates = [
+            [34, 7, 0, 41],
+            [14, 13, 4, 31],
+            [10, 3, 0, 13],
+            [58, 23, 4, 85],
+        ];
+        let largest = [
+            [8_194, 511, 0, 8_705],
+            [14_846, 3_841, 256, 18_943],
+            [3_586, 255, 0, 3_841],
+            [26_626, 4_607, 256, 31_489],
+        ];
+        assert_eq!(count_kinds(1, 1, 1), sheet(not));
+        assert_eq!(count_kinds(2, 2, 1), sheet(two_gates));
+        assert_eq!(count_kinds(3, 3, 2), sheet(three_gates));
+        assert_eq!(count_kinds(64, 256, 64), sheet(largest));
     }
 
     #[test]
@@ -158,13 +214,6 @@ mod tests {
         assert_eq!(table[table.len() - 1], 37);
     }
 
-    /// The kinds in a table's rows.
-    fn tally_of(table: &[u16], outputs: u32) -> [usize; 3] {
-        let rows = &table[3..table.len() - outputs as usize];
-        let kinds: Vec<u16> = rows.chunks(3).map(|row| row[0]).collect();
-        [1, 2, 3].map(|kind| kinds.iter().filter(|&&row| row == kind).count())
-    }
-
     #[test]
     fn counts_are_those_of_the_table() {
         for (u, k, v) in [
@@ -179,12 +228,14 @@ mod tests {
             (64, 256, 64),
         ] {
             let table = table(u, k, v);
-            let [x, y, g] = tally_of(&table, v);
-            let rows = x + y + g;
-            assert_eq!(usize::from(table[2]), rows);
-            let wires = 1 + u as usize + 2 * x + y + g;
-            let [rows, wires, bits] = [rows, wires, x + y + 4 * g].map(|count| count as u32);
-            assert_eq!(count(u, k, v), size(rows, wires, bits));
+            let found = sheet_of(&table, k);
+            assert_eq!(count_kinds(u, k, v), Ok(found));
+            let Kinds { x, y, g, total } = found.sum;
+            assert_eq!(u32::from(table[2]), total);
+            assert_eq!(
+                count(u, k, v),
+                size(total, 1 + u + 2 * x + y + g, x + y + 4 * g)
+            );
         }
     }
 
@@ -223,6 +274,7 @@ mod tests {
             (64, 256, 65, Fault::Outputs),
         ] {
             assert_eq!(count(u, k, v), Err(fault));
+            assert_eq!(count_kinds(u, k, v), Err(fault));
             assert_eq!(write(u, k, v, &mut []), Err(fault));
         }
         let mut table = [9; 17];

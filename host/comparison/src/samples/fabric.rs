@@ -1,4 +1,7 @@
-//! Lengths of fabric tables, random well-formed tables of any shape, and runs that are not refused.
+//! Fabric tables' lengths and rows by kind, random well-formed tables of any shape, and runs that are
+//! not refused.
+
+use mukdalis::{Kinds, Sheet};
 
 use super::blocks::{Block, MOST_WIRES};
 use super::Counts;
@@ -20,11 +23,46 @@ fn universal_rows(size: u32) -> u32 {
     size * (level * level + level) + 2 * size - 1
 }
 
-/// Entries of the fabric's table: 3 + 3R + v, where R are the rows of S(u, 2K), U(K) and S(K, v).
-pub fn table_len(u: u32, k: u32, v: u32) -> usize {
+/// Rows of a fabric's parts, in the order in which they stand: S(u, 2K), U(K), S(K, v).
+fn part_rows(u: u32, k: u32, v: u32) -> [u32; 3] {
     let size = k.next_power_of_two();
-    let rows = Block::S(u, 2 * size).rows() + universal_rows(size) + Block::S(size, v).rows();
+    [
+        Block::S(u, 2 * size).rows(),
+        universal_rows(size),
+        Block::S(size, v).rows(),
+    ]
+}
+
+/// Entries of the fabric's table: 3 + 3R + v, where R are the rows of its parts.
+pub fn table_len(u: u32, k: u32, v: u32) -> usize {
+    let rows: u32 = part_rows(u, k, v).iter().sum();
     (3 + 3 * rows + v) as usize
+}
+
+/// The rows of each kind that stand in the parts of a fabric's table, and in all of it. k is the
+/// number of gates that the fabric is for.
+pub fn sheet_of(table: &[u16], k: u32) -> Sheet {
+    let mut rest = kinds(table);
+    let [input, block, output] = part_rows(table[0].into(), k, table[1].into())
+        .map(|rows| count_kinds(rest.by_ref().take(rows as usize)));
+    Sheet {
+        input,
+        block,
+        output,
+        sum: count_kinds(kinds(table)),
+    }
+}
+
+/// How many of these are 1, 2 and 3, and how many there are.
+fn count_kinds(kinds: impl Iterator<Item = u16>) -> Kinds {
+    let kinds: Vec<u16> = kinds.collect();
+    let of = |number| kinds.iter().filter(|&&kind| kind == number).count() as u32;
+    Kinds {
+        x: of(1),
+        y: of(2),
+        g: of(3),
+        total: kinds.len() as u32,
+    }
 }
 
 /// A table by its parts, with its numbers of wires and bits.
@@ -237,6 +275,15 @@ mod tests {
     fn table_lengths() {
         assert_eq!(table_len(1, 1, 1), 16);
         assert_eq!(table_len(64, 256, 64), 3 + 3 * 31_489 + 64);
+    }
+
+    /// The fabric (1, 1, 1): S(1, 2) is its rows X, Y, X, and U(1) its G.
+    #[test]
+    fn rows_are_counted_part_by_part() {
+        let table = [1, 1, 4, 1, 1, 0, 2, 2, 3, 1, 2, 4, 3, 5, 6, 7];
+        let parts = |sheet: Sheet| [sheet.input, sheet.block, sheet.output, sheet.sum];
+        let figures = parts(sheet_of(&table, 1)).map(|part| [part.x, part.y, part.g, part.total]);
+        assert_eq!(figures, [[2, 1, 0, 3], [0, 0, 1, 1], [0; 4], [2, 1, 1, 4]]);
     }
 
     #[test]

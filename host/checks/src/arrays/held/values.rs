@@ -2,7 +2,7 @@
 
 use std::collections::HashMap;
 
-use super::{field, Counted, Walk, Walked};
+use super::{field, Counted, Held, Walk, Walked};
 use crate::arrays::library::{Entity, Standing};
 use crate::arrays::syntax::{Block, Expression, ExpressionForm as Of, Form, Path, Pattern};
 use crate::arrays::tokens::fail;
@@ -273,11 +273,15 @@ impl Walk<'_> {
                 Ok(of)
             }
             Err(failure) => {
-                let Some(of) = of_kit(&path.words) else {
+                let Some((of, bytes)) = of_kit(&path.words) else {
                     return Err(failure);
                 };
                 for argument in arguments {
                     self.value(argument, None, Counted::Here)?;
+                }
+                if bytes > 0 {
+                    let what = format!("{} in line {line}", path.words.join("::"));
+                    self.found.held.push(Held { what, bytes });
                 }
                 Ok(of)
             }
@@ -314,18 +318,21 @@ impl Walk<'_> {
     }
 }
 
-/// What a call of the kit gives. These take and give numbers, and hold no array.
-fn of_kit(words: &[String]) -> Option<Type> {
+/// What a call of the kit gives, and the bytes of arrays that it holds with the calls under it. The
+/// kit's `read_full` has a local of 4,096 bytes, which a call under it makes.
+fn of_kit(words: &[String]) -> Option<(Type, u64)> {
     let words: Vec<&str> = words.iter().map(String::as_str).collect();
     match words.as_slice() {
         ["std", "num", call] => {
             let mut names = ["wrapping_add_", "wrapping_sub_"].iter();
             let of = names.find_map(|name| call.strip_prefix(name))?;
-            width(of).map(|bytes| Type::Number(Some(bytes)))
+            width(of).map(|bytes| (Type::Number(Some(bytes)), 0))
         }
         [of, "leading_zeros" | "trailing_zeros" | "count_ones"] => {
-            width(of).map(|_| Type::Number(Some(4)))
+            width(of).map(|_| (Type::Number(Some(4)), 0))
         }
+        ["io", "decimal"] => Some((Type::Number(Some(8)), 0)),
+        ["io", "read_full"] => Some((Type::Number(Some(8)), 2 * 4096)),
         _ => None,
     }
 }

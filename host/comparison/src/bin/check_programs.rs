@@ -1,8 +1,9 @@
-//! Runs the program `twintest` on many files and compares what it prints with the reference.
+//! Runs the programs `twintest` and `fabricsheet` on many files and compares what they print with the
+//! reference.
 //!
-//! Usage: `check_twintest [PROGRAM]`; without it, the program that the repository builds.
-//! Prints what it compared. Exit status 1, with the first differing case, if the program prints
-//! anything else, ends by a signal, or ends a shown plan with a status other than 0.
+//! Usage: `check_programs [FOLDER]`, the folder that the programs are in; without it, that of the
+//! repository. Prints what it compared. Exit status 1, with the first differing case, if a program
+//! prints anything else, ends by a signal, or ends a shown plan with a status other than 0.
 
 use std::error::Error;
 use std::io::{self, Write};
@@ -12,55 +13,56 @@ use std::time::Duration;
 use std::{env, fs, thread};
 
 use comparison::random::Random;
-use comparison::reference::twintest::text;
-use comparison::samples::twintest::{random_files, stored};
+use comparison::reference::programs::Program;
+use comparison::samples::programs::{random_files, stored};
 
-const SEED: u64 = 0x7477_696e_7465_7374;
+const SEED: u64 = 0x7072_6f67_7261_6d73;
 
-/// One place for each number that the program may refuse with, and place 0 for a shown plan.
+/// One place for each number that a program may refuse with, and place 0 for a shown plan.
 const ANSWERS: usize = 12;
 
-/// Time for the program to read the first bytes of a file before it gets the others.
+/// Time for a program to read the first bytes of a file before it gets the others.
 const PAUSE: Duration = Duration::from_millis(20);
 
 fn main() -> ExitCode {
     match run() {
         Ok(()) => ExitCode::SUCCESS,
         Err(error) => {
-            eprintln!("check_twintest: {error}");
+            eprintln!("check_programs: {error}");
             ExitCode::FAILURE
         }
     }
 }
 
 fn run() -> Result<(), Box<dyn Error>> {
-    let path = env::args_os().nth(1).map_or_else(built, PathBuf::from);
-    let program =
-        fs::canonicalize(&path).map_err(|error| format!("{}: {error}", path.display()))?;
-    let mut check = Check {
-        program: &program,
-        answers: [0; ANSWERS],
-    };
+    let folder = env::args_os().nth(1).map_or_else(built, PathBuf::from);
     println!("seed {SEED:#x}");
-
-    let pairs = stored()?;
-    for pair in &pairs {
-        for feed in [Feed::Whole, Feed::InPieces] {
-            check.compare(&pair.name, &pair.file, &pair.text, feed)?;
-        }
-    }
-    println!("stored files, whole and in two pieces: {}", pairs.len());
-    for kind in random_files(&mut Random::new(SEED)) {
-        for file in &kind.files {
-            check.compare(kind.name, file, &text(file), Feed::Whole)?;
-        }
+    let stored = stored()?;
+    let kinds = random_files(&mut Random::new(SEED));
+    println!("stored files, whole and in two pieces: {}", stored.len());
+    for kind in &kinds {
         println!("{}: {}", kind.name, kind.files.len());
     }
-    check.finish()
+
+    for program in Program::ALL {
+        let mut check = Check::new(program, &folder)?;
+        for case in &stored {
+            for feed in [Feed::Whole, Feed::InPieces] {
+                check.compare(&case.name, &case.file, case.text(program), feed)?;
+            }
+        }
+        for kind in &kinds {
+            for file in &kind.files {
+                check.compare(kind.name, file, &program.text(file), Feed::Whole)?;
+            }
+        }
+        check.finish()?;
+    }
+    Ok(())
 }
 
 fn built() -> PathBuf {
-    Path::new(env!("CARGO_MANIFEST_DIR")).join("../../target/bin/twintest")
+    Path::new(env!("CARGO_MANIFEST_DIR")).join("../../target/bin")
 }
 
 /// How the program gets a file: one read may give all of it, or not.
@@ -70,13 +72,25 @@ enum Feed {
     InPieces,
 }
 
-struct Check<'a> {
-    program: &'a Path,
+struct Check {
+    program: Program,
+    path: PathBuf,
     /// How often each answer was given.
     answers: [u32; ANSWERS],
 }
 
-impl Check<'_> {
+impl Check {
+    fn new(program: Program, folder: &Path) -> Result<Check, Box<dyn Error>> {
+        let path = folder.join(program.name());
+        let path =
+            fs::canonicalize(&path).map_err(|error| format!("{}: {error}", path.display()))?;
+        Ok(Check {
+            program,
+            path,
+            answers: [0; ANSWERS],
+        })
+    }
+
     /// Compares what the program prints for a file with the expected text.
     fn compare(
         &mut self,
@@ -85,14 +99,14 @@ impl Check<'_> {
         expected: &str,
         feed: Feed,
     ) -> Result<(), Box<dyn Error>> {
-        let output = output(self.program, file, feed)?;
+        let output = output(&self.path, file, feed)?;
         let answer = number(expected);
         let ended = match output.status.code() {
             Some(status) => status == 0 || answer != 0,
             None => false,
         };
         if !ended || output.stdout != expected.as_bytes() {
-            return Err(difference(case, file, feed, expected, &output).into());
+            return Err(self.difference(case, file, feed, expected, &output).into());
         }
         self.answers[answer] += 1;
         Ok(())
@@ -100,17 +114,39 @@ impl Check<'_> {
 
     /// Prints the totals. Fails if an answer was never due.
     fn finish(&self) -> Result<(), Box<dyn Error>> {
-        print!("shown: {}", self.answers[0]);
+        let name = self.program.name();
+        print!("{name}, shown: {}", self.answers[0]);
         for (number, times) in self.answers.iter().enumerate().skip(1) {
             print!(", refused {number}: {times}");
         }
         println!();
         if let Some(number) = self.answers.iter().position(|&times| times == 0) {
-            return Err(format!("no file had the answer {number}").into());
+            return Err(format!("{name}: no file had the answer {number}").into());
         }
         let total: u32 = self.answers.iter().sum();
-        println!("twintest: {total} texts compared, no difference");
+        println!("{name}: {total} texts compared, no difference");
         Ok(())
+    }
+
+    fn difference(
+        &self,
+        case: &str,
+        file: &[u8],
+        feed: Feed,
+        expected: &str,
+        output: &Output,
+    ) -> String {
+        let bytes: Vec<String> = file.iter().map(|byte| format!("{byte:02x}")).collect();
+        format!(
+            "a difference in: {case}\nfile, {feed:?}: {} bytes {}\nreference:\n{expected}\
+             {}, {}:\n{}\nits errors:\n{}",
+            file.len(),
+            bytes.join(" "),
+            self.program.name(),
+            output.status,
+            String::from_utf8_lossy(&output.stdout),
+            String::from_utf8_lossy(&output.stderr)
+        )
     }
 }
 
@@ -148,17 +184,4 @@ fn give(child: &mut Child, file: &[u8], feed: Feed) -> io::Result<()> {
             stdin.write_all(rest)
         }
     }
-}
-
-fn difference(case: &str, file: &[u8], feed: Feed, expected: &str, output: &Output) -> String {
-    let bytes: Vec<String> = file.iter().map(|byte| format!("{byte:02x}")).collect();
-    format!(
-        "a difference in: {case}\nfile, {feed:?}: {} bytes {}\nreference:\n{expected}\
-         program, {}:\n{}\nits errors:\n{}",
-        file.len(),
-        bytes.join(" "),
-        output.status,
-        String::from_utf8_lossy(&output.stdout),
-        String::from_utf8_lossy(&output.stderr)
-    )
 }

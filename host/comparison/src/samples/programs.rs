@@ -1,4 +1,5 @@
-//! Files for the program `twintest`: the stored ones with their texts, and random ones by kind.
+//! Files for the programs `twintest` and `fabricsheet`: the stored ones with their texts, and random
+//! ones by kind.
 
 use std::fs;
 use std::io;
@@ -7,34 +8,52 @@ use std::path::Path;
 use super::plans::{shaped_plan, PlanShape};
 use super::{accepted_file, accepted_plan, Counts, PlanFile, Standing, LONGEST_FILE};
 use crate::random::Random;
-use crate::reference::twintest::SHOWN_GATES;
+use crate::reference::programs::{Program, SHOWN_GATES};
 
-/// A stored file and all that the program prints for it.
+/// A stored file, and all that each program prints for it.
 pub struct Stored {
     pub name: String,
     pub file: Vec<u8>,
-    pub text: String,
+    /// In the order of `Program::ALL`.
+    texts: Vec<String>,
 }
 
-/// The stored pairs of `tests/twintest`, by name: NAME.plan and NAME.txt.
+impl Stored {
+    pub fn text(&self, program: Program) -> &str {
+        &self.texts[program as usize]
+    }
+}
+
+/// The stored files of `tests/programs`, by name: NAME.plan, with NAME.PROGRAM.txt for each program,
+/// or NAME.txt where all print the same.
 pub fn stored() -> io::Result<Vec<Stored>> {
-    let folder = Path::new(env!("CARGO_MANIFEST_DIR")).join("tests/twintest");
-    let mut pairs = Vec::new();
+    let folder = Path::new(env!("CARGO_MANIFEST_DIR")).join("tests/programs");
+    let mut files = Vec::new();
     for entry in fs::read_dir(folder)? {
         let path = entry?.path();
         if path
             .extension()
             .is_some_and(|extension| extension == "plan")
         {
-            pairs.push(Stored {
+            let texts = Program::ALL.iter().map(|&program| text_of(&path, program));
+            files.push(Stored {
                 name: path.file_stem().unwrap_or_default().display().to_string(),
                 file: fs::read(&path)?,
-                text: fs::read_to_string(path.with_extension("txt"))?,
+                texts: texts.collect::<io::Result<_>>()?,
             });
         }
     }
-    pairs.sort_by(|one, other| one.name.cmp(&other.name));
-    Ok(pairs)
+    files.sort_by(|one, other| one.name.cmp(&other.name));
+    Ok(files)
+}
+
+/// The text that is stored for a program beside a plan file.
+fn text_of(plan: &Path, program: Program) -> io::Result<String> {
+    let common = plan.with_extension("txt");
+    if common.exists() {
+        return fs::read_to_string(common);
+    }
+    fs::read_to_string(plan.with_extension(format!("{}.txt", program.name())))
 }
 
 /// Files of one kind.

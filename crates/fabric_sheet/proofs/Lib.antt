@@ -1,0 +1,2 @@
+-- one law over rows: their kinds from their counts
+pub mod KindsLaws

@@ -1,0 +1,2 @@
+-- which text each case has, and that it fits
+pub mod SheetTextLaws

@@ -1,0 +1,2 @@
+-- what the program writes for a file
+pub mod SheetText
