@@ -246,9 +246,11 @@ fn the_worked_example_shows_the_plan() {
     let file = file_of("example.plan");
     let fields: Vec<&str> = page.lines().filter_map(bytes_first).collect();
     assert_eq!(fields.join(" "), hex(&file));
-    let text = Program::Twintest.text(&file);
-    let lines: Vec<String> = text.lines().map(|l| format!("    {l}\n")).collect();
-    assert_shows(&page, &lines.concat());
+    for program in Program::ALL {
+        let text = program.text(&file);
+        let lines: Vec<String> = text.lines().map(|l| format!("    {l}\n")).collect();
+        assert_shows(&page, &lines.concat());
+    }
 }
 
 /// The first cell of a table's line if it holds bytes in hex.
