@@ -1,5 +1,5 @@
 -- The digits that the kit spells, the fewest that hold a number, are its decimal digits.
-use mathlib.Core.Path.{_≡_, refl, sym, ap, ap₂, _∙_}
+use mathlib.Core.Path.{_≡_, ap}
 use mathlib.Core.Bool.{Bool, true, false, cond}
 use mathlib.Core.List.{List, [], _∷_, _++_}
 use Prim.Native.Nat.{ℕ, zero, suc, _+_, _-_, _*_, _/_, _%_, _^_, _≤_, _<_}
@@ -9,7 +9,7 @@ use borrow.Author.Tests.{lt-ltb, le-ltb}
 use lib.Dec.{ltb, lit≤}
 use lib.ListN.{length, length-append}
 use Rattle.io.specs.Digits.{digits, Fewest}
-use Rattle.console.specs.Text.{digit, decimalWithin}
+use Rattle.console.specs.Text.{digit, decimalWithin, mostDigits, named}
 
 sub-one : (k : ℕ) → suc k - 1 ≡ k
 sub-one k = omega arith
@@ -47,3 +47,7 @@ decimal-length (suc most) n = go (ltb n 10) (decimal-length most (n / 10))
         → length (cond b (digit n ∷ []) (decimalWithin most (n / 10) ++ (digit (n % 10) ∷ []))) ≤ suc most
     go true h = omega arith
     go false h = rw (length-append (decimalWithin most (n / 10)) (digit (n % 10) ∷ [])) (omega arith)
+
+-- a word and its number
+pub named-long : (name : List ℕ) (n : ℕ) → length (named name n) ≤ length name + mostDigits
+named-long name n = rw (length-append name (decimalWithin mostDigits n)) (omega (arith, decimal-length mostDigits n))

@@ -15,7 +15,7 @@ unfoldable pub ascii : String → List ℕ
 ascii none = []
 ascii (c then s) = code c ∷ ascii s
 
--- the byte of a digit
+-- the byte of a digit: that of 0 is 48
 abbrev pub digit : ℕ → ℕ
 digit d = 48 + d
 

@@ -10,7 +10,7 @@ use plan_reading::PlanRead;
 use plan_reading::ReadAnswer;
 use plan_reading::read_plan;
 
-// A plan with more gates is refused: the programs' buffers hold no larger fabric.
+// A program refuses a plan with more gates, as document 01 says of `twintest`.
 const MOST_GATES: u16 = 64;
 
 // Reads standard input to its end, or until the buffer is full, and answers how many bytes there are.

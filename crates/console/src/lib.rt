@@ -1,5 +1,5 @@
-// What the programs share: standard input, the plan that it holds, and text in a lent buffer. No contract can speak of what is read; every
-// other byte that a program hands on for writing is what the contracts say.
+// What the programs share: standard input, the plan that it holds, and text in a lent buffer. No contract says what standard input gives; what is
+// read from it and what is put into a text are what the contracts say.
 mod input;
 mod text;
 

@@ -21,7 +21,7 @@ use Rattle.blocks.proofs.ElementsLaws.{total-append}
 use Rattle.plan.specs.Faults.{countsFault}
 use Rattle.fabric_universal.specs.Fabric.{inputPart, blockPart, outputPart, fabricRows, fabricOuts, fabricTable}
 use Rattle.fabric_universal.proofs.FabricLaws.{fabric-totals}
-use Rattle.fabric_sizes.specs.Layout.{rowAt, kindAt, rowsIn}
+use Rattle.fabric_sizes.specs.Layout.{rowAt, kindAt}
 use Rattle.fabric_sizes.specs.Counting.{tableLength}
 use Rattle.fabric_sizes.specs.FabricChecks.{fabricFault}
 use Rattle.fabric_sheet.specs.Sheet.{kindOf, ofKind, kindsOf, sheetOf, kindCounting}
@@ -126,4 +126,4 @@ module _ (u k v : ℕ) (table : List ℕ) (e : fabricFault u k v (length table) 
       (subst (λ (o : SheetOutcome). SheetStands u k v (tableOf u v rows past) o) (sym counts-pass) sheet-stands)
 
 pub sheet-promise : SheetPromise
-sheet-promise u k v table e = promised u k v table e
+sheet-promise = promised

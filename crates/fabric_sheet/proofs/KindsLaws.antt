@@ -1,8 +1,8 @@
 -- The kinds of rows from their counts, by one law over rows: an X makes a wire more than another row, a G takes three bits more, and each row is of
 -- one of the three kinds. So the figures of each part of a fabric follow from its counts, and those of the whole are the sums of the parts'.
 use mathlib.Core.Path.{_≡_, refl, sym, ap, _∙_}
-use mathlib.Core.List.{List, [], _∷_, _++_}
-use Prim.Native.Nat.{ℕ, zero, suc, _+_, _-_, _*_, _/_, _^_, _≤_}
+use mathlib.Core.List.{List, _∷_, _++_}
+use Prim.Native.Nat.{ℕ, _+_, _-_, _*_, _/_, _^_, _≤_}
 use native.Mathlib.Omega.{arith}
 use lib.Dec.{eqb}
 use lib.ListN.{length}

@@ -1,6 +1,5 @@
--- The kinds of rows from their counts: an X row makes a wire more than the one of another row, a G row takes three bits more than the one of
--- another row.
-use Prim.Native.Nat.{ℕ, _+_, _-_, _/_, _≤_}
+-- The kinds of rows from their counts: an X row makes two wires, another row one; a G row takes four bits, another row one.
+use Prim.Native.Nat.{_+_, _-_, _/_, _≤_}
 use Rattle.elements.specs.declared.Counts.{Counts}
 use Rattle.elements.specs.declared.KindCounts.{KindCounts}
 use Rattle.fabric_sizes.specs.Parts.{blockLimit}

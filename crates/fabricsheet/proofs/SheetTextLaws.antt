@@ -1,6 +1,6 @@
 -- The text of each case, and how long it is at most.
 use mathlib.Core.Path.{_≡_, refl, sym, ap, _∙_}
-use mathlib.Core.List.{List, _++_}
+use mathlib.Core.List.{List}
 use Prim.Native.Nat.{ℕ, zero, suc, _+_, _*_, _≤_}
 use native.Mathlib.Omega.{arith}
 use lib.ListN.{length, length-append}
@@ -18,9 +18,9 @@ use Rattle.plan_reading.specs.declared.reading.PlanRead.{PlanRead}
 use Rattle.plan_reading.specs.PlanFile.{ReadOutcome}
 use Rattle.plan_reading.specs.Answers.{answerOutcome, readOutcome}
 use Rattle.fabric.specs.Fabrics.{kindCounting}
-use Rattle.console.specs.Text.{ascii, decimalWithin, mostDigits, named}
+use Rattle.console.specs.Text.{ascii, mostDigits}
 use Rattle.console.specs.Plans.{smallPlanRead, refusalLine}
-use Rattle.console.proofs.DecimalLaws.{decimal-length}
+use Rattle.console.proofs.DecimalLaws.{named-long}
 use Rattle.fabricsheet.specs.SheetText.{kindsLine, sheetLines, countedText, planText, readText, fileText}
 
 -- ---- how long
@@ -28,9 +28,6 @@ use Rattle.fabricsheet.specs.SheetText.{kindsLine, sheetLines, countedTe
 -- places for the longest text
 abbrev pub textRoom : ℕ
 textRoom = 4 * (6 + 4 * (1 + mostDigits) + 1)
-
-named-long : (name : List ℕ) (n : ℕ) → length (named name n) ≤ length name + mostDigits
-named-long name n = rw (length-append name (decimalWithin mostDigits n)) (omega (arith, decimal-length mostDigits n))
 
 line-long : (name : List ℕ) (c : KindCounts) → length (kindsLine name c) ≤ length name + 4 * (1 + mostDigits) + 1
 unfolding ascii

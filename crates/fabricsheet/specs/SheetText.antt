@@ -1,6 +1,5 @@
 -- Document 02, W3: what `fabricsheet` writes for a file: four lines, or the line of a refusal.
 use Prim.Native.Nat.{ℕ, zero, suc}
-use Prim.Native.String.{String}
 use mathlib.Core.List.{List, _++_}
 use Rattle.elements.specs.declared.KindCounts.{KindCounts}
 use Rattle.elements.specs.declared.Sheet.{Sheet}

@@ -1,8 +1,14 @@
 // Reads a plan on standard input and writes its counts, then a line for each input row: the inputs, the plan's outputs and the fabric's.
 // Input and output alone are here; every answer is the library's.
+ghost use mathlib.Core.Path.{_≡_};
+ghost use lib.ListN.{take};
+ghost use Rattle.console.specs.Text.{Puts};
+ghost use Rattle.twintest.specs.CountsLine.{countsLine};
+
 mod line;
 mod rows;
 
+use console::put_byte;
 use console::put_named;
 use console::put_refusal;
 use console::read_input;
@@ -11,8 +17,8 @@ use elements::CountAnswer;
 use elements::Counts;
 use fabric::count_fabric;
 use fault::Fault;
+use line::Line;
 use line::blank;
-use line::print;
 use plan::Plan;
 use plan_reading::ReadAnswer;
 use rows::print_rows;
@@ -53,16 +59,25 @@ fn print_plan(plan: Plan) {
     }
 }
 
-// Line one.
+// Writes line one.
 fn print_counts(u: u16, k: u16, v: u16, c: Counts) {
     let mut line = blank();
-    let mut n = put_named(&mut line, 0, b"u ", u as u64);
-    n = put_named(&mut line, n, b" k ", k as u64);
-    n = put_named(&mut line, n, b" v ", v as u64);
-    n = put_named(&mut line, n, b" rows ", c.rows as u64);
-    n = put_named(&mut line, n, b" wires ", c.wires as u64);
-    n = put_named(&mut line, n, b" bits ", c.bits as u64);
-    print(&mut line, n);
+    let n = put_counts(&mut line, u, k, v, c);
+    io::write_all(1, &line[..n]);
+}
+
+// Line one, whole.
+fn put_counts(line: &mut Line, u: u16, k: u16, v: u16, c: Counts) -> usize
+    ensures put { λ r. ⌜ Puts (now (line .entry)) 0 (countsLine u k v c) (now (line .exit)) r ⌝ }
+    ensures whole { λ r. ⌜ take r (now (line .exit)) ≡ countsLine u k v c ⌝ }
+{
+    let mut n = put_named(line, 0, b"u ", u as u64);
+    n = put_named(line, n, b" k ", k as u64);
+    n = put_named(line, n, b" v ", v as u64);
+    n = put_named(line, n, b" rows ", c.rows as u64);
+    n = put_named(line, n, b" wires ", c.wires as u64);
+    n = put_named(line, n, b" bits ", c.bits as u64);
+    put_byte(line, n, b'\n')
 }
 
 // A refusal's number and place.

@@ -9,15 +9,17 @@ refused : tie.Need-returns
 refused c =
     let put = c .before .before in
     let answer = put .before .before .before in
-    let call = answer .before .before .count-kinds in
-    puts-same (refused-sheet-text _ (call .result) (call .ensures) _ (answer .f .given .1)) (put .put-refusal .ensures)
+    let call = answer .before .before in
+    let a = call .before .before .before .before .before .args in
+    puts-same (refused-sheet-text (a .plan) (call .count-kinds .result) (call .count-kinds .ensures) _ (answer .f .given .1)) (put .put-refusal .ensures)
 
 counted : tie.Need-returns-2
 counted c =
     let put = c .before .before in
     let answer = put .before .before .before in
-    let call = answer .before .before .count-kinds in
-    puts-same (sheet-text _ (call .result) (call .ensures) _ (answer .s .given .1)) (put .put-sheet .ensures)
+    let call = answer .before .before in
+    let a = call .before .before .before .before .before .args in
+    puts-same (sheet-text (a .plan) (call .count-kinds .result) (call .count-kinds .ensures) _ (answer .s .given .1)) (put .put-sheet .ensures)
 
 pub put-plan-spec : {M : Type 1} → statement M
 put-plan-spec =

@@ -3,7 +3,6 @@ use native.Mathlib.Omega.{arith}
 use mathlib.Core.Path.{ap, _∙_}
 use borrow.Author.Needs.{needs}
 use Rattle.plan.specs.declared.record.Plan.{Plan}
-use Rattle.plan_reading.specs.PlanFile.{ReadOutcome}
 use Rattle.console.proofs.PlansLaws.{small-refused, small-accepted, large-refused}
 use Rattle.console.proofs.input.read_small_plan.Statement.{statement}
 use Rattle.console.proofs.input.read_small_plan.Tie as tie

@@ -1,0 +1,2 @@
+-- how long line one is at most
+pub mod CountsLineLaws

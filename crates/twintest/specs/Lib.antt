@@ -1,0 +1,2 @@
+-- line one of the program
+pub mod CountsLine
