@@ -1,53 +1,23 @@
--- The values of a plan's wires, and of the spare gates past them, are as the gates that U(K) is programmed for say. A wire's value does not
--- change as gates are added, and gate g's is made of its operands' values, which come before it.
+-- The values of a plan's wires, and of the spare gates past them, are as the gates that U(K) is programmed for say.
 use mathlib.Core.Path.{_≡_, refl, _∙_}
 use mathlib.Core.Bool.{cond}
 use mathlib.Core.List.{List, [], _∷_}
 use Prim.Native.Nat.{ℕ, zero, suc, _+_, _-_, _*_, _/_, _%_, _≤_, _<_}
-use native.Mathlib.Decide.{decLt, ℕ-discrete}
+use native.Mathlib.Decide.{decLt}
 use native.Mathlib.Omega.{arith}
 use borrow.Author.Tests.{lt-ltb, le-ltb, le-leb, lt-leb}
 use lib.Dec.{leb}
-use lib.ListN.{length, getD, List·getD-append}
-use lib.Seq.{getD-at}
+use lib.ListN.{length, getD}
 use Rattle.blocks.specs.Elements.{operands, choose}
 use Rattle.plan.specs.declared.record.Plan.{Plan}
 use Rattle.plan.specs.Record.{gateAt, gateWire}
 use Rattle.plan.specs.Faults.{Accepted}
 use Rattle.plan.proofs.FaultsLaws.{accepted-counts, accepted-gate}
-use Rattle.plan_evaluation.specs.Evaluation.{valueOn, planWires}
-use Rattle.plan_evaluation.proofs.EvaluationLaws.{length-planWires}
+use Rattle.plan_evaluation.specs.Evaluation.{planWires}
+use Rattle.plan_evaluation.proofs.EvaluationLaws.{wires-stay, gate-value}
 use Rattle.fabric_universal.specs.Universal.{tableProgram}
 use Rattle.fabric_universal.specs.Fabric.{spareGate, paddedGate, planGates}
 use Rattle.fabric_universal.proofs.UniversalRun.{Values}
-
--- ---- evaluation
-
-module _ {A : Type 0} (none : A) (act : ℕ → ℕ → A → A → A) (p : Plan) (row : List A) where
-  -- more gates change no value
-  pub wires-stay : (m n i : ℕ) → m ≤ n → i < length row + m → getD (planWires none act p row n) i none ≡ getD (planWires none act p row m) i none
-  unfolding planWires
-  wires-stay m zero i h l = let e : m ≡ zero = omega arith in rw e
-  wires-stay m (suc n) i h l =
-      let ih = wires-stay m n i in
-      elim (ℕ-discrete m (suc n)) [
-        | yes e ↦ rw e
-        | no d ↦
-            List·getD-append (planWires none act p row n) _ none i (omega (arith, length-planWires none act p row n))
-            ∙ ih (omega arith) l
-      ]
-
-  last-value : (g : ℕ) → let ws : List A = planWires none act p row g in
-      getD (planWires none act p row (suc g)) (length row + g) none
-      ≡ act g (gateAt p g .table) (valueOn none ws (gateAt p g .first)) (valueOn none ws (gateAt p g .second))
-  unfolding planWires
-  last-value g = getD-at (planWires none act p row g) _ [] none (length row + g) (length-planWires none act p row g)
-
-  -- gate g's value is made of the wires before it
-  pub gate-value : (n g : ℕ) → g < n → let ws : List A = planWires none act p row g in
-      getD (planWires none act p row n) (length row + g) none
-      ≡ act g (gateAt p g .table) (valueOn none ws (gateAt p g .first)) (valueOn none ws (gateAt p g .second))
-  gate-value n g l = wires-stay (suc g) n (length row + g) l (omega arith) ∙ last-value g
 
 -- ---- the gates that U(K) is programmed for
 

@@ -40,6 +40,10 @@ tableBit t a b = t / 2 ^ (2 * a + b) % 2
 abbrev pub gateBit : ℕ → ℕ → ℕ → ℕ → ℕ
 gateBit i t a b = tableBit t a b
 
+-- the bit on wire w in evaluation
+abbrev pub wireBit : Plan → List ℕ → ℕ → ℕ
+wireBit p row w = valueOn 0 (planWires 0 gateBit p row (p .«gate_count»)) (wire w)
+
 -- the result buffer after the call
 abbrev pub evaluateResult : Plan → List ℕ → List ℕ → List ℕ
 evaluateResult p row result = filled (evaluateFault p row (length result)) (planOutputs 0 gateBit p row) result

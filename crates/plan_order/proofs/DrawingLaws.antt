@@ -9,8 +9,7 @@ use native.Mathlib.Decide.{ℕ-discrete, decLe}
 use native.Mathlib.Omega.{arith}
 use borrow.Author.Tests.{eqb-true, le-leb, lt-leb}
 use lib.Dec.{eqb}
-use lib.ListN.{length, getD, take, List·getD-append}
-use lib.Seq.{getD-at}
+use lib.ListN.{length, getD, take}
 use Rattle.lists.specs.Lists.{listOf}
 use Rattle.lists.proofs.ListsLaws.{getD-listOf}
 use Rattle.lists.proofs.CountingLaws.{passed, both-ways}
@@ -21,8 +20,8 @@ use Rattle.plan.specs.Faults.{GateWithin}
 use Rattle.plan.proofs.FaultsLaws.{accepted-bounds}
 use Rattle.plan_evaluation_checks.specs.EvaluationChecks.{contactFault}
 use Rattle.plan_evaluation_checks.proofs.EvaluationChecksLaws.{row-length, row-bit}
-use Rattle.plan_evaluation.specs.Evaluation.{planWires, valueOn, tableBit, gateBit}
-use Rattle.plan_evaluation.proofs.EvaluationLaws.{length-planWires, wire-bit}
+use Rattle.plan_evaluation.specs.Evaluation.{planWires, gateBit, wireBit}
+use Rattle.plan_evaluation.proofs.EvaluationLaws.{wires-stay, wire-bit, gate-bit}
 use Rattle.plan_order.specs.Order.{has, supplied, TakenInOrder}
 use Rattle.plan_order.specs.Drawing.{placeIn, drawnFirst, drawnSecond, drawnOrder, renumbered, renumberedGate, orderedPlan, Orderable, OrderedRight, Fits, GivesTheSame, OrderedPlanTheorem, DrawingTheorem}
 use Rattle.plan_order.proofs.OrderLaws.{ready-parts, order-theorem}
@@ -146,53 +145,25 @@ module _ (d : Plan) (orderable : Orderable d) where
   -- ---- the bits of the wires
 
   module _ (row : List ℕ) (contacts : contactFault u row ≡ 0) where
-    size : length row ≡ u
-    size = row-length u row contacts
-
-    abbrev W : ℕ → List ℕ
-    W = planWires 0 gateBit P row
-
-    -- a wire keeps its value when further gates come
-    kept : (n m i : ℕ) → n ≤ m → i < u + n → getD (W m) i 0 ≡ getD (W n) i 0
+    -- an input's wire has its entry of the row
+    input-bit : (i : ℕ) → i < u → wireBit P row (suc i) ≡ getD row i 0
     unfolding planWires
-    kept n zero i l h = let z : n ≡ 0 = omega arith in rw z
-    kept n (suc m) i l h = elim (ℕ-discrete n (suc m)) [
-      | yes e ↦ rw e
-      | no f ↦ List·getD-append (W m) _ 0 i (omega (arith, length-planWires 0 gateBit P row m, size)) ∙ kept n m i (omega arith) h
-    ]
-
-    start : (i : ℕ) → getD (W 0) i 0 ≡ getD row i 0
-    unfolding planWires
-    start i = refl
-
-    -- the bit of a wire of the plan
-    abbrev value : ℕ → ℕ
-    value w = getD (W k) (w - 1) 0
-
-    -- a gate's bit, of its operands' bits
-    own-value : (p : ℕ) → p < k → value (gateWire u p) ≡ tableBit (gateAt P p .table) (value (gateAt P p .first .0)) (value (gateAt P p .second .0))
-    unfolding planWires
-    own-value p l =
-        let w = gate-within p l in
-        let earlier : (x : ℕ) → x < gateWire u p → 1 ≤ x → getD (W p) (x - 1) 0 ≡ value x = λ x h m. sym (kept p k (x - 1) (omega arith) (omega arith)) in
-        kept (suc p) k (gateWire u p - 1) (omega arith) (omega arith)
-        ∙ getD-at (W p) _ [] 0 (gateWire u p - 1) (omega (arith, length-planWires 0 gateBit P row p, size))
-        ∙ rw (earlier _ (w .first) (w .someFirst), earlier _ (w .second) (w .someSecond))
+    input-bit i l =
+        let e : suc i - 1 ≡ i = omega arith in
+        rw e (wires-stay 0 gateBit P row 0 k i (omega arith) (omega (arith, row-length u row contacts)))
 
     -- read back by drawn numbers they fit the drawing
     abbrev drawnBit : ℕ → ℕ
-    drawnBit w = value (renumbered d w)
+    drawnBit w = wireBit P row (renumbered d w)
 
     fit : Fits d row drawnBit
     fit = record {
-      inputs = λ i l.
-          let e : suc i - 1 ≡ i = omega arith in
-          rw (input-number (suc i) l, e) (kept 0 k i (omega arith) (omega arith) ∙ start i);
+      inputs = λ i l. rw (input-number (suc i) l) (input-bit i l);
       gates = λ g l.
           let s = stands g l in
           let e : gateWire u g - suc u ≡ g = omega arith in
           rw (gate-number (gateWire u g) (omega arith), e)
-          (own-value (placeIn O g) (s .low) ∙ rw (gate-at (placeIn O g) (s .low), s .here));
+          (gate-bit P row (ordered-right .accepted) contacts (placeIn O g) (s .low) ∙ rw (gate-at (placeIn O g) (s .low), s .here));
     }
 
     -- and are the only bits that do
@@ -238,7 +209,7 @@ module _ (d : Plan) (orderable : Orderable d) where
       isBit = λ w. wire-bit P row (row-bit u row contacts) k (renumbered d w - 1);
       fits = fit;
       only = same-wire;
-      outputs = λ j l. getD-listOf v (λ j. valueOn 0 (W k) (outputAt P j)) j 0 l ∙ ap (λ (w : _). valueOn 0 (W k) w) (output-at j l);
+      outputs = λ j l. getD-listOf v (λ j. wireBit P row (outputAt P j .0)) j 0 l ∙ ap (λ (w : _). wireBit P row (w .0)) (output-at j l);
     }
 
 pub ordered-plan : OrderedPlanTheorem
