@@ -106,8 +106,8 @@ extern "C" {
 #define MKD_U_WIRES(l) (MKD_POWER(l) * (uint32_t)(2 * (l) * (l) + 4) - 3)
 
 /*
- * The refusal table. The block library reads 2, 4, 9, 12 and 13 otherwise, and drawn reading 7:
- * their calls say how. No other number is given.
+ * The refusal table. The block library reads 2, 4, 9, 12 and 13 otherwise, drawn reading 7, and
+ * both readings 8: their calls say how. No other number is given.
  */
 enum mkd_fault {
     MKD_STUB = 1,     /* file below 6 bytes */
@@ -117,7 +117,7 @@ enum mkd_fault {
     MKD_CUT = 5,      /* file ends inside or before a needed field */
     MKD_MAP = 6,      /* map byte above 7 */
     MKD_OPERAND = 7,  /* wire 0, or not below the gate's own */
-    MKD_TABLE = 8,    /* table above 15 */
+    MKD_TABLE = 8,    /* table above 15; in a file, where the second operand is absent, above 3 */
     MKD_SOURCE = 9,   /* output not in u + 1 to u + k */
     MKD_TAIL = 10,    /* bytes after the last output */
     MKD_SHORT = 11,   /* a buffer that is written is below its stated length */
@@ -165,12 +165,17 @@ struct mkd_read {
  * table (one byte; absent: 8). A field may stand although it equals what its absence means. Last v
  * outputs, two bytes each.
  *
+ * A table byte has four lines where the second operand stands, equal to the first or not: it is
+ * the gate's table, 0 to 15. It has two lines where the second operand is absent: it is 0 to 3,
+ * bit 0 is the gate's bit on operand bit 0, bit 1 that on 1. The gate's table is then bit 0 plus 8
+ * times bit 1: bytes 0, 1, 2, 3 become tables 0, 1, 8, 9.
+ *
  * Buffer: file has len bytes, any number of them; no plan has more than MKD_MAX_FILE_LEN.
  *
  * Refusals, in this order: 1 at 0; 2 at 0; 3 at 2; 4 at 4; per gate 5, then 6 for the map and, per
- * field that stands, 5, then 7 or 8; per output 5, then 9; 10 at the first byte after the last
- * output. The offset of 5 to 9 is that of the field's first byte, also where the file ends there
- * or inside the field.
+ * field that stands, 5, then 7 or 8, which is a table byte above 15, or above 3 where the second
+ * operand is absent; per output 5, then 9; 10 at the first byte after the last output. The offset
+ * of 5 to 9 is that of the field's first byte, also where the file ends there or inside the field.
  *
  * Done: number and at are 0, and the plan has no plan fault. Refused: the plan is all zero.
  */

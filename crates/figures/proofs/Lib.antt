@@ -4,3 +4,5 @@ pub mod FigureLaws
 pub mod StatedFiguresLaws
 -- the figures of drawn reading hold
 pub mod DrawnFiguresLaws
+-- the figures of table bytes hold
+pub mod TableFiguresLaws

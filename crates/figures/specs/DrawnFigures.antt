@@ -3,7 +3,7 @@ use Prim.Native.Nat.{ℕ}
 use mathlib.Core.List.{List, [], _∷_, _++_}
 use Rattle.plan.specs.declared.record.Plan.{Plan}
 use Rattle.plan.specs.Record.{maxGates, wire, places, planOf, zeroPlan}
-use Rattle.plan.specs.Rules.{countAllowed, mapAllowed, operandAllowed, tableAllowed, sourceAllowed}
+use Rattle.plan.specs.Rules.{countAllowed, mapAllowed, operandAllowed, sourceAllowed}
 use Rattle.plan_fields.specs.Parsing.{field, inOrder}
 use Rattle.plan_fields.specs.Fields.{gateStepWithin}
 use Rattle.plan_reading.specs.PlanFile.{notStub, atEnd, wholeFile}
@@ -18,7 +18,7 @@ drawnRow o = o .number ∷ o .at ∷ (planNumbers (o .plan) ++ o .drawn)
 
 -- drawn reading of the file gives this plan and these drawn numbers
 unfoldable pub draws : List ℕ → Plan → List ℕ → Figure
-unfolding drawnRow drawnRead drawnFile noCycle wholeFile notStub atEnd gateStepWithin field inOrder places countAllowed mapAllowed operandAllowed tableAllowed
+unfolding drawnRow drawnRead drawnFile noCycle wholeFile notStub atEnd gateStepWithin field inOrder places countAllowed mapAllowed operandAllowed
     sourceAllowed
 draws file plan drawn = record {
   computed = drawnRow (drawnRead file);
@@ -28,7 +28,7 @@ draws file plan drawn = record {
 -- drawn reading of the file refuses with this number at this offset, and record and list are all zero
 unfoldable pub drawnRefuses : List ℕ → ℕ → ℕ → Figure
 unfolding drawnRow drawnRead drawnFile noCycle mapOffset wholeFile notStub atEnd gateStepWithin field inOrder places countAllowed mapAllowed operandAllowed
-    tableAllowed sourceAllowed
+    sourceAllowed
 drawnRefuses file number at = record {
   computed = drawnRow (drawnRead file);
   stated = drawnRow (record { number = number; at = at; plan = zeroPlan; drawn = places maxGates 0 [] });

@@ -1,7 +1,9 @@
--- Document 01, "Bench sheet", and document 02, W1, on figures.
+-- Document 01, "Bench sheet", and document 02, W1 and W4, on figures.
 -- a figure, and the claim that a table of them holds
 pub mod Figure
 -- the starred figures
 pub mod StatedFigures
 -- document 02, W1, on figures
 pub mod DrawnFigures
+-- document 02, W4, on figures
+pub mod TableFigures

@@ -48,13 +48,14 @@ unfoldable pub planNumbers : Plan → List ℕ
 unfolding gateNumbers wireNumbers
 planNumbers p = p .inputs ∷ p .«gate_count» ∷ p .«output_count» ∷ (gateNumbers (p .gates) ++ wireNumbers (p .outputs))
 
-outcomeNumbers : ReadOutcome → List ℕ
+-- what reading says, as a row of numbers: number, offset, plan
+unfoldable pub outcomeNumbers : ReadOutcome → List ℕ
 unfolding planNumbers
 outcomeNumbers o = o .number ∷ o .at ∷ planNumbers (o .plan)
 
 -- reading the file refuses with this number at this offset, and the record is all zero
 unfoldable pub refuses : List ℕ → ℕ → ℕ → Figure
-unfolding outcomeNumbers planRead wholeFile notStub atEnd gateStepWithin field inOrder places countAllowed mapAllowed operandAllowed tableAllowed sourceAllowed
+unfolding outcomeNumbers planRead wholeFile notStub atEnd gateStepWithin field inOrder places countAllowed mapAllowed operandAllowed sourceAllowed
 refuses file number at = record {
   computed = outcomeNumbers (planRead file);
   stated = outcomeNumbers (record { number = number; at = at; plan = zeroPlan });

@@ -14,4 +14,3 @@ pub use rules::count_allowed;
 pub use rules::map_allowed;
 pub use rules::operand_allowed;
 pub use rules::source_allowed;
-pub use rules::table_allowed;

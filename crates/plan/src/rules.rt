@@ -35,7 +35,7 @@ pub fn operand_allowed(own: PlanWire, wire: PlanWire) -> bool
 }
 
 // Whether a table has no bit above the four lines.
-pub fn table_allowed(table: u16) -> bool
+pub(crate) fn table_allowed(table: u16) -> bool
     ensures { λ r. ⌜ r ≡ tableAllowed table ⌝ }
 {
     table <= Gate::MAX_TABLE

@@ -7,7 +7,8 @@ use mathlib.Core.Path.{_≡_, refl, _∙_}
 use mathlib.Core.Logic.{inl, inr}
 use mathlib.Core.Bool.{Bool, true, false}
 use mathlib.Core.List.{List, [], _∷_, _++_}
-use lib.Dec.{ltb, lit≤}
+use borrow.Author.Tests.{leb-true}
+use lib.Dec.{leb, ltb, lit≤}
 use lib.ListN.{length, getD, length-append, List·getD-append}
 use lib.Seq.{getD-at}
 use Rattle.lists.proofs.CountingLaws.{passed}
@@ -18,13 +19,14 @@ use Rattle.plan.specs.declared.record.Plan.{Plan}
 use Rattle.plan.specs.declared.record.PlanWire.{PlanWire}
 use Rattle.plan.specs.Record.{maxInputs, maxGates, maxOutputs, wire, zeroGate, planOf, gateAt, outputAt, gateWire}
 use Rattle.plan.proofs.RecordLaws.{getD-places}
-use Rattle.plan.specs.Rules.{countAllowed, mapAllowed, operandAllowed, tableAllowed, sourceAllowed}
-use Rattle.plan.proofs.RulesLaws.{operand-bounds, table-bound, source-bounds}
+use Rattle.plan.specs.Rules.{countAllowed, mapAllowed, operandAllowed, maxTable, sourceAllowed}
+use Rattle.plan.proofs.RulesLaws.{operand-bounds, source-bounds}
 use Rattle.plan.specs.Faults.{CountsWithin, GateWithin, OutputWithin}
 use Rattle.plan.proofs.FaultsLaws.{counts-in}
 use Rattle.plan_fields.specs.Parsing.{Parsed, got, Step, field, wordAt, byteAt, standing, inOrder}
 use Rattle.plan_fields.proofs.ParsingLaws.{ParsedAs, gives, refuses, gives-then, gives-also}
-use Rattle.plan_fields.specs.Fields.{firstPlace, secondPlace, tablePlace, absentTable, mapBit, operandField, gateStepWithin}
+use Rattle.plan_fields.specs.Fields.{firstPlace, secondPlace, tablePlace, absentTable, tableLimit, tableField, mapBit, operandField, gateStepWithin}
+use Rattle.plan_fields.proofs.FieldsLaws.{byte-table-bound}
 use Rattle.plan_reading.specs.PlanFile.{operandBound, outputStep, headerBytes, notStub, atEnd, wholeFile}
 use Rattle.plan_drawn.specs.DrawnFile.{cursorBehind}
 
@@ -44,29 +46,32 @@ field-as width value allowed f s at numbered = elim (passed (ltb (length s - at)
   ])
 ]
 
--- a field that stands, or is absent with an allowed default
-standing-as : (stands : Bool) (width : ℕ) (value : List ℕ → ℕ → ℕ) (allowed : ℕ → Bool) (f : Fault) (default : ℕ) (s : List ℕ) (at : ℕ)
-    → FileNumber (faultNumber f) → allowed default ≡ true
-    → ParsedAs (λ w _. allowed w ≡ true) FileNumber (standing stands (field width value allowed f) default s at)
-standing-as true width value allowed f default s at numbered h = gives-also (λ w next x. x .0) (field-as width value allowed f s at numbered)
-standing-as false width value allowed f default s at numbered h = gives h
+-- an operand that stands, or is absent with an allowed default
+operand-as : (stands : Bool) (bound default : ℕ) (s : List ℕ) (at : ℕ) → operandAllowed bound default ≡ true
+    → ParsedAs (λ w _. operandAllowed bound w ≡ true) FileNumber (standing stands (operandField bound) default s at)
+operand-as true bound default s at h = gives-also (λ w next x. x .0) (field-as 2 wordAt (operandAllowed bound) Fault.Operand s at (lit≤ tt, lit≤ tt))
+operand-as false bound default s at h = gives h
+
+-- a table
+table-as : (stands second : Bool) (s : List ℕ) (at : ℕ)
+    → ParsedAs (λ t _. t ≤ maxTable) FileNumber (standing stands (tableField second) absentTable s at)
+table-as true second s at =
+    gives-then _ s (field-as 1 byteAt (λ b. leb b (tableLimit second)) Fault.Table s at (lit≤ tt, lit≤ tt)) λ b next x.
+    gives (byte-table-bound second b (leb-true b (tableLimit second) (x .0)))
+table-as false second s at = gives (lit≤ tt)
 
 -- a gate, if its default operand is within the bound
 gate-as : (s : List ℕ) (bound own at : ℕ) → 2 ≤ own → own ≤ bound
     → ParsedAs (λ g _. GateWithin bound g) FileNumber (gateStepWithin bound own s at)
 unfolding gateStepWithin
 gate-as s bound own at low h =
-    let operand : (stands : Bool) (default at : ℕ) → operandAllowed bound default ≡ true
-    → ParsedAs (λ w _. operandAllowed bound w ≡ true) FileNumber (standing stands (operandField bound) default s at) =
-    λ stands default at. standing-as stands 2 wordAt (operandAllowed bound) Fault.Operand default s at (lit≤ tt, lit≤ tt) in
     gives-then _ s (field-as 1 byteAt mapAllowed Fault.Map s at (lit≤ tt, lit≤ tt)) λ m a map.
-    gives-then _ s (operand (mapBit m firstPlace) (own - 1) a (operand-bounds bound (own - 1) .1 (omega arith, omega arith))) λ x b first.
-    gives-then _ s (operand (mapBit m secondPlace) x b first) λ y c second.
-    gives-then _ s (standing-as (mapBit m tablePlace) 1 byteAt tableAllowed Fault.Table absentTable s c (lit≤ tt, lit≤ tt)
-    (table-bound absentTable .1 (lit≤ tt))) λ t next table.
+    gives-then _ s (operand-as (mapBit m firstPlace) bound (own - 1) s a (operand-bounds bound (own - 1) .1 (omega arith, omega arith))) λ x b first.
+    gives-then _ s (operand-as (mapBit m secondPlace) bound x s b first) λ y c second.
+    gives-then _ s (table-as (mapBit m tablePlace) (mapBit m secondPlace) s c) λ t next table.
     let (f₁, f₂) = operand-bounds bound x .0 first in
     let (s₁, s₂) = operand-bounds bound y .0 second in
-    gives (record { someFirst = f₁; first = f₂; someSecond = s₁; second = s₂; table = table-bound t .0 table })
+    gives (record { someFirst = f₁; first = f₂; someSecond = s₁; second = s₂; table = table })
 
 -- an output
 output-as : (s : List ℕ) (u k at : ℕ) → ParsedAs (λ w _. OutputWithin u k (w .0)) FileNumber (outputStep u k s at)

@@ -31,16 +31,33 @@ module _ (width : ℕ) (value : List ℕ → ℕ → ℕ) (allowed : ℕ → Boo
   unfolding field
   field-bad e a h t = rw (le-ltb (length s - at) width h, ← e, ← a, t)
 
-  -- a value that was read is allowed
-  pub field-allowed : {v next : ℕ} → got v next ≡ field width value allowed f s at → allowed v ≡ true
+  -- the field does not end the file: what comes after an allowed value, or the refusal
+  pub field-then : {B : Type 0} (g : ℕ → Step B) {v : ℕ} → v ≡ value s at → width ≤ length s - at
+      → cond (allowed v) (g v s (at + width)) (refuse f at) ≡ followed g s (field width value allowed f s at)
   unfolding field
-  field-allowed {v} {next} = go (ltb (length s - at) width) (allowed (value s at)) refl
+  field-then g {v} e h = rw (le-ltb (length s - at) width h, ← e) (go (allowed v))
+    where
+      go : (r : Bool) → cond r (g v s (at + width)) (refuse f at) ≡ followed g s (cond r (got v (at + width)) (refuse f at))
+      go true = refl
+      go false = refl
+
+  -- a value that was read is allowed, stands there, and the cursor is behind it
+  pub field-read : {v next : ℕ} → got v next ≡ field width value allowed f s at → (allowed v ≡ true) × (v ≡ value s at) × (next ≡ at + width)
+  unfolding field
+  field-read {v} {next} = go (ltb (length s - at) width) (allowed (value s at)) refl
     where
       go : (short fine : Bool) → allowed (value s at) ≡ fine
-          → got v next ≡ cond short (refuse Fault.Cut at) (cond fine (got (value s at) (at + width)) (refuse f at)) → allowed v ≡ true
+          → got v next ≡ cond short (refuse Fault.Cut at) (cond fine (got (value s at) (at + width)) (refuse f at))
+          → (allowed v ≡ true) × (v ≡ value s at) × (next ≡ at + width)
       go true fine a e = let z : _≡_ {A = ℕ} 0 1 = cc in absurd (omega arith)
-      go false true a e = let same : v ≡ value s at = cc in rw same a
+      go false true a e = let same : v ≡ value s at = cc in (rw same a, same, cc)
       go false false a e = let z : _≡_ {A = ℕ} 0 1 = cc in absurd (omega arith)
+
+-- what was read by a step and then the next: what each of them read
+pub both-read : {A B : Type 0} (f : A → Step B) (s : List ℕ) (o : Parsed A) {b : B} {next : ℕ} → followed f s o ≡ got b next
+    → (a : A) × (mid : ℕ) × (o ≡ got a mid) × (f a s mid ≡ got b next)
+both-read f s (got a mid) e = (a, mid, refl, e)
+both-read f s (refused n at) e = let z : _≡_ {A = ℕ} 0 1 = cc in absurd (omega arith)
 
 module _ {A : Type 0} (item : ℕ → Step A) (s : List ℕ) (at : ℕ) where
   -- one item more

@@ -1,18 +1,23 @@
 // The fields of a plan file: each step takes the file and the cursor and hands back the value with the next cursor, or the refusal.
 ghost use mathlib.Core.Path.{_≡_};
 ghost use Prim.Native.Nat.{_+_, _-_, _*_, _≤_, _<_};
+ghost use mathlib.Core.Bool.{cond, false};
+ghost use lib.Dec.{leb};
 ghost use lib.ListN.{length};
-ghost use Rattle.plan_fields.specs.Parsing.{wordAt};
-ghost use Rattle.plan_fields.specs.Fields.{countField, mapField, operandField, tableField, outputField};
+ghost use Rattle.plan_fields.specs.Parsing.{got, refuse, wordAt};
+ghost use Rattle.plan_fields.specs.Fields.{countField, mapField, operandField, tableOfByte, tableField, outputField};
 ghost use Rattle.plan_fields.specs.Answers.{countAnswer, mapAnswer, operandAnswer, tableAnswer, outputAnswer};
 use fault::Fault;
 use fault::Refusal;
+use plan::Gate;
 use plan::PlanWire;
 use plan::count_allowed;
 use plan::map_allowed;
 use plan::operand_allowed;
 use plan::source_allowed;
-use plan::table_allowed;
+
+// The table byte in which both of two lines stand.
+const MAX_TWO_LINES: u16 = 3;
 
 // A place in a file.
 pub struct Cursor {
@@ -81,6 +86,26 @@ fn word_at(file: &[u8], at: usize) -> u16
     word_of(file[at], file[at + 1])
 }
 
+// The record's table of a table byte of two lines: bit 0 is line 0, bit 1 line 3.
+fn two_lines(byte: u16) -> u16
+    ensures { λ r. ⌜ r ≡ tableOfByte false byte ⌝ }
+{
+    byte % 2 + 8 * (byte / 2 % 2)
+}
+
+// The table that a table byte stands for, if the byte is within its limit.
+fn limited_table(at: usize, byte: u16, limit: u16, table: u16, next: Cursor) -> TableStep
+    ensures { λ r. ⌜ tableAnswer r ≡ cond (leb byte limit) (got table (next .at)) (refuse Fault.Table at) ⌝ }
+{
+    if byte <= limit {
+        return TableStep::Table(table, next);
+    }
+    TableStep::Refused(Refusal {
+        fault: Fault::Table,
+        at: at,
+    })
+}
+
 impl Cursor {
     // A count, from 1 to its limit; the fault is its word in the refusal table.
     pub fn count(self, file: &[u8], limit: usize, fault: Fault) -> CountStep
@@ -145,9 +170,9 @@ impl Cursor {
         })
     }
 
-    // The table of a gate.
-    pub fn table(self, file: &[u8]) -> TableStep
-        ensures { λ r. ⌜ tableAnswer r ≡ tableField (now (file .entry)) (self .at) ⌝ }
+    // The table of a gate: four lines where its second operand stands, two where that is absent.
+    pub fn table(self, file: &[u8], second: bool) -> TableStep
+        ensures { λ r. ⌜ tableAnswer r ≡ tableField second (now (file .entry)) (self .at) ⌝ }
     {
         let at = self.at;
         if left_of(file, at) < 1 {
@@ -156,14 +181,12 @@ impl Cursor {
                 at: at,
             });
         }
-        let table = wide_byte(file[at]);
-        if table_allowed(table) {
-            return TableStep::Table(table, Cursor { at: at + 1 });
+        let byte = wide_byte(file[at]);
+        let next = Cursor { at: at + 1 };
+        if second {
+            return limited_table(at, byte, Gate::MAX_TABLE, byte, next);
         }
-        TableStep::Refused(Refusal {
-            fault: Fault::Table,
-            at: at,
-        })
+        limited_table(at, byte, MAX_TWO_LINES, two_lines(byte), next)
     }
 
     // An output of a plan with these numbers of inputs and gates.

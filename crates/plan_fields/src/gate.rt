@@ -2,7 +2,7 @@
 ghost use mathlib.Core.Path.{_≡_};
 ghost use Prim.Native.Nat.{_-_, _<_};
 ghost use Rattle.plan_fields.specs.Parsing.{standing};
-ghost use Rattle.plan_fields.specs.Fields.{absentTable, mapBit, operandField, tableField, gateFields, gateStepWithin};
+ghost use Rattle.plan_fields.specs.Fields.{absentTable, tablePlace, mapBit, operandField, tableField, gateFields, gateStepWithin};
 ghost use Rattle.plan_fields.specs.Answers.{operandAnswer, tableAnswer, gateAnswer};
 use crate::cursor::Cursor;
 use crate::cursor::MapStep;
@@ -64,7 +64,12 @@ fn read_fields(file: &[u8], c: Cursor, bound: PlanWire, own: PlanWire, map: u8) 
             first,
         ) {
             OperandStep::Refused(x) => GateStep::Refused(x),
-            OperandStep::Operand(second, c2) => match standing_table(file, c2, map, TABLE_PLACE) {
+            OperandStep::Operand(second, c2) => match standing_table(
+                file,
+                c2,
+                map,
+                map_bit(map, SECOND_PLACE),
+            ) {
                 TableStep::Refused(x) => GateStep::Refused(x),
                 TableStep::Table(table, c3) => GateStep::Gate(
                     Gate {
@@ -105,13 +110,12 @@ fn standing_operand(
     OperandStep::Operand(default, c)
 }
 
-// A table if its map bit stands, AND if not.
-fn standing_table(file: &[u8], c: Cursor, map: u8, place: u8) -> TableStep
-    requires { ⌜ place < 8 ⌝ }
-    ensures { λ r. ⌜ tableAnswer r ≡ standing (mapBit map place) tableField absentTable (now (file .entry)) (c .at) ⌝ }
+// A table if its map bit stands, AND if not. Its form goes by whether the gate's second operand stands.
+fn standing_table(file: &[u8], c: Cursor, map: u8, second: bool) -> TableStep
+    ensures { λ r. ⌜ tableAnswer r ≡ standing (mapBit map tablePlace) (tableField second) absentTable (now (file .entry)) (c .at) ⌝ }
 {
-    if map_bit(map, place) {
-        return c.table(file);
+    if map_bit(map, TABLE_PLACE) {
+        return c.table(file, second);
     }
     TableStep::Table(ABSENT_TABLE, c)
 }

@@ -1,5 +1,5 @@
 -- A file of an accepted plan is of bytes: its counts and wires are two-byte numbers, its map bytes and tables below 256.
-use Prim.Native.Nat.{ℕ, zero, suc, _<_}
+use Prim.Native.Nat.{ℕ, zero, suc, _<_, _≤_}
 use native.Mathlib.Omega.{arith}
 use mathlib.Core.Path.{_≡_}
 use mathlib.Core.Bool.{Bool, true, false}
@@ -7,11 +7,11 @@ use mathlib.Core.List.{List, [], _∷_, _++_}
 use lib.Dec.{lit≤}
 use Rattle.plan.specs.declared.record.Gate.{Gate}
 use Rattle.plan.specs.Record.{wordNumbers, maxInputs, maxGates, maxOutputs, gateAt, outputAt, gateWire}
-use Rattle.plan.specs.Rules.{operandAllowed}
+use Rattle.plan.specs.Rules.{operandAllowed, maxTable}
 use Rattle.plan.proofs.RulesLaws.{count-bounds, map-bound, operand-bounds, table-bound, source-bounds}
 use Rattle.plan.proofs.FaultsLaws.{AllowedGate, accepted-allowed}
 use Rattle.plan_fields.specs.Fields.{firstPlace, secondPlace, tablePlace, mapBit}
-use Rattle.plan_files.specs.Encoding.{byte, word, whereStanding, encodeGate, joinedBytes, encode, LeavesOutDefaults, OfBytes, FilesOfBytes}
+use Rattle.plan_files.specs.Encoding.{byte, word, whereStanding, tableByte, encodeGate, joinedBytes, encode, LeavesOutDefaults, OfBytes, FilesOfBytes}
 
 -- numbers written in one and two bytes
 byte-bytes : (n : ℕ) → n < 256 → OfBytes (byte n)
@@ -42,16 +42,21 @@ joined-bytes f (suc n) h = append-bytes (joinedBytes n f) (f n) (joined-bytes f 
 operand-bytes : (stands : Bool) (own w : ℕ) → own < wordNumbers → operandAllowed own w ≡ true → OfBytes (whereStanding stands (word w))
 operand-bytes stands own w h allowed = standing-bytes stands (word w) (word-bytes w (omega (arith, operand-bounds own w .0 allowed .1)))
 
+-- a table's byte
+table-bytes : (stands second : Bool) (t : ℕ) → t ≤ maxTable → OfBytes (whereStanding stands (byte (tableByte second t)))
+table-bytes stands true t h = standing-bytes stands (byte t) (byte-bytes t (omega arith))
+table-bytes stands false t h = standing-bytes stands (byte (tableByte false t)) (byte-bytes (tableByte false t) (omega arith))
+
 -- a gate
 gate-bytes : (own m : ℕ) (g : Gate) → own < wordNumbers → AllowedGate own g → LeavesOutDefaults own m g → OfBytes (encodeGate m g)
 gate-bytes own m g h ok left =
     let first = whereStanding (mapBit m firstPlace) (word (g .first .0)) in
     let second = whereStanding (mapBit m secondPlace) (word (g .second .0)) in
-    let table = whereStanding (mapBit m tablePlace) (byte (g .table)) in
+    let table = whereStanding (mapBit m tablePlace) (byte (tableByte (mapBit m secondPlace) (g .table))) in
     append-bytes (byte m) (first ++ (second ++ table)) (byte-bytes m (omega (arith, map-bound m .0 (left .isMap))))
     (append-bytes first (second ++ table) (operand-bytes (mapBit m firstPlace) own (g .first .0) h (ok .first))
     (append-bytes second table (operand-bytes (mapBit m secondPlace) own (g .second .0) h (ok .second))
-    (standing-bytes (mapBit m tablePlace) (byte (g .table)) (byte-bytes (g .table) (omega (arith, table-bound (g .table) .0 (ok .table)))))))
+    (table-bytes (mapBit m tablePlace) (mapBit m secondPlace) (g .table) (table-bound (g .table) .0 (ok .table)))))
 
 -- the whole file
 pub encode-bytes : FilesOfBytes

@@ -1,28 +1,29 @@
 -- Forward: where a plan's file stands, each field is read as it was written. Backward: each field that is read stands in the file, so the
 -- file is one of the plan's: `reads-exactly`. The file in which every field stands is a plan's longest: `longest-plan`.
-use Prim.Native.Nat.{ℕ, _+_, _-_, _*_, _≤_}
+use Prim.Native.Nat.{ℕ, _+_, _-_, _*_, _/_, _%_, _≤_}
 use native.Mathlib.Omega.{arith}
 use mathlib.Core.Path.{_≡_, refl, ap, ap₂}
 use mathlib.Core.Bool.{Bool, true, false, true≢false}
 use mathlib.Core.List.{List, []}
-use lib.Dec.{ltb, lit≤}
+use lib.Dec.{leb, ltb, lit≤}
 use lib.ListN.{length, getD, replicate, length-append, getD-replicate}
-use borrow.Author.Tests.{ltb-false, lt-ltb, le-ltb}
+use borrow.Author.Tests.{ltb-false, lt-ltb, le-ltb, le-leb, leb-true}
 use Rattle.fault.specs.declared.Fault.{Fault}
 use Rattle.plan.specs.declared.record.Gate.{Gate}
 use Rattle.plan.specs.declared.record.Plan.{Plan}
 use Rattle.plan.specs.declared.record.PlanWire.{PlanWire}
 use Rattle.plan.specs.Record.{maxInputs, maxGates, maxOutputs, wire, zeroGate, planOf, gateAt, outputAt, gateWire}
 use Rattle.plan.proofs.RecordLaws.{getD-places}
-use Rattle.plan.specs.Rules.{countAllowed, maxMap, mapAllowed, operandAllowed, tableAllowed, sourceAllowed}
+use Rattle.plan.specs.Rules.{countAllowed, maxMap, mapAllowed, operandAllowed, maxTable, tableAllowed, sourceAllowed}
 use Rattle.plan.specs.Faults.{Accepted}
-use Rattle.plan.proofs.RulesLaws.{count-bounds, default-allowed}
+use Rattle.plan.proofs.RulesLaws.{count-bounds, table-bound, default-allowed}
 use Rattle.plan.proofs.FaultsLaws.{AllowedGate, AllowedPlan, accepted-allowed}
-use Rattle.plan_fields.specs.Parsing.{Parsed, got}
+use Rattle.plan_fields.specs.Parsing.{Parsed, got, standing}
 use Rattle.plan_fields.proofs.ParsingLaws.{gives, refuses, gives-then}
-use Rattle.plan_fields.specs.Fields.{firstPlace, secondPlace, tablePlace, absentTable, mapBit, gateStepWithin}
+use Rattle.plan_fields.specs.Fields.{firstPlace, secondPlace, tablePlace, absentTable, tableLimit, tableOfByte, tableField, mapBit, gateStepWithin}
+use Rattle.plan_fields.proofs.FieldsLaws.{byte-table-bound}
 use Rattle.plan_reading.specs.PlanFile.{outputStep, headerBytes, notStub, atEnd, wholeFile, planFile, parsedOutcome, planRead}
-use Rattle.plan_files.specs.Encoding.{byte, word, whereStanding, encodeGate, joinedBytes, encode, LeavesOutDefaults, Choice, used, OfBytes, Encoded}
+use Rattle.plan_files.specs.Encoding.{byte, word, whereStanding, tableByte, TwoLines, encodeGate, joinedBytes, encode, LeavesOutDefaults, Choice, used, OfBytes, Encoded}
 use Rattle.plan_files.specs.Encoding.{ReadsExactly, gateBytes, outputBytes, longestFile, LongestPlan}
 use Rattle.plan_files.proofs.BytesLaws.{encode-bytes}
 use Rattle.plan_files.proofs.ListLaws.{joined-length, joined-shorter, used-places}
@@ -30,20 +31,56 @@ use Rattle.plan_files.proofs.ReadingLaws.{BytesStand, stands-append, st
 use Rattle.plan_files.proofs.ReadingLaws.{byte-coded, word-coded, field-reads, standing-reads, in-order-reads}
 use Rattle.plan_files.proofs.ReadingLaws.{Gives, by-test, field-gives, standing-gives, Items, in-order-gives}
 
+-- two bits in a table byte, and at the outer places of a table
+byte-bits : (x y : ℕ) → x ≤ 1 → y ≤ 1 → ((x + 2 * y) % 2 ≡ x) × ((x + 2 * y) / 2 % 2 ≡ y)
+byte-bits x y hx hy = (omega arith, omega arith)
+
+pub outer-bits : (x y : ℕ) → x ≤ 1 → y ≤ 1 → ((x + 8 * y) % 2 ≡ x) × ((x + 8 * y) / 8 % 2 ≡ y) × TwoLines (x + 8 * y)
+outer-bits x y hx hy = (omega arith, omega arith, omega arith)
+
+-- the byte of a table is within its limit, and stands for this table
+table-byte : (second : Bool) (t : ℕ) → t ≤ maxTable → (second ≡ false → TwoLines t)
+    → (tableByte second t ≤ tableLimit second) × (tableOfByte second (tableByte second t) ≡ t)
+table-byte true t h two = (h, refl)
+table-byte false t h two =
+    let clear = two refl in
+    let eighth : t / 8 ≡ t / 2 / 4 = omega arith in
+    let half : t / 2 ≡ 4 * (t / 8) = omega arith in
+    let bit : t / 8 % 2 ≡ t / 8 = omega arith in
+    let (low, high) = byte-bits (t % 2) (t / 8 % 2) (omega arith) (omega arith) in
+    (omega arith, rw (low, high) (omega arith))
+
+-- a byte within its limit is that of its table
+byte-table : (second : Bool) (b : ℕ) → b ≤ tableLimit second
+    → (tableByte second (tableOfByte second b) ≡ b) × (second ≡ false → TwoLines (tableOfByte second b))
+byte-table true b h = (refl, λ e. absurd (true≢false e))
+byte-table false b h =
+    let (low, high, two) = outer-bits (b % 2) (b / 2 % 2) (omega arith) (omega arith) in
+    (rw (low, high) (omega arith), λ _. two)
+
+-- a table is read where its byte stands, or is left out and is the absent one
+table-reads : (s : List ℕ) (stands second : Bool) (at next t : ℕ) → BytesStand s at (whereStanding stands (byte (tableByte second t))) next
+    → t ≤ maxTable → (stands ≡ false → t ≡ absentTable) → (second ≡ false → TwoLines t)
+    → standing stands (tableField second) absentTable s at ≡ got t next
+table-reads s true second at next t x h e two =
+    let (limit, same) = table-byte second t h two in
+    rw (field-reads byte-coded s (λ b. leb b (tableLimit second)) Fault.Table at next (tableByte second t) x (le-leb _ _ limit), same)
+table-reads s false second at next t x h e two = let same : next ≡ at = omega (arith, x .ends) in cc (e refl)
+
 -- a gate is read where its bytes stand
-gate-reads : (s : List ℕ) (own m : ℕ) (g : Gate) (at next : ℕ) → AllowedGate own g → LeavesOutDefaults own m g
-    → BytesStand s at (encodeGate m g) next → gateStepWithin own own s at ≡ got g next
+pub gate-reads : (s : List ℕ) (bound own m : ℕ) (g : Gate) (at next : ℕ) → AllowedGate bound g → LeavesOutDefaults own m g
+    → BytesStand s at (encodeGate m g) next → gateStepWithin bound own s at ≡ got g next
 unfolding gateStepWithin
-gate-reads s own m g at next ok left x =
+gate-reads s bound own m g at next ok left x =
     let (a, map, rest) = stands-split (byte m) _ x in
     let (b, first, rest) = stands-split (whereStanding (mapBit m firstPlace) (word (g .first .0))) _ rest in
     let (c, second, table) = stands-split (whereStanding (mapBit m secondPlace) (word (g .second .0))) _ rest in
-    let operand = standing-reads word-coded s (operandAllowed own) Fault.Operand in
+    let operand = standing-reads word-coded s (operandAllowed bound) Fault.Operand in
     rw (
       field-reads byte-coded s mapAllowed Fault.Map at a m map (left .isMap),
       operand (mapBit m firstPlace) (own - 1) a b (g .first .0) first (ok .first) (left .first),
       operand (mapBit m secondPlace) (g .first .0) b c (g .second .0) second (ok .second) (left .second),
-      standing-reads byte-coded s tableAllowed Fault.Table (mapBit m tablePlace) absentTable c next (g .table) table (ok .table) (left .table),
+      table-reads s (mapBit m tablePlace) (mapBit m secondPlace) c next (g .table) table (table-bound (g .table) .0 (ok .table)) (left .table) (left .lines),
     )
 
 -- a plan is read where its file stands, from 0 to the end
@@ -64,7 +101,7 @@ file-reads s maps p ok choice x =
       field-reads word-coded s (countAllowed maxGates) Fault.Gates a b k gates (ok .gates),
       field-reads word-coded s (countAllowed maxOutputs) Fault.Outputs b c v outputs (ok .outputs),
       in-order-reads s (λ i. gateStepWithin (gateWire u i) (gateWire u i)) (gateAt p) (λ i. encodeGate (maps i) (gateAt p i)) k
-          (λ i at next l. gate-reads s (gateWire u i) (maps i) (gateAt p i) at next (ok .gate i l) (choice i l)) c d each-gate,
+          (λ i at next l. gate-reads s (gateWire u i) (gateWire u i) (maps i) (gateAt p i) at next (ok .gate i l) (choice i l)) c d each-gate,
       in-order-reads s (λ _. outputStep u k) (outputAt p) (λ j. word (outputAt p j .0)) v
           (λ j at next l y. rw (field-reads word-coded s (sourceAllowed u k) Fault.Source at next (outputAt p j .0) y (ok .output j l)))
           d (length s) each-output,
@@ -109,23 +146,34 @@ encoded s u k v gs os a b c d e inputs gates outputs each-gate each-output end =
       simp getD-places (stands-to-end (stands-append (inputs .1) (stands-append (gates .1) (stands-append (outputs .1) items))) end);
 }
 
--- what each step gives: a gate, if its default operand is allowed
+-- what each step gives: a table
+table-gives : (s : List ℕ) (stands second : Bool) (at : ℕ) → OfBytes s
+    → Gives (λ t next. (stands ≡ false → t ≡ absentTable) × (tableAllowed t ≡ true) × (second ≡ false → TwoLines t)
+    × BytesStand s at (whereStanding stands (byte (tableByte second t))) next) (standing stands (tableField second) absentTable s at)
+table-gives s true second at small =
+    gives-then _ s (field-gives byte-coded s (λ b. leb b (tableLimit second)) Fault.Table at small) λ b next x.
+    let limit = leb-true b (tableLimit second) (x .0) in
+    let (same, two) = byte-table second b limit in
+    gives (λ e. absurd (true≢false e), table-bound _ .1 (byte-table-bound second b limit), two, rw same (x .1))
+table-gives s false second at small = gives (λ _. refl, table-bound absentTable .1 (lit≤ tt), λ _. refl, nothing-stands)
+
+-- a gate, if its default operand is allowed
 gate-gives : (s : List ℕ) (own at : ℕ) → OfBytes s → 2 ≤ own
     → Gives (λ g next. (m : ℕ) × (LeavesOutDefaults own m g × AllowedGate own g) × BytesStand s at (encodeGate m g) next) (gateStepWithin own own s at)
-unfolding gateStepWithin tableAllowed
+unfolding gateStepWithin
 gate-gives s own at small h =
     let operand = standing-gives word-coded s (operandAllowed own) Fault.Operand in
     gives-then _ s (field-gives byte-coded s mapAllowed Fault.Map at small) λ m a map.
     gives-then _ s (operand (mapBit m firstPlace) (own - 1) a small (default-allowed own h)) λ x b first.
     gives-then _ s (operand (mapBit m secondPlace) x b small (first .1)) λ y c second.
-    gives-then _ s (standing-gives byte-coded s tableAllowed Fault.Table (mapBit m tablePlace) absentTable c small refl) λ t next table.
+    gives-then _ s (table-gives s (mapBit m tablePlace) (mapBit m secondPlace) c small) λ t next table.
     gives (
       m,
       (
-        record { isMap = map .0; first = first .0; second = second .0; table = table .0 },
+        record { isMap = map .0; first = first .0; second = second .0; lines = table .2; table = table .0 },
         record { first = first .1; second = second .1; table = table .1 },
       ),
-      stands-append (map .1) (stands-append (first .2) (stands-append (second .2) (table .2))),
+      stands-append (map .1) (stands-append (first .2) (stands-append (second .2) (table .3))),
     )
 
 -- an output
@@ -188,7 +236,7 @@ gate-length : (m : ℕ) (g : Gate) → length (encodeGate m g) ≤ length (encod
 gate-length m g =
     let first = standing-length (mapBit m firstPlace) (word (g .first .0)) in
     let second = standing-length (mapBit m secondPlace) (word (g .second .0)) in
-    let table = standing-length (mapBit m tablePlace) (byte (g .table)) in
+    let table = standing-length (mapBit m tablePlace) (byte (tableByte (mapBit m secondPlace) (g .table))) in
     simp length-append (omega arith)
 
 -- the length of the file in which every field stands
@@ -222,14 +270,18 @@ longest-read s small h =
     omega (arith, ap length (x .file), longest (x .maps) (planRead s .plan) (x .accepted))
 
 -- every field may stand
-pub full-choice : (p : Plan) → Choice (λ _. maxMap) p
+pub full-gate : (own : ℕ) (g : Gate) → LeavesOutDefaults own maxMap g
 unfolding mapAllowed
-full-choice p i l = record {
+full-gate own g = record {
   isMap = refl;
   first = λ e. absurd (true≢false e);
   second = λ e. absurd (true≢false e);
+  lines = λ e. absurd (true≢false e);
   table = λ e. absurd (true≢false e);
 }
+
+pub full-choice : (p : Plan) → Choice (λ _. maxMap) p
+full-choice p i l = full-gate (gateWire (p .inputs) i) (gateAt p i)
 
 -- the input AND itself
 andGate : Gate

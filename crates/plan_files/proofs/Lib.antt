@@ -7,3 +7,5 @@ pub mod ReadingLaws
 pub mod BytesLaws
 -- reading a plan's file gives the plan, what is read is such a file, and how long a file can be
 pub mod EncodingLaws
+-- table bytes, of a gate and of the gates of a plan
+pub mod TableLinesLaws

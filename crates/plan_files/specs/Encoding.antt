@@ -1,5 +1,5 @@
--- Document 01, "The plan": the files of a plan, and what the theorems about them say. A choice of standing fields gives one file.
-use Prim.Native.Nat.{ℕ, zero, suc, _<_, _≤_, _-_, _/_, _%_}
+-- Document 01, "The plan", and document 02, W4: the files of a plan, and what the theorems about them say. A choice of standing fields gives one file.
+use Prim.Native.Nat.{ℕ, zero, suc, _<_, _≤_, _+_, _-_, _*_, _/_, _%_}
 use mathlib.Core.Path.{_≡_}
 use mathlib.Core.Logic.{_↔_}
 use mathlib.Core.Bool.{Bool, true, false, cond}
@@ -26,12 +26,21 @@ word n = n % 256 ∷ n / 256 ∷ []
 abbrev pub whereStanding : Bool → List ℕ → List ℕ
 whereStanding stands bytes = cond stands bytes []
 
+-- the table byte of a table, by whether the second operand stands: of four lines the table itself; of two its bit 0 and, as bit 1, its bit 3
+abbrev pub tableByte : Bool → ℕ → ℕ
+tableByte second t = cond second t (t % 2 + 2 * (t / 8 % 2))
+
+-- a table that two lines can say: its bits 1 and 2 are clear
+abbrev pub TwoLines : ℕ → Type 0
+TwoLines t = t / 2 % 4 ≡ 0
+
 -- a gate with the map byte m: the byte, then only the fields whose map bit stands
 abbrev pub encodeGate : ℕ → Gate → List ℕ
 encodeGate m g =
     byte m
     ++ (whereStanding (mapBit m firstPlace) (word (g .first .0))
-    ++ (whereStanding (mapBit m secondPlace) (word (g .second .0)) ++ whereStanding (mapBit m tablePlace) (byte (g .table))))
+    ++ (whereStanding (mapBit m secondPlace) (word (g .second .0))
+    ++ whereStanding (mapBit m tablePlace) (byte (tableByte (mapBit m secondPlace) (g .table)))))
 
 -- the bytes of items 0 to n - 1, one after another
 unfoldable pub joinedBytes : ℕ → (ℕ → List ℕ) → List ℕ
@@ -44,11 +53,13 @@ encode maps p =
     word (p .inputs) ++ (word (p .«gate_count») ++ (word (p .«output_count»)
     ++ (joinedBytes (p .«gate_count») (λ i. encodeGate (maps i) (gateAt p i)) ++ joinedBytes (p .«output_count») (λ j. word (outputAt p j .0)))))
 
--- a map byte for the gate whose own wire is `own` that leaves out only fields that equal their defaults
+-- a map byte for the gate whose own wire is `own` that leaves out only fields that equal their defaults, and the second operand only where two lines
+-- can say the table
 pub record LeavesOutDefaults (own m : ℕ) (g : Gate) : Type 0 where
   pub isMap : mapAllowed m ≡ true
   pub first : mapBit m firstPlace ≡ false → g .first .0 ≡ own - 1
   pub second : mapBit m secondPlace ≡ false → g .second .0 ≡ g .first .0
+  pub lines : mapBit m secondPlace ≡ false → TwoLines (g .table)
   pub table : mapBit m tablePlace ≡ false → g .table ≡ absentTable
 
 -- a choice of standing fields for a plan, one map byte a gate

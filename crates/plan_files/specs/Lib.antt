@@ -1,3 +1,5 @@
 -- Document 01, "The plan": the files of a plan.
 -- a plan's files, one for each choice of standing fields, that reading reads exactly these, and the longest
 pub mod Encoding
+-- document 02, W4: what is proved of table bytes
+pub mod TableLines

@@ -17,7 +17,7 @@ use Rattle.plan.proofs.RecordLaws.{places-more}
 use Rattle.plan.specs.Rules.{countAllowed}
 use Rattle.plan.proofs.RulesLaws.{count-bounds}
 use Rattle.plan_fields.specs.Parsing.{Parsed, got, refused, refuse, Step, followed, _>>=_, wordAt, inOrder}
-use Rattle.plan_fields.proofs.ParsingLaws.{field-allowed, item-got, item-refused, still-refused}
+use Rattle.plan_fields.proofs.ParsingLaws.{field-read, item-got, item-refused, still-refused}
 use Rattle.plan_fields.specs.Fields.{countField}
 use Rattle.plan_fields.specs.Answers.{refusal}
 use Rattle.plan_reading.specs.declared.reading.Header.{Header}
@@ -78,7 +78,7 @@ plan-held gs os c e o = λ i. record {
 
 -- a count that was read is within its limit
 pub count-within : (limit : ℕ) (f : Fault) (s : List ℕ) (at : ℕ) {n next : ℕ} → got n next ≡ countField limit f s at → n ≤ limit
-count-within limit f s at {n} e = count-bounds limit n .0 (field-allowed 2 wordAt (countAllowed limit) f s at e) .1
+count-within limit f s at {n} e = count-bounds limit n .0 (field-read 2 wordAt (countAllowed limit) f s at e .0) .1
 
 -- the end of a file, and a tail
 at-end : (s : List ℕ) (at : ℕ) → length s ≤ at → got tt at ≡ atEnd s at

@@ -10,12 +10,14 @@ use mukdalis::{raw, DrawnPlan, Gate, Plan, Refusal};
 
 use self::outputs::compare_outputs;
 use super::files::not_as_written;
+use super::gates::{GateAnswer, SeenGates};
 use super::show::{first_drawn_difference, hex, show_drawn};
 use super::{Call, Comparison, Difference, Outcome};
 use crate::random::Random;
 use crate::reference;
 use crate::samples::damage::random_body;
-use crate::samples::drawings::{any_drawing, backwards, shuffled, shuffled_plan};
+use crate::samples::drawings::{any_drawing, backwards, drawn_as, shuffled, shuffled_plan};
+use crate::samples::gates::{TriedGate, TRIED_MAPS};
 use crate::samples::plans::{shaped_plan, PlanShape};
 use crate::samples::{accepted_plan, Counts, PlanFile, Standing};
 
@@ -25,6 +27,7 @@ pub fn compare(comparison: &mut Comparison, random: &mut Random) -> Outcome {
     every_gate_count(comparison, random)?;
     every_small_drawing(comparison, random)?;
     any_operands(comparison, random)?;
+    every_map_and_table_byte(comparison, random)?;
     cycles::compare(comparison, random)?;
     fields_at_limits(comparison, random)?;
     cut_files(comparison, random)?;
@@ -37,8 +40,9 @@ pub fn compare(comparison: &mut Comparison, random: &mut Random) -> Outcome {
 const LEAST_FILES: u64 = 100_000;
 
 /// Kinds that have to be among them; [`cycles`] says which cycles.
-const DUE_KINDS: [&str; 6] = [
+const DUE_KINDS: [&str; 7] = [
     "plans of every shape, shuffled",
+    "drawn files, every map and table byte",
     "rings of every size",
     "rings by ignored operands, every size",
     "a gate before a ring draws from it",
@@ -258,6 +262,42 @@ fn any_operands(comparison: &mut Comparison, random: &mut Random) -> Outcome {
         }
     }
     Ok(())
+}
+
+/// A gate of every map byte and every table byte, in plans drawn in any order, which is read or
+/// refused as documents 01 and 02 say. Of every map byte but the last, which is too high, some gates
+/// get another place.
+fn every_map_and_table_byte(comparison: &mut Comparison, random: &mut Random) -> Outcome {
+    comparison.begin("drawn files, every map and table byte");
+    let mut seen = SeenGates::default();
+    let mut moved = [false; TRIED_MAPS];
+    for _ in 0..12 {
+        for tried in TriedGate::of_drawing(random) {
+            let place = usize::from(tried.number) - 1;
+            for file in tried.files() {
+                let found = compare_reading(comparison, &file.bytes)?;
+                seen.check(comparison, &file, gate_answer(&found, place))?;
+                let is_moved = found.number == 0 && found.drawn[place] != tried.number;
+                moved[usize::from(file.map)] |= is_moved;
+            }
+        }
+    }
+    if let Some(map) = moved[..TRIED_MAPS - 1].iter().position(|moved| !moved) {
+        return Err(Difference(format!(
+            "no gate of map byte {map} got another place\n"
+        )));
+    }
+    seen.check_seen()
+}
+
+/// The answer with the gate that was drawn at this place, its operands as drawn.
+fn gate_answer(found: &raw::Drawn, place: usize) -> GateAnswer {
+    let numbers = &found.drawn[..found.plan.gate_count.into()];
+    GateAnswer {
+        number: found.number,
+        at: found.at,
+        gate: drawn_as(&found.plan, numbers).gates[place],
+    }
 }
 
 /// Every field of a file at and beside its limits: operands among them 0, the gate's own wire, u + k

@@ -1,17 +1,21 @@
-//! Plan files: sound ones, ones damaged in every place, random bytes.
+//! Plan files: sound ones, gates of every map and table byte, files damaged in every place, random
+//! bytes.
 
 use mukdalis::Plan;
 
+use super::gates::{GateAnswer, SeenGates};
 use super::show::{hex, show_plan};
 use super::{Comparison, Difference, Outcome};
 use crate::random::Random;
 use crate::samples::damage::random_body;
+use crate::samples::gates::TriedGate;
 use crate::samples::{
     accepted_file, accepted_plan, Counts, PlanFile, Standing, LIMIT_COUNTS, LONGEST_FILE,
 };
 
 pub fn compare(comparison: &mut Comparison, random: &mut Random) -> Outcome {
     sound_files(comparison, random)?;
+    every_map_and_table_byte(comparison, random)?;
     counts_at_limits(comparison, random)?;
     fields_at_limits(comparison, random)?;
     two_damages(comparison, random)?;
@@ -63,6 +67,27 @@ pub fn not_as_written(comparison: &Comparison, plan: &Plan, file: &PlanFile) -> 
         ("written from", show_plan(plan)),
         ("both read", "something else".to_string()),
     ])
+}
+
+/// A gate of every map byte and every table byte, which is read or refused as documents 01 and 02
+/// say.
+fn every_map_and_table_byte(comparison: &mut Comparison, random: &mut Random) -> Outcome {
+    comparison.begin("every map and table byte");
+    let mut seen = SeenGates::default();
+    for _ in 0..10 {
+        for tried in TriedGate::of_plan(random) {
+            for file in tried.files() {
+                let found = comparison.reading_record(&file.bytes)?;
+                let answer = GateAnswer {
+                    number: found.number,
+                    at: found.at,
+                    gate: found.plan.gates[usize::from(tried.number) - 1],
+                };
+                seen.check(comparison, &file, answer)?;
+            }
+        }
+    }
+    seen.check_seen()
 }
 
 /// Every choice of counts, in range or not, before no body, a sound one and a random one.

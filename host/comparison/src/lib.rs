@@ -19,6 +19,7 @@ mod memory;
 mod program;
 
 mod buffer;
+mod gates;
 mod show;
 mod tables;
 
@@ -116,8 +117,13 @@ impl Comparison {
 
     /// Compares the reading of a file, and gives the plan if there is one.
     fn reading(&mut self, file: &[u8]) -> Result<Option<Plan>, Difference> {
-        let answer = reference::plan::read(file);
-        let expected = read_record(&answer);
+        let found = self.reading_record(file)?;
+        Ok((found.number == 0).then_some(found.plan))
+    }
+
+    /// Compares the reading of a file, and gives what both answer.
+    fn reading_record(&mut self, file: &[u8]) -> Result<raw::Read, Difference> {
+        let expected = read_record(&reference::plan::read(file));
         let found = raw::plan_read(file);
         if found != expected {
             return Err(self.difference(&[
@@ -130,8 +136,8 @@ impl Comparison {
                 ),
             ]));
         }
-        self.count(Call::Reading, expected.number);
-        Ok(answer.ok())
+        self.count(Call::Reading, found.number);
+        Ok(found)
     }
 
     /// Compares the plan faults of a plan in memory.

@@ -5,10 +5,13 @@ pub mod blocks;
 pub mod damage;
 pub mod drawings;
 pub mod fabric;
+pub mod gates;
 pub mod permutation;
 pub mod plans;
 pub mod programs;
 pub mod selection;
+
+use std::ops::Range;
 
 use mukdalis::{Gate, Plan};
 
@@ -19,6 +22,16 @@ pub const LONGEST_FILE: usize = 1670;
 
 /// The table of AND, which an absent table means.
 const AND: u16 = 8;
+
+/// The highest table, which has four lines.
+const LAST_TABLE: u16 = 15;
+
+/// The tables that need two lines only, as a file has where it leaves the second operand out: each
+/// at its table byte.
+const TWO_LINES: [u16; 4] = [0, 1, 8, 9];
+
+/// The highest table byte of two lines.
+const LAST_TWO_LINES: u16 = TWO_LINES.len() as u16 - 1;
 
 /// Counts at and beside their limits, and some whose low byte alone would be in range.
 pub const LIMIT_COUNTS: [u16; 13] = [
@@ -55,7 +68,8 @@ impl Counts {
     }
 }
 
-/// A random accepted plan. Many operands and tables are what an absent field means.
+/// A random accepted plan. Many operands and tables are what an absent field means, and many tables
+/// need two lines only.
 pub fn accepted_plan(random: &mut Random, Counts(u, k, v): Counts) -> Plan {
     let mut plan = Plan {
         inputs: u,
@@ -77,13 +91,20 @@ fn accepted_gate(random: &mut Random, own: u16) -> Gate {
     let first = random.choose(&[first, first, own - 1]);
     let second = random.between(1, own - 1);
     let second = random.choose(&[second, second, first]);
-    let table = random.between(0, 15);
-    let table = random.choose(&[table, table, AND]);
+    let any = random.between(0, LAST_TABLE);
+    let two_lines = random.choose(&TWO_LINES);
+    let table = random.choose(&[any, any, two_lines, AND]);
     Gate {
         first,
         second,
         table,
     }
+}
+
+/// The table byte of a table that needs two lines only.
+fn two_line_byte(table: u16) -> Option<u16> {
+    let mut bytes = 0..=LAST_TWO_LINES;
+    bytes.find(|&byte| TWO_LINES[usize::from(byte)] == table)
 }
 
 /// Fills the unused places of a plan whose counts are in range with anything.
@@ -130,12 +151,12 @@ pub enum Field {
     Count { most: u16 },
     Map,
     Operand { own: u16, last: u16 },
-    Table,
+    Table { most: u16 },
     Output { first: u16, last: u16 },
 }
 
 impl Field {
-    /// Values at and beside the field's limits.
+    /// Values at and beside the field's limits, for a table those of two lines and of four.
     pub fn limits(self) -> Vec<u16> {
         match self {
             Field::Count { most } => vec![0, 1, most, most + 1, 256, u16::MAX],
@@ -143,7 +164,7 @@ impl Field {
             Field::Operand { own, last } => {
                 vec![0, 1, own - 1, own, own + 1, last, last + 1, 256, u16::MAX]
             }
-            Field::Table => vec![0, 15, 16, 128, 255],
+            Field::Table { .. } => vec![0, 1, 2, 3, 4, 7, 8, 9, 15, 16, 128, 255],
             Field::Output { first, last } => {
                 vec![0, first - 1, first, last, last + 1, last + 256, u16::MAX]
             }
@@ -152,7 +173,7 @@ impl Field {
 
     /// Whether the field has two bytes.
     fn is_number(self) -> bool {
-        !matches!(self, Field::Map | Field::Table)
+        !matches!(self, Field::Map | Field::Table { .. })
     }
 }
 
@@ -165,7 +186,8 @@ pub struct PlanFile {
 
 impl PlanFile {
     /// The file of an accepted plan, or of a drawing: every field that differs from its default
-    /// stands, and of the others those that `standing` adds.
+    /// stands, a second operand also where the table needs four lines, and of the others those that
+    /// `standing` adds.
     pub fn new(random: &mut Random, plan: &Plan, standing: Standing) -> PlanFile {
         let Counts(most_inputs, most_gates, most_outputs) = Counts::MOST;
         let (u, k, v) = (plan.inputs, plan.gate_count, plan.output_count);
@@ -196,6 +218,14 @@ impl PlanFile {
         maps.nth(usize::from(g) - 1).expect("the gate is there").0
     }
 
+    /// The places of the bytes of gate g, from 1.
+    fn gate_places(&self, g: u16) -> Range<usize> {
+        let start = self.map_offset(g);
+        let mut behind = self.fields.iter().filter(|&&(at, _)| at > start);
+        let next = behind.find(|(_, field)| matches!(field, Field::Map | Field::Output { .. }));
+        start..next.expect("an output is there").0
+    }
+
     /// The gate whose wire is `own`, in a plan whose last wire is `last`.
     fn put_gate(
         &mut self,
@@ -205,9 +235,10 @@ impl PlanFile {
         last: u16,
         standing: Standing,
     ) {
-        let mut stands = |differs: bool| differs || standing.decide(random);
+        let two_lines = two_line_byte(gate.table);
+        let mut stands = |due: bool| due || standing.decide(random);
         let first = stands(gate.first != own - 1);
-        let second = stands(gate.second != gate.first);
+        let second = stands(gate.second != gate.first || two_lines.is_none());
         let table = stands(gate.table != AND);
         let map = u16::from(first) | u16::from(second) << 1 | u16::from(table) << 2;
         self.put(Field::Map, map);
@@ -218,7 +249,11 @@ impl PlanFile {
             self.put(Field::Operand { own, last }, gate.second);
         }
         if table {
-            self.put(Field::Table, gate.table);
+            let (most, byte) = match two_lines {
+                Some(byte) if !second => (LAST_TWO_LINES, byte),
+                _ => (LAST_TABLE, gate.table),
+            };
+            self.put(Field::Table { most }, byte);
         }
     }
 
@@ -235,6 +270,7 @@ impl PlanFile {
 #[cfg(test)]
 mod tests {
     use super::*;
+    use crate::reference::plan::read;
 
     #[test]
     fn the_longest_file_has_every_field_of_the_most_gates_and_outputs() {
@@ -242,6 +278,62 @@ mod tests {
         let plan = accepted_plan(&mut random, Counts::MOST);
         let file = PlanFile::new(&mut random, &plan, Standing::All);
         assert_eq!(file.bytes.len(), LONGEST_FILE);
-        assert_eq!(crate::reference::plan::read(&file.bytes), Ok(plan));
+        assert_eq!(read(&file.bytes), Ok(plan));
+    }
+
+    #[test]
+    fn two_lines_are_those_of_equal_operand_bits() {
+        for (byte, table) in (0..).zip(TWO_LINES) {
+            assert_eq!(table, byte & 1 | (byte >> 1) << 3);
+            assert_eq!(two_line_byte(table), Some(byte));
+        }
+        let others = (0..=LAST_TABLE).filter(|&table| two_line_byte(table).is_none());
+        assert_eq!(others.count(), 12);
+    }
+
+    /// The limit of the file's one table byte.
+    fn table_limit(file: &PlanFile) -> Option<u16> {
+        file.fields.iter().find_map(|&(_, field)| match field {
+            Field::Table { most } => Some(most),
+            _ => None,
+        })
+    }
+
+    /// A gate of equal operands, with every table, in its shortest file.
+    #[test]
+    fn a_second_operand_stands_where_the_table_needs_four_lines() {
+        let mut random = Random::new(2);
+        let mut plan = accepted_plan(&mut random, Counts::LEAST);
+        for table in 0..=LAST_TABLE {
+            plan.gates[0].table = table;
+            let file = PlanFile::new(&mut random, &plan, Standing::None);
+            let (limit, fields) = match table {
+                0 | 1 | 9 => (Some(LAST_TWO_LINES), 6),
+                AND => (None, 5),
+                _ => (Some(LAST_TABLE), 7),
+            };
+            assert_eq!(table_limit(&file), limit, "table {table}");
+            assert_eq!(file.fields.len(), fields, "table {table}");
+            assert_eq!(read(&file.bytes), Ok(plan));
+        }
+    }
+
+    /// Tables of two lines, and of four behind a second operand that equals the first: each in more
+    /// than one of twenty gates.
+    #[test]
+    fn gates_of_equal_operands_have_tables_of_either_form_often() {
+        let mut random = Random::new(3);
+        let (mut short, mut long) = (0, 0);
+        for _ in 0..1_000 {
+            let plan = accepted_plan(&mut random, Counts(3, 1, 1));
+            let file = PlanFile::random(&mut random, &plan);
+            let gate = plan.gates[0];
+            match table_limit(&file) {
+                Some(LAST_TWO_LINES) => short += 1,
+                Some(_) if gate.first == gate.second => long += 1,
+                _ => {}
+            }
+        }
+        assert!(short > 50 && long > 50, "{short} and {long}");
     }
 }

@@ -1,14 +1,18 @@
 //! The example plans of `plans/`: the library reads each file, plain or drawn, evaluates the plan
-//! and runs its fabric, and both give what the plan's rule says. What `plans/README.md` and the
-//! worked example of `README.md` show is what the library gives.
+//! and runs its fabric, and both give what the plan's rule says. Its gates are those that document
+//! 01 alone gives. What `plans/README.md` and the worked example of `README.md` show is what the
+//! library gives.
 
 use std::fs;
 use std::path::{Path, PathBuf};
 
 use comparison::random::Random;
+use comparison::reference::plan::used_gates;
 use comparison::reference::programs::Program;
+use comparison::samples::drawings::drawn_as;
 use mukdalis::{
-    count_fabric, evaluate, program_plan, read, read_drawn, run_fabric, write_fabric, Fault, Plan,
+    count_fabric, evaluate, program_plan, read, read_drawn, run_fabric, write_fabric, Fault, Gate,
+    Plan,
 };
 
 /// An example plan: its file, its counts u, k, v, and its rule, the outputs on a row of inputs. A
@@ -205,6 +209,62 @@ fn drawings_are_read_in_their_order() {
             }
         }
     }
+}
+
+fn byte(file: &mut impl Iterator<Item = u8>) -> u8 {
+    file.next().expect("the file goes on")
+}
+
+fn number(file: &mut impl Iterator<Item = u8>) -> u16 {
+    u16::from_le_bytes([byte(file), byte(file)])
+}
+
+/// The map byte and the gate of every gate in a file, by document 01: a table byte is the table,
+/// whether or not the second operand stands.
+fn gates_by_document_01(file: &[u8]) -> Vec<(u8, Gate)> {
+    let mut file = file.iter().copied();
+    let [u, k, _] = [(); 3].map(|()| number(&mut file));
+    let gate = |own: u16| {
+        let map = byte(&mut file);
+        let stands = |bit: u8| map >> bit & 1 == 1;
+        let first = if stands(0) {
+            number(&mut file)
+        } else {
+            own - 1
+        };
+        let second = if stands(1) { number(&mut file) } else { first };
+        let table = if stands(2) { byte(&mut file) } else { 8 };
+        let gate = Gate {
+            first,
+            second,
+            table: table.into(),
+        };
+        (map, gate)
+    };
+    (u + 1..=u + k).map(gate).collect()
+}
+
+/// By document 02 a table byte without a second operand has two lines. The examples that have one
+/// mean what they mean by document 01. The gates of a drawing are compared in drawn order, with
+/// their operands in drawn numbers.
+#[test]
+fn plans_have_the_gates_that_document_01_gives() {
+    let has_two_lines = |map: &u8| map & 6 == 4;
+    let mut of_two_lines = Vec::new();
+    for example in EXAMPLES {
+        let file = file_of(example.file);
+        let (maps, gates): (Vec<u8>, Vec<Gate>) = gates_by_document_01(&file).into_iter().unzip();
+        let plan = plan_of(&example);
+        let drawing = match example.drawn {
+            Some(numbers) => drawn_as(&plan, numbers),
+            None => plan,
+        };
+        assert_eq!(used_gates(&drawing), gates, "{}", example.file);
+        if maps.iter().any(has_two_lines) {
+            of_two_lines.push(example.file);
+        }
+    }
+    assert_eq!(of_two_lines, ["drawn.plan", "not.plan"]);
 }
 
 /// The file's bytes where they are few, otherwise how many.

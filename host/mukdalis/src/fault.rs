@@ -30,7 +30,7 @@ pub enum Fault {
     Map = 6,
     /// An operand is wire 0, or not below the gate's own; in drawn reading wire 0, or above u + k.
     Operand = 7,
-    /// A table is above 15.
+    /// A table is above 15; in a file, where the second operand is absent, above 3.
     Table = 8,
     /// An output is not in u + 1 to u + k. Block library: a wanted input is not in 1 to m or, in P,
     /// not in 1 to n or comes twice.

@@ -110,6 +110,10 @@ impl Plan {
 /// just before the gate), bit 1 second operand (two bytes; absent: the same as the first), bit 2
 /// table (one byte; absent: 8). Last v outputs, two bytes each.
 ///
+/// A table byte has four lines where the second operand stands, equal to the first or not: it is the
+/// gate's table, 0 to 15. It has two lines where the second operand is absent: it is 0 to 3, bit 0
+/// the gate's bit on operand bit 0, bit 1 that on 1, and becomes the table 0, 1, 8 or 9.
+///
 /// # Errors
 ///
 /// In this order: stub at 0; inputs at 0; gates at 2; outputs at 4; per gate cut, then map, and per
@@ -126,6 +130,11 @@ impl Plan {
 /// assert_eq!((plan.gates[0].first, plan.gates[0].second, plan.gates[0].table), (1, 1, 1));
 ///
 /// assert_eq!(read(&file[..9]), Err(Refusal { fault: Fault::Cut, at: 8 }));
+///
+/// // The same file with other table bytes: 2, which gives what the input gives, and 4.
+/// assert_eq!(read(&[1, 0, 1, 0, 1, 0, 4, 2, 2, 0])?.gates[0].table, 8);
+/// let above = read(&[1, 0, 1, 0, 1, 0, 4, 4, 2, 0]);
+/// assert_eq!(above, Err(Refusal { fault: Fault::Table, at: 7 }));
 /// # Ok::<(), Refusal>(())
 /// ```
 pub fn read(file: &[u8]) -> Result<Plan, Refusal> {

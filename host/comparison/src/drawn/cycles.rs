@@ -214,7 +214,7 @@ fn compare_tail(comparison: &mut Comparison, random: &mut Random, file: &PlanFil
 fn fault_of(field: Field, value: u16) -> Option<Fault> {
     let (is_bad, fault) = match field {
         Field::Operand { last, .. } => (value == 0 || value > last, Fault::Operand),
-        Field::Table => (value > 15, Fault::Table),
+        Field::Table { most } => (value > most, Fault::Table),
         Field::Output { first, last } => (value < first || value > last, Fault::Source),
         Field::Count { .. } | Field::Map => return None,
     };

@@ -152,6 +152,16 @@ mod tests {
         assert_eq!((last.first, last.second, last.table), (3, 3, 8));
     }
 
+    /// Gate 1 from gate 2 alone, both lines 1; gate 2 from the input.
+    #[test]
+    fn two_lines_go_with_their_gate() {
+        let file = file(1, &[&[5, 3, 0, 3], &[1, 1, 0]]);
+        assert_eq!(drawn_numbers(&file), [2, 1]);
+        let plan = read(&file).expect("the gates have an order").plan;
+        let last = plan.gates[1];
+        assert_eq!((last.first, last.second, last.table), (2, 2, 9));
+    }
+
     #[test]
     fn a_gate_fed_by_itself_is_a_cycle() {
         assert_eq!(refused(&file(1, &[&[1, 2, 0]])), (15, 6));
@@ -193,6 +203,7 @@ mod tests {
         assert_eq!(refused(&[&cycle[..], &[0]].concat()), (10, 15));
         assert_eq!(refused(&cycle[..14]), (5, 13));
         assert_eq!(changed(13, 4), (9, 13));
+        assert_eq!(changed(12, 4), (8, 12));
         assert_eq!(changed(12, 16), (8, 12));
         assert_eq!(changed(9, 8), (6, 9));
     }

@@ -10,8 +10,12 @@ pub(super) const HEADER: usize = 6;
 /// The highest map byte: one bit for each of a gate's three fields.
 const LAST_MAP: u16 = 7;
 
-/// The highest table: one bit for each pair of operand bits.
+/// The highest table: one line for each pair of operand bits.
 const LAST_TABLE: u16 = 15;
+
+/// The highest table byte of a gate whose file leaves the second operand out (document 02, W4): one
+/// line for each bit of the first.
+const LAST_TWO_LINES: u16 = 3;
 
 /// The table of a gate whose file leaves it out: AND.
 const ABSENT_TABLE: u16 = 8;
@@ -134,10 +138,12 @@ impl Reader<'_> {
         } else {
             first
         };
-        let table = if stands(2) {
+        let table = if !stands(2) {
+            ABSENT_TABLE
+        } else if stands(1) {
             self.byte(LAST_TABLE, Fault::Table)?
         } else {
-            ABSENT_TABLE
+            four_lines(self.byte(LAST_TWO_LINES, Fault::Table)?)
         };
         Ok(Gate {
             first,
@@ -163,6 +169,12 @@ impl Reader<'_> {
         }
         Ok(())
     }
+}
+
+/// The table that has these two lines for operand bits 0, 0 and 1, 1. For bits that differ, which
+/// equal operands never have, its lines are 0.
+fn four_lines(two_lines: u16) -> u16 {
+    two_lines & 1 | (two_lines >> 1) << 3
 }
 
 pub(super) fn refusal(fault: Fault, at: usize) -> Refusal {
@@ -357,8 +369,84 @@ mod tests {
         assert_eq!(plan.outputs[1..], [0; 63]);
     }
 
+    /// The file of one input and one gate, which has these bytes.
+    fn with_gate(gate: &[u8]) -> Vec<u8> {
+        [&header(1, 1, 1)[..], gate, &[2, 0]].concat()
+    }
+
+    /// The gate that the file of these bytes is read as.
+    fn gate_of(gate: &[u8]) -> (u16, u16, u16) {
+        let plan = read(&with_gate(gate)).expect("the file is a plan");
+        let Gate {
+            first,
+            second,
+            table,
+        } = plan.gates[0];
+        (first, second, table)
+    }
+
+    /// A gate of one operand up to its table: with the operand absent, and standing.
+    const ONE_OPERAND: [&[u8]; 2] = [&[4], &[5, 1, 0]];
+
+    /// The same with a second operand that stands and equals the first.
+    const EQUAL_OPERANDS: [&[u8]; 2] = [&[6, 1, 0], &[7, 1, 0, 1, 0]];
+
+    #[test]
+    fn a_table_of_one_operand_has_two_lines() {
+        for gate in ONE_OPERAND {
+            for (byte, table) in (0..).zip([0, 1, 8, 9]) {
+                assert_eq!(gate_of(&[gate, &[byte]].concat()), (1, 1, table));
+            }
+            for byte in [4, 8, 15, 16, 255] {
+                let file = with_gate(&[gate, &[byte]].concat());
+                assert_eq!(refused(&file), (8, 6 + gate.len() as u64), "byte {byte}");
+            }
+        }
+    }
+
+    #[test]
+    fn a_standing_second_operand_keeps_four_lines() {
+        for gate in EQUAL_OPERANDS {
+            for table in 0..=15 {
+                assert_eq!(gate_of(&[gate, &[table]].concat()), (1, 1, table.into()));
+            }
+            for byte in [16, 255] {
+                let file = with_gate(&[gate, &[byte]].concat());
+                assert_eq!(refused(&file), (8, 6 + gate.len() as u64), "byte {byte}");
+            }
+        }
+    }
+
+    #[test]
+    fn a_file_cut_before_a_table_is_refused_at_it() {
+        for gate in ONE_OPERAND.into_iter().chain(EQUAL_OPERANDS) {
+            let cut = [&header(1, 1, 1)[..], gate].concat();
+            assert_eq!(refused(&cut), (5, cut.len() as u64));
+        }
+    }
+
+    #[test]
+    fn an_absent_table_is_8_with_one_operand_and_with_two() {
+        for gate in [&[0][..], &[1, 1, 0], &[2, 1, 0], &[3, 1, 0, 1, 0]] {
+            assert_eq!(gate_of(gate), (1, 1, 8));
+        }
+    }
+
+    #[test]
+    fn a_gate_of_one_operand_gives_the_line_of_its_bit() {
+        for gate in ONE_OPERAND {
+            for byte in 0..=3 {
+                let file = with_gate(&[gate, &[byte]].concat());
+                for bit in [0, 1] {
+                    assert_eq!(outputs(&file, &[bit]), [byte >> bit & 1], "byte {byte}");
+                }
+            }
+        }
+    }
+
     #[test]
     fn not_plan() {
+        assert_eq!(read(&NOT).map(|plan| plan.gates[0].table), Ok(1));
         assert_eq!(outputs(&NOT, &[0]), [1]);
         assert_eq!(outputs(&NOT, &[1]), [0]);
     }
@@ -390,6 +478,17 @@ mod tests {
         assert_eq!(fault(&plan), Some(Fault::Gates));
         plan.inputs = 0;
         assert_eq!(fault(&plan), Some(Fault::Inputs));
+    }
+
+    #[test]
+    fn a_table_in_memory_has_four_lines_whatever_the_operands() {
+        let mut plan = read(&NOT).expect("the file is a plan");
+        for table in 0..=15 {
+            plan.gates[0].table = table;
+            assert_eq!(fault(&plan), None, "table {table}");
+        }
+        plan.gates[0].table = 16;
+        assert_eq!(fault(&plan), Some(Fault::Table));
     }
 
     #[test]

@@ -23,20 +23,24 @@ no-second c =
 no-table : tie.Need-returns-3
 no-table c =
     let table = c .before in
-    let second = table .before .before .before .before in
+    let lines = table .before .before .before in
+    let lines-given = rw (lines .map-bit .ensures) at (table .before .before .standing-table .ensures) in
+    let second = lines .before .before in
     let first = second .before .before .before .before in
     rw (← first .before .before .before .wire-before .ensures)
-    (ap (followed _ _) (ap tableAnswer (sym (table .x3 .given .1)) ∙ table .before .before .standing-table .ensures)
+    (ap (followed _ _) (ap tableAnswer (sym (table .x3 .given .1)) ∙ lines-given)
     ∙ ap (followed _ _) (ap operandAnswer (sym (second .second .given .1)) ∙ second .before .before .standing-operand2 .ensures)
     ∙ ap (followed _ _) (ap operandAnswer (sym (first .first .given .1)) ∙ first .before .before .standing-operand .ensures))
 
 whole : tie.Need-returns-4
 whole c =
     let table = c .before in
-    let second = table .before .before .before .before in
+    let lines = table .before .before .before in
+    let lines-given = rw (lines .map-bit .ensures) at (table .before .before .standing-table .ensures) in
+    let second = lines .before .before in
     let first = second .before .before .before .before in
     rw (← first .before .before .before .wire-before .ensures)
-    (ap (followed _ _) (ap tableAnswer (sym (table .table .given .1)) ∙ table .before .before .standing-table .ensures)
+    (ap (followed _ _) (ap tableAnswer (sym (table .table .given .1)) ∙ lines-given)
     ∙ ap (followed _ _) (ap operandAnswer (sym (second .second .given .1)) ∙ second .before .before .standing-operand2 .ensures)
     ∙ ap (followed _ _) (ap operandAnswer (sym (first .first .given .1)) ∙ first .before .before .standing-operand .ensures))
 
@@ -46,5 +50,5 @@ read-fields-spec =
     (tie.spec
     (λ c. search needs) (λ c κs. search needs) (λ c. search needs)
     (λ c. search needs) (λ c κs. search needs) (λ c. search needs)
-    (λ c. search needs) (λ c κs. search needs) (λ c. search needs) (λ c. search needs)
+    (λ c. search needs) (λ c κs. search needs) (λ c κs. search needs) (λ c. search needs) (λ c. search needs)
     no-first no-second no-table whole)

@@ -1,20 +1,30 @@
--- `plan_fields::cursor::Cursor::table` meets its contract: the three cases of a field of one byte. Assumes nothing.
+-- `plan_fields::cursor::Cursor::table` meets its contract: a field of one byte, cut or not, by its form. Assumes nothing.
+use mathlib.Core.Path.{ap, _∙_}
 use native.Mathlib.Omega.{arith}
 use borrow.Author.Needs.{needs}
-use Rattle.plan_fields.proofs.ParsingLaws.{field-cut, field-got, field-bad}
+use Rattle.plan_fields.specs.Parsing.{followed}
+use Rattle.plan_fields.proofs.ParsingLaws.{field-cut, field-then}
 use Rattle.plan_fields.proofs.cursor.Cursor.table.Statement.{statement}
 use Rattle.plan_fields.proofs.cursor.Cursor.table.Tie as tie
 
 cut : tie.Need-returns
-cut c = field-cut _ _ _ _ _ _ (omega arith)
+cut c = ap (followed _ _) (field-cut _ _ _ _ _ _ (omega arith))
 
-value : tie.Need-returns-2
-value c = field-got _ _ _ _ _ _ (c .before .before .wide-byte .ensures) (c .before .table-allowed .ensures) (omega arith) (c .if2 .taken)
+four : tie.Need-returns-2
+four c =
+    let form = c .before in
+    rw (form .if2 .taken) (c .limited-table .ensures ∙ field-then _ _ _ _ _ _ _ (form .before .wide-byte .ensures) (omega arith))
 
-bad : tie.Need-returns-3
-bad c = field-bad _ _ _ _ _ _ (c .before .before .wide-byte .ensures) (c .before .table-allowed .ensures) (omega arith) (c .if2 .left)
+two : tie.Need-returns-3
+two c =
+    let form = c .before .before in
+    rw (form .if2 .left)
+    (rw (c .before .two-lines .ensures) at (c .limited-table2 .ensures)
+    ∙ field-then _ _ _ _ _ _ _ (form .before .wide-byte .ensures) (omega arith))
 
 pub table-spec : {M : Type 1} → statement M
 table-spec =
     tie.close
-    (tie.spec (λ c κs. search needs) cut (λ c. search needs) (λ c κs. search needs) (λ c κs. search needs) (λ c. search needs) value bad)
+    (tie.spec
+    (λ c κs. search needs) cut (λ c. search needs) (λ c κs. search needs) (λ c. search needs)
+    (λ c κs. search needs) four (λ c κs. search needs) (λ c κs. search needs) two)
