@@ -86,11 +86,11 @@ read-so s at x y t next same here absent = record {
 }
 
 -- with m its map byte, x and y its operands, t its table
-fields-read : (bound own : ℕ) (s : List ℕ) (at m x y b c t d : ℕ) (g : Gate) (next : ℕ) → m ≡ byteAt s at
+fields-read : (bound : ℕ) (s : List ℕ) (at m x y b c t d : ℕ) (g : Gate) (next : ℕ) → m ≡ byteAt s at
     → standing (mapBit m secondPlace) (operandField bound) x s b ≡ got y c
     → standing (mapBit m tablePlace) (tableField (mapBit m secondPlace)) absentTable s c ≡ got t d
     → got (record { first = wire x; second = wire y; table = t }) d ≡ got g next → TableRead s at next g
-fields-read bound own s at m x y b c t d g next here second table e =
+fields-read bound s at m x y b c t d g next here second table e =
     let same : record { first = wire x; second = wire y; table = t } ≡ g = cc in
     let end : d ≡ next = cc in
     let second-here = rw here at second in
@@ -104,7 +104,7 @@ table-read-theorem bound own s at next g e =
     let (x, b, first, e) = both-read _ s (standing (mapBit m firstPlace) (operandField bound) (own - 1) s a) e in
     let (y, c, second, e) = both-read _ s (standing (mapBit m secondPlace) (operandField bound) x s b) e in
     let (t, d, table, e) = both-read _ s (standing (mapBit m tablePlace) (tableField (mapBit m secondPlace)) absentTable s c) e in
-    fields-read bound own s at m x y b c t d g next (field-read 1 byteAt mapAllowed Fault.Map s at (sym map) .1) second table e
+    fields-read bound s at m x y b c t d g next (field-read 1 byteAt mapAllowed Fault.Map s at (sym map) .1) second table e
 
 -- ---- the checks of a table of two lines, and the sixteen tables of four
 
