@@ -23,7 +23,7 @@ operandAllowed bound w = leb 1 w && ltb w bound
 abbrev pub maxTable : ℕ
 maxTable = 15
 
--- a table: not above 15
+-- a table in memory: not above 15. A table byte has its own limit
 unfoldable pub tableAllowed : ℕ → Bool
 tableAllowed t = leb t maxTable
 

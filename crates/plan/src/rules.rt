@@ -1,4 +1,5 @@
-// What a count, a map byte, an operand, a table and an output may be: one definition each, for reading and for a plan in memory.
+// What a count, a map byte, an operand, a table and an output may be: one definition each, for reading and for a plan in memory. The table's is for
+// memory: a table byte has its own limit.
 ghost use mathlib.Core.Path.{_≡_};
 ghost use Rattle.plan.specs.Rules.{countAllowed, mapAllowed, operandAllowed, tableAllowed, sourceAllowed};
 use crate::record::Gate;
