@@ -3,7 +3,7 @@ use mathlib.Core.Path.{_≡_, refl, sym, ap, _∙_}
 use mathlib.Core.Logic.{_≢_}
 use mathlib.Core.List.{List, [], _∷_, _++_, append-nil}
 use Prim.Native.Nat.{ℕ, suc, _+_, _-_, _*_, _%_, _≤_, _<_, min}
-use native.Mathlib.Nat.{add-zero, zero-add, add-suc, suc-add, mod-eq-of-lt, min-eq-left}
+use native.Mathlib.Nat.{zero-add, add-suc, suc-add, mod-eq-of-lt, min-eq-left}
 use native.Mathlib.Numerals.{add-one}
 use native.Mathlib.Decide.{ℕ-discrete}
 use native.Mathlib.Omega.{arith}
@@ -11,7 +11,7 @@ use borrow.Rule.Slice.PartMut.{midOf, postOf, putMid}
 use lib.ListN.{length, set, take, drop, replicate, length-append, length-drop, length-replicate, drop-of-length-le, take-append-drop, List·getD-append}
 use lib.Seq.{sets, sets-eq, set-append-left, getD-append-add, take-all, length-take-le}
 use Rattle.lists.specs.Lists.{listOf}
-use Rattle.lists.proofs.ListsLaws.{length-listOf}
+use Rattle.lists.proofs.ListsLaws.{length-listOf, sets-append}
 use Rattle.fault.specs.Buffers.{over}
 use Rattle.block_elements.specs.Bits.{bitByte, bitPlace, bytesFor, bitAt, setBit, storeBits, zeroBytes, pack, AreBits, bitsHeld}
 use Rattle.block_elements.proofs.BitsLaws.{AreBytes}
@@ -32,10 +32,6 @@ store-more s p i f =
 pub store-step : (s₀ : List ℕ) {s : List ℕ} (p i : ℕ) {b : ℕ} (f : ℕ → ℕ) → s ≡ storeBits s₀ p (listOf i f) → b < 2 → b ≡ f i
     → setBit s (p + i) (b % 2) ≡ storeBits s₀ p (listOf (i + 1) f)
 store-step s₀ p i f held small e = rw (mod-eq-of-lt small, held, e) (store-more s₀ p i f)
-
-sets-append : (u v l : List ℕ) (i : ℕ) → sets l i (u ++ v) ≡ sets (sets l i u) (i + length u) v
-sets-append [] v l i = rw add-zero
-sets-append (a ∷ u) v l i = rw (add-suc i (length u), ← suc-add i (length u)) (sets-append u v (set l i a) (suc i))
 
 pub set-none : (l : List ℕ) (at : ℕ) (f : ℕ → ℕ) → l ≡ sets l at (listOf 0 f)
 unfolding listOf

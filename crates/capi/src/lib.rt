@@ -10,14 +10,16 @@ ghost use Rattle.plan_evaluation_checks.specs.EvaluationChecks.{evaluateFault};
 ghost use Rattle.plan_evaluation.specs.Evaluation.{evaluateResult};
 ghost use Rattle.plan_reading.specs.PlanFile.{planRead};
 ghost use Rattle.plan_drawn.specs.DrawnFile.{drawnRead};
+ghost use Rattle.plan_saving.specs.Saving.{planSave, saveResult};
 ghost use Rattle.fabric.specs.Fabrics.{counting, kindCounting, fabricResult, fabricFault, planProgramFault, planProgramResult, runFault, runWork, runResult};
-ghost use Rattle.capi.specs.Exports.{exportOutcome, exportDrawn, countsOf, exportSheet};
+ghost use Rattle.capi.specs.Exports.{exportOutcome, exportDrawn, exportSaved, countsOf, exportSheet};
 use elements::CountAnswer;
 use elements::FabricWire;
 use elements::KindCounts;
 use elements::SheetAnswer;
 use plan::Plan;
 use plan_reading::ReadAnswer;
+use plan_saving::SaveAnswer;
 
 // The header's struct mkd_read: number and offset 0 where a plan was read, the plan all zero where not.
 #[repr(C)]
@@ -104,6 +106,31 @@ pub extern "C" fn mkd_plan_evaluate(plan: Plan, row: &[u8], result: &mut [u8]) -
     ensures written { λ _. ⌜ now (result .exit) ≡ evaluateResult plan (now (row .entry)) (now (result .entry)) ⌝ }
 {
     plan_evaluation::evaluate(plan, row, result).number()
+}
+
+// The header's struct mkd_saved: number 0 with the length of the file that was written, length 0 where none was.
+#[repr(C)]
+pub struct Saved {
+    pub number: u32,
+    pub length: u64,
+}
+
+// Writes the shortest file of a plan.
+#[no_mangle]
+pub extern "C" fn mkd_plan_save(plan: Plan, file: &mut [u8]) -> Saved
+    ensures answered { λ r. ⌜ exportSaved r ≡ planSave plan (length (now (file .entry))) ⌝ }
+    ensures written { λ _. ⌜ now (file .exit) ≡ saveResult plan (now (file .entry)) ⌝ }
+{
+    match plan_saving::save_plan(plan, file) {
+        SaveAnswer::Saved(length) => Saved {
+            number: 0,
+            length: length as u64,
+        },
+        SaveAnswer::Refused(f) => Saved {
+            number: f.number(),
+            length: 0,
+        },
+    }
 }
 
 // The header's struct mkd_counts: number 0 where the block or the fabric was counted, its counts all zero where not.

@@ -6,3 +6,5 @@ pub mod StatedFiguresLaws
 pub mod DrawnFiguresLaws
 -- the figures of table bytes hold
 pub mod TableFiguresLaws
+-- the figures of saving hold
+pub mod SavingFiguresLaws

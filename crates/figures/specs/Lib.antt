@@ -1,4 +1,4 @@
--- Document 01, "Bench sheet", and document 02, W1 and W4, on figures.
+-- Document 01, "Bench sheet", and document 02, W1, W4 and W5, on figures.
 -- a figure, and the claim that a table of them holds
 pub mod Figure
 -- the starred figures
@@ -7,3 +7,5 @@ pub mod StatedFigures
 pub mod DrawnFigures
 -- document 02, W4, on figures
 pub mod TableFigures
+-- document 02, W5, on figures
+pub mod SavingFigures

@@ -3,11 +3,11 @@ use mathlib.Core.Path.{_≡_, refl, sym, ap, _∙_}
 use mathlib.Core.Logic.{_⊎_, inl, inr}
 use mathlib.Core.List.{List, [], _∷_, _++_, append-assoc, append-nil}
 use Prim.Native.Nat.{ℕ, zero, suc, _+_, _-_, _<_, _≤_}
-use native.Mathlib.Nat.{le-refl, le-step, eq-or-lt-of-le, le-of-suc-le-suc, not-suc-le-zero}
+use native.Mathlib.Nat.{le-refl, le-step, eq-or-lt-of-le, le-of-suc-le-suc, not-suc-le-zero, add-zero, add-suc, suc-add}
 use native.Mathlib.Omega.{arith}
 use native.Mathlib.Decide.{decLt}
-use lib.ListN.{length, getD, length-append, List·getD-append, List·getD-eq-default}
-use lib.Seq.{getD-at, getD-append-add, ext-getD}
+use lib.ListN.{length, getD, set, length-append, List·getD-append, List·getD-eq-default}
+use lib.Seq.{getD-at, getD-append-add, ext-getD, sets}
 use Rattle.lists.specs.Lists.{listOf, Below, Every, every-none, every-more}
 
 -- an element of a list does not depend on the default
@@ -64,6 +64,11 @@ module _ {A : Type 0} where
   pub listOf-getD : (l : List A) (d : A) → listOf (length l) (λ i. getD l i d) ≡ l
   listOf-getD l d =
       ext-getD d _ l (length-listOf (length l) _) (λ i h. getD-listOf (length l) _ i d (rw (length-listOf (length l) (λ i. getD l i d)) at h))
+
+-- stores of one list and then of another behind it
+pub sets-append : {A : Type 0} (u v l : List A) (i : ℕ) → sets l i (u ++ v) ≡ sets (sets l i u) (i + length u) v
+sets-append [] v l i = rw add-zero
+sets-append (a ∷ u) v l i = rw (add-suc i (length u), ← suc-add i (length u)) (sets-append u v (set l i a) (suc i))
 
 -- ---- lists whose elements are all of a kind
 

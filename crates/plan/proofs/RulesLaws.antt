@@ -10,7 +10,7 @@ use lib.Dec.{leb, ltb}
 use Rattle.plan.specs.Rules.{countAllowed, maxMap, mapAllowed, operandAllowed, maxTable, tableAllowed, sourceAllowed}
 
 -- two tests that both pass
-both-bounds : {a b : Bool} {P Q : Type 0} → (a ≡ true) ↔ P → (b ≡ true) ↔ Q → (a && b ≡ true) ↔ (P × Q)
+pub both-bounds : {a b : Bool} {P Q : Type 0} → (a ≡ true) ↔ P → (b ≡ true) ↔ Q → (a && b ≡ true) ↔ (P × Q)
 both-bounds {a} {b} p q =
     (λ h. let (low, high) = and-eq-true-iff a b .0 h in (p .0 low, q .0 high), λ h. and-eq-true-iff a b .1 (p .1 (h .0), q .1 (h .1)))
 

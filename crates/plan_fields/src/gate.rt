@@ -13,14 +13,14 @@ use plan::Gate;
 use plan::PlanWire;
 
 // The places of a map byte's bits, lowest first.
-const FIRST_PLACE: u8 = 0;
+pub const FIRST_PLACE: u8 = 0;
 
-const SECOND_PLACE: u8 = 1;
+pub const SECOND_PLACE: u8 = 1;
 
-const TABLE_PLACE: u8 = 2;
+pub const TABLE_PLACE: u8 = 2;
 
 // A table that is absent: AND.
-const ABSENT_TABLE: u16 = 8;
+pub const ABSENT_TABLE: u16 = 8;
 
 // A gate with the next cursor, or its refusal.
 pub enum GateStep {
@@ -40,7 +40,7 @@ pub fn read_gate(file: &[u8], c: Cursor, bound: PlanWire, own: PlanWire) -> Gate
 }
 
 // The wire just before a wire, 0 before 0.
-fn wire_before(own: PlanWire) -> PlanWire
+pub fn wire_before(own: PlanWire) -> PlanWire
     ensures { λ r. ⌜ r .0 ≡ own .0 - 1 ⌝ }
 {
     if own.0 == 0 {

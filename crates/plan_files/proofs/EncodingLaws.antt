@@ -1,6 +1,6 @@
 -- Forward: where a plan's file stands, each field is read as it was written. Backward: each field that is read stands in the file, so the
 -- file is one of the plan's: `reads-exactly`. The file in which every field stands is a plan's longest: `longest-plan`.
-use Prim.Native.Nat.{ℕ, _+_, _-_, _*_, _/_, _%_, _≤_}
+use Prim.Native.Nat.{ℕ, _+_, _-_, _*_, _/_, _%_, _≤_, _<_}
 use native.Mathlib.Omega.{arith}
 use mathlib.Core.Path.{_≡_, refl, ap, ap₂}
 use mathlib.Core.Bool.{Bool, true, false, true≢false}
@@ -252,7 +252,7 @@ pub full-longest : (maps : ℕ → ℕ) (p : Plan) → length (encode maps p) �
 unfolding encode
 full-longest maps p =
     let g = gateAt p in
-    let gates = joined-shorter (λ i. encodeGate (maps i) (g i)) (λ i. encodeGate maxMap (g i)) (p .«gate_count») (λ i. gate-length (maps i) (g i)) in
+    let gates = joined-shorter (λ i. encodeGate (maps i) (g i)) (λ i. encodeGate maxMap (g i)) (p .«gate_count») (λ i _. gate-length (maps i) (g i)) in
     simp length-append (omega arith)
 
 -- an accepted plan has no longer file
@@ -283,24 +283,31 @@ full-gate own g = record {
 pub full-choice : (p : Plan) → Choice (λ _. maxMap) p
 full-choice p i l = full-gate (gateWire (p .inputs) i) (gateAt p i)
 
--- the input AND itself
-andGate : Gate
-andGate = record { first = wire 1; second = wire 1; table = absentTable }
+-- the inputs' XOR: no field equals its default, wherever the gate stands
+unfoldable pub xorGate : Gate
+xorGate = record { first = wire 1; second = wire 2; table = 6 }
 
--- a plan with one input and as many gates and outputs as there may be: that gate 256 times, and the first of them 64 times
-pub largest : Plan
-largest = planOf 1 maxGates maxOutputs (replicate maxGates andGate) (replicate maxOutputs (wire 2))
+-- a plan with two inputs and as many gates and outputs as there may be: that gate 256 times, and the first of them 64 times
+unfoldable pub largest : Plan
+largest = planOf 2 maxGates maxOutputs (replicate maxGates xorGate) (replicate maxOutputs (wire 3))
+
+-- each of its gates is that gate
+pub largest-gate : (i : ℕ) → i < maxGates → gateAt largest i ≡ xorGate
+unfolding largest
+largest-gate i l = rw (getD-places, getD-replicate)
 
 -- it is accepted
 pub largest-accepted : Accepted largest
-unfolding largest andGate countAllowed operandAllowed tableAllowed sourceAllowed
+unfolding largest xorGate countAllowed operandAllowed tableAllowed sourceAllowed
 largest-accepted = accepted-allowed largest .1 (record {
   inputs = refl;
   gates = refl;
   outputs = refl;
-  gate = λ i l.
-      let below : ltb 1 (gateWire 1 i) ≡ true = lt-ltb 1 (gateWire 1 i) (omega arith) in
-      rw (getD-places, getD-replicate) (record { first = below; second = below; table = refl });
+  gate = λ i l. rw (largest-gate i l) (record {
+    first = lt-ltb 1 (gateWire 2 i) (omega arith);
+    second = lt-ltb 2 (gateWire 2 i) (omega arith);
+    table = refl;
+  });
   output = λ j l. rw (getD-places, getD-replicate);
 })
 

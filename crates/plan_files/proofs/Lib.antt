@@ -9,3 +9,7 @@ pub mod BytesLaws
 pub mod EncodingLaws
 -- table bytes, of a gate and of the gates of a plan
 pub mod TableLinesLaws
+-- unused places in a plan's files
+pub mod UsedLaws
+-- where a gate's map byte stands
+pub mod OffsetLaws

@@ -30,9 +30,13 @@ whereStanding stands bytes = cond stands bytes []
 abbrev pub tableByte : Bool → ℕ → ℕ
 tableByte second t = cond second t (t % 2 + 2 * (t / 8 % 2))
 
+-- bits 1 and 2 of a table, which two lines do not have
+abbrev pub middleLines : ℕ → ℕ
+middleLines t = t / 2 % 4
+
 -- a table that two lines can say: its bits 1 and 2 are clear
 abbrev pub TwoLines : ℕ → Type 0
-TwoLines t = t / 2 % 4 ≡ 0
+TwoLines t = middleLines t ≡ 0
 
 -- a gate with the map byte m: the byte, then only the fields whose map bit stands
 abbrev pub encodeGate : ℕ → Gate → List ℕ
