@@ -11,11 +11,10 @@ use Rattle.plan.proofs.RecordLaws.{wire-fits}
 use Rattle.plan.proofs.FaultsLaws.{accepted-counts}
 use Rattle.plan_reading.specs.PlanFile.{headerBytes}
 use Rattle.plan_files.specs.Encoding.{word, encodeGate, joinedBytes, encode, outputBytes}
-use Rattle.plan_files.proofs.ListLaws.{joined-length, joined-more, joined-split}
+use Rattle.plan_files.proofs.ListLaws.{joined-length, joined-split}
 use Rattle.plan_saving.specs.declared.gate.Standing.{Standing}
 use Rattle.plan_saving.specs.Saving.{fieldsNeeded, shortestMap, savedFile}
-use Rattle.plan_saving.specs.Parts.{savedGates, standingBytes}
-use Rattle.plan_saving.proofs.GateLaws.{gate-long}
+use Rattle.plan_saving.specs.Parts.{savedGates}
 
 -- items one after another: there is room for the next
 pub joined-room : (f : ℕ → List ℕ) (n i : ℕ) → i < n → length (joinedBytes i f) + length (f i) ≤ length (joinedBytes n f)
@@ -46,11 +45,3 @@ module _ (p : Plan) where
   needed-map ok i h own decided =
       let counts = accepted-counts p ok in
       decided ∙ ap (λ w. fieldsNeeded w (gateAt p i)) (own ∙ wire-fits (counts .inputs) (omega arith))
-
-  -- one gate more adds its bytes
-  pub gates-long : (i : ℕ) → length (savedGates p (i + 1)) ≡ length (savedGates p i) + standingBytes (fieldsNeeded (gateWire (p .inputs) i) (gateAt p i))
-  gates-long i =
-      let g = gateAt p i in
-      ap length (sym (joined-more (λ i. encodeGate (shortestMap p i) (gateAt p i)) i))
-      ∙ length-append (savedGates p i) (encodeGate (shortestMap p i) g)
-      ∙ ap (λ n. length (savedGates p i) + n) (gate-long (fieldsNeeded (gateWire (p .inputs) i) g) g)

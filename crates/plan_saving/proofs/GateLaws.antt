@@ -1,17 +1,15 @@
 -- A gate with the map byte of its standing fields: each map bit is the field's, so the gate's bytes are those of the fields that stand.
-use Prim.Native.Nat.{ℕ, _+_, _*_}
+use Prim.Native.Nat.{ℕ, _+_}
 use native.Mathlib.Omega.{arith}
 use mathlib.Core.Path.{_≡_, refl, ap, _∙_}
 use mathlib.Core.Bool.{Bool, true, false}
 use mathlib.Core.List.{List, [], _++_}
 use lib.ListN.{length, length-append}
-use Rattle.lists.specs.Counting.{oneIf}
 use Rattle.plan.specs.declared.record.Gate.{Gate}
 use Rattle.plan_fields.specs.Fields.{firstPlace, secondPlace, tablePlace, mapBit}
 use Rattle.plan_files.specs.Encoding.{byte, word, whereStanding, tableByte, encodeGate}
 use Rattle.plan_saving.specs.declared.gate.Standing.{Standing}
 use Rattle.plan_saving.specs.Saving.{mapByteOf}
-use Rattle.plan_saving.specs.Parts.{standingBytes}
 
 -- each map bit is its field's
 pub map-bits : (s : Standing)
@@ -30,11 +28,6 @@ map-bits s = go (s .first) (s .second) (s .table)
     go false false true = (refl, refl, refl)
     go false false false = (refl, refl, refl)
 
--- a field has its bytes where it stands
-standing-long : (stands : Bool) (e : List ℕ) → length (whereStanding stands e) ≡ length e * oneIf stands
-standing-long true e = omega arith
-standing-long false e = omega arith
-
 module _ (s : Standing) (g : Gate) where
   -- the bytes of the fields that stand
   abbrev pub firstPart : List ℕ
@@ -50,13 +43,6 @@ module _ (s : Standing) (g : Gate) where
   pub gate-standing : encodeGate (mapByteOf s) g ≡ byte (mapByteOf s) ++ (firstPart ++ (secondPart ++ tablePart))
   gate-standing = let (first, second, table) = map-bits s in rw (first, second, table)
 
+  -- how many they are
   pub gate-parts : length (encodeGate (mapByteOf s) g) ≡ 1 + length firstPart + length secondPart + length tablePart
   gate-parts = ap length gate-standing ∙ simp length-append (omega arith)
-
-  -- how many they are
-  pub gate-long : length (encodeGate (mapByteOf s) g) ≡ standingBytes s
-  gate-long =
-      let first = standing-long (s .first) (word (g .first .0)) in
-      let second = standing-long (s .second) (word (g .second .0)) in
-      let table = standing-long (s .table) (byte (tableByte (s .second) (g .table))) in
-      omega (arith, gate-parts)

@@ -5,5 +5,5 @@ pub mod Saving
 pub mod Answers
 -- what is proved of saving
 pub mod SavingTheorems
--- the lengths that the code adds up
+-- the bytes of the gates, and what a function leaves that writes bytes
 pub mod Parts

@@ -1,19 +1,13 @@
--- The lengths that the code adds up: of a gate's bytes, and of the bytes of a plan's gates.
-use Prim.Native.Nat.{ℕ, _+_, _*_, _≤_}
+-- The bytes of a plan's gates, and what a function leaves that writes bytes.
+use Prim.Native.Nat.{ℕ, _+_}
 use mathlib.Core.Path.{_≡_}
 use mathlib.Core.List.{List}
 use lib.ListN.{length}
 use lib.Seq.{sets}
-use Rattle.lists.specs.Counting.{oneIf}
 use Rattle.plan.specs.declared.record.Plan.{Plan}
 use Rattle.plan.specs.Record.{gateAt}
 use Rattle.plan_files.specs.Encoding.{encodeGate, joinedBytes}
-use Rattle.plan_saving.specs.declared.gate.Standing.{Standing}
 use Rattle.plan_saving.specs.Saving.{shortestMap}
-
--- the bytes of a gate in which these fields stand: the map byte, two for each operand, one for the table
-abbrev pub standingBytes : Standing → ℕ
-standingBytes s = 1 + 2 * oneIf (s .first) + 2 * oneIf (s .second) + oneIf (s .table)
 
 -- the bytes of the first n gates of a plan in the file that saving writes
 abbrev pub savedGates : Plan → ℕ → List ℕ

@@ -1,4 +1,4 @@
-// A gate in its shortest file. `fields_needed` decides which fields stand, for the file's length and for its bytes.
+// A gate in its shortest file. `fields_needed` decides which fields stand, and with it how long the file is.
 ghost use mathlib.Core.Path.{_≡_};
 ghost use mathlib.Core.Bool.{not, _&&_};
 ghost use Prim.Native.Nat.{_+_, _*_, _≤_};
@@ -6,9 +6,9 @@ ghost use lib.Dec.{eqb};
 ghost use lib.ListN.{length};
 ghost use Rattle.lists.specs.Counting.{oneIf};
 ghost use Rattle.plan.specs.Rules.{maxTable};
-ghost use Rattle.plan_files.specs.Encoding.{byte, word, whereStanding, tableByte, middleLines, encodeGate, gateBytes};
+ghost use Rattle.plan_files.specs.Encoding.{byte, word, whereStanding, tableByte, middleLines, encodeGate};
 ghost use Rattle.plan_saving.specs.Saving.{mapByteOf, fieldsNeeded};
-ghost use Rattle.plan_saving.specs.Parts.{standingBytes, Wrote};
+ghost use Rattle.plan_saving.specs.Parts.{Wrote};
 use plan::Gate;
 use plan::PlanWire;
 use plan_fields::ABSENT_TABLE;
@@ -55,14 +55,6 @@ fn if_standing(stands: bool, number: u8) -> u8
         return number;
     }
     0
-}
-
-// The bytes of a gate in which these fields stand.
-pub(crate) fn standing_bytes(s: Standing) -> usize
-    ensures { λ r. ⌜ (r ≡ standingBytes s) × (r ≤ gateBytes) ⌝ }
-{
-    let operands = if_standing(s.first, 2) + if_standing(s.second, 2);
-    (1 + operands + if_standing(s.table, 1)) as usize
 }
 
 // The map byte in which these fields stand.

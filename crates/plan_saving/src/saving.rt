@@ -2,7 +2,8 @@
 ghost use mathlib.Core.Path.{_≡_};
 ghost use mathlib.Core.List.{_++_};
 ghost use Prim.Native.Nat.{_+_, _*_, _≤_};
-ghost use lib.ListN.{length, getD};
+ghost use lib.ListN.{length, getD, take};
+ghost use Rattle.fault.specs.Buffers.{over};
 ghost use Rattle.plan.specs.Record.{maxOutputs, wire};
 ghost use Rattle.plan.specs.Faults.{Accepted};
 ghost use Rattle.plan_reading.specs.PlanFile.{headerBytes};
@@ -13,7 +14,6 @@ ghost use Rattle.plan_saving.specs.Parts.{savedGates, Wrote};
 use crate::gate::encode_gate;
 use crate::gate::encode_word;
 use crate::gate::fields_needed;
-use crate::gate::standing_bytes;
 use fault::Answer;
 use fault::Fault;
 use plan::Plan;
@@ -22,8 +22,15 @@ use plan::gate_wire;
 use plan::plan_fault;
 use plan_reading::HEADER_BYTES;
 
-// The bytes of an output.
+// The bytes of a gate in which every field stands, and of an output.
+const GATE_BYTES: usize = 6;
+
 const OUTPUT_BYTES: usize = 2;
+
+// The bytes of the longest file.
+const LONGEST_FILE: usize = HEADER_BYTES
+    + GATE_BYTES * Plan::MAX_GATES
+    + OUTPUT_BYTES * Plan::MAX_OUTPUTS;
 
 // The length of the file that was written, or the refusal.
 pub enum SaveAnswer {
@@ -31,7 +38,8 @@ pub enum SaveAnswer {
     Refused(Fault),
 }
 
-// Writes the shortest file of a plan into the front of a lent buffer.
+// Writes the shortest file of a plan into the front of a lent buffer. The file is made in an array of the call's own, whose length decides whether the
+// buffer has room: a plan's gates are gone through once.
 pub fn save_plan(plan: Plan, file: &mut [u8]) -> SaveAnswer
     ensures answered { λ r. ⌜ saveOutcome r ≡ planSave plan (length (now (file .entry))) ⌝ }
     ensures written { λ _. ⌜ now (file .exit) ≡ saveResult plan (now (file .entry)) ⌝ }
@@ -39,29 +47,28 @@ pub fn save_plan(plan: Plan, file: &mut [u8]) -> SaveAnswer
     match plan_fault(plan) {
         Answer::Refused(f) => SaveAnswer::Refused(f),
         Answer::Done => {
-            if file.len() < file_length(plan) {
+            let mut made = [0u8; LONGEST_FILE];
+            let length = encode_plan(&mut made, plan);
+            if file.len() < length {
                 return SaveAnswer::Refused(Fault::Short);
             }
-            SaveAnswer::Saved(encode_plan(file, plan))
+            copy_front(&made, length, file);
+            SaveAnswer::Saved(length)
         }
     }
 }
 
-// The length of the shortest file of an accepted plan.
-fn file_length(plan: Plan) -> usize
-    requires { ⌜ Accepted plan ⌝ }
-    ensures { λ r. ⌜ r ≡ length (savedFile plan) ⌝ }
+// The first count bytes of one buffer into the front of another.
+fn copy_front(from: &[u8], count: usize, file: &mut [u8])
+    requires { ⌜ count ≤ length (now from) ⌝ }
+    requires { ⌜ count ≤ length (now file) ⌝ }
+    ensures { λ _. ⌜ now (file .exit) ≡ over (take count (now (from .entry))) (now (file .entry)) ⌝ }
 {
-    let inputs = plan.inputs;
-    let count = plan.gate_count as usize;
-    let mut total = HEADER_BYTES + OUTPUT_BYTES * (plan.output_count as usize);
     let mut i: usize = 0;
     while i < count {
-        let gate = plan.gates[i];
-        total += standing_bytes(fields_needed(gate_wire(inputs, i), gate));
+        file[i] = from[i];
         i += 1;
     }
-    total
 }
 
 // The shortest file of an accepted plan into the front of a buffer that has room for it: the counts, the gates, the outputs. It answers the file's length.
