@@ -1,16 +1,19 @@
 /*
  * A worked example of mukdalis.h: a unit for plans of two inputs, two gates and one output. It
  * reads a plan file, makes the fabric's table and the plan's program, runs every input row, and
- * compares each with plan evaluation. Then it shows how a file that was cut short is refused.
+ * compares each with plan evaluation. Then it saves the plan, which gives the file back, and shows
+ * how a file that was cut short is refused.
  *
  *     rt staticlib capi
  *     cc -std=c11 include/example.c target/staticlib/libcapi.a -o example
  *
- * It prints the counts, and a line for each row: the inputs, the plan's output, the fabric's.
+ * It prints the counts, and a line for each row: the inputs, the plan's output, the fabric's; then
+ * the length of the saved file, and the refusal.
  */
 #include "mukdalis.h"
 
 #include <stdio.h>
+#include <string.h>
 
 /* The counts that the unit is built for. Its table depends on nothing else. */
 enum { INPUTS = 2, GATES = 2, OUTPUTS = 1 };
@@ -55,6 +58,18 @@ static int show_row(struct mkd_plan plan, const uint8_t row[INPUTS])
     return found[0] != expected[0];
 }
 
+/* Saves the plan of the file, in which no field stands needlessly: its own bytes come back. */
+static int save(struct mkd_plan plan)
+{
+    uint8_t saved[MKD_MAX_FILE_LEN];
+    const struct mkd_saved answer = mkd_plan_save(plan, saved, sizeof saved);
+
+    if (answer.number != 0)
+        return refused(answer.number);
+    printf("saved %u bytes\n", (unsigned)answer.length);
+    return answer.length != sizeof file || memcmp(saved, file, sizeof file) != 0;
+}
+
 int main(void)
 {
     struct mkd_read read = mkd_plan_read(file, sizeof file);
@@ -82,6 +97,8 @@ int main(void)
         if (show_row(read.plan, row) != 0)
             return 1;
     }
+    if (save(read.plan) != 0)
+        return 1;
 
     /* The last byte is missing: the field that it belongs to begins one byte before it. */
     read = mkd_plan_read(file, sizeof file - 1);

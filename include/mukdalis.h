@@ -1,8 +1,8 @@
 /*
- * Mukdalis, the contact fabric library: plans and drawn plans, their faults and their evaluation;
- * the permutation network P and the selection network S of the block library, their rows and their
- * programs; the fabric of three counts, its rows by kind, a plan's program for it, and the run of a
- * fabric table.
+ * Mukdalis, the contact fabric library: plans and drawn plans, their faults, their evaluation and
+ * their saving; the permutation network P and the selection network S of the block library, their
+ * rows and their programs; the fabric of three counts, its rows by kind, a plan's program for it,
+ * and the run of a fabric table.
  *
  * example.c beside this file shows the whole path, from a plan file to a run. A program is linked
  * with libcapi.a, which `rt staticlib capi` writes.
@@ -53,9 +53,10 @@ extern "C" {
 #define MKD_MAX_PROGRAM_LEN 4033
 
 /*
- * The stated lengths. Each macro has the name of the parameter whose length it gives. All are
- * constant expressions where their arguments are, so that they serve for static buffers, and
- * evaluate an argument once.
+ * The stated lengths, but for that of a saved file, which depends on the whole plan, see
+ * mkd_plan_save. Each macro has the name of the parameter whose length it gives. All are constant
+ * expressions where their arguments are, so that they serve for static buffers, and evaluate an
+ * argument once.
  */
 #define MKD_RESULT_LEN(v) ((size_t)(v))                  /* an entry an output */
 #define MKD_ROWS_LEN(rows) (3 * (size_t)(rows))          /* three entries a row */
@@ -236,6 +237,32 @@ uint32_t mkd_plan_fault(struct mkd_plan plan);
  */
 uint32_t mkd_plan_evaluate(struct mkd_plan plan, const uint8_t *row, size_t row_len,
                            uint8_t *result, size_t result_len);
+
+/* The answer of a saving. */
+struct mkd_saved {
+    uint32_t number; /* 0, or the refusal */
+    uint64_t length; /* the bytes of the file, or 0 */
+};
+
+/*
+ * Saves a plan: the first bytes of file become its shortest file. mkd_plan_read of that file gives
+ * the plan, with its unused places zero, and no file that it reads as this plan is shorter.
+ *
+ * The file is laid out as in mkd_plan_read. Per gate the first operand stands if it is not the wire
+ * just before the gate, and the table if it is not 8. The second operand is left out exactly if it
+ * equals the first and the table has bits 1 and 2 clear, so that two lines say it: tables 0, 1, 8
+ * and 9. Where it stands, a table byte is the table; where it is left out, bit 0 of the byte is bit
+ * 0 of the table and bit 1 its bit 3.
+ *
+ * Buffer: file has as many bytes as the plan's file or more; MKD_MAX_FILE_LEN are enough for every
+ * plan.
+ *
+ * Refusals, in this order: the plan faults; 11 if len is below the file's length.
+ *
+ * Done: number is 0, length is the file's length, and the bytes past it are as they were. Refused:
+ * length is 0, and file is as it was.
+ */
+struct mkd_saved mkd_plan_save(struct mkd_plan plan, uint8_t *file, size_t len);
 
 /* The answer of a counting: of P(n), of S(m, n), or of the fabric of u, k and v. */
 struct mkd_counts {

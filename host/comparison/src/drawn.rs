@@ -33,7 +33,7 @@ pub fn compare(comparison: &mut Comparison, random: &mut Random) -> Outcome {
     cut_files(comparison, random)?;
     changed_bytes(comparison, random)?;
     random_bodies(comparison, random)?;
-    check_compared(comparison)
+    comparison.check_cases(Call::DrawnReading, LEAST_FILES, &DUE_KINDS)
 }
 
 /// The least number of drawn files that are compared.
@@ -49,21 +49,6 @@ const DUE_KINDS: [&str; 7] = [
     "drawn files cut at every byte, or longer",
     "drawn files, one byte changed",
 ];
-
-/// Fails if too few drawn files were compared, or none of a kind that is due.
-fn check_compared(comparison: &Comparison) -> Outcome {
-    let files = comparison.cases(Call::DrawnReading);
-    if files < LEAST_FILES {
-        return Err(Difference(format!("only {files} drawn files\n")));
-    }
-    for due in DUE_KINDS {
-        let mut kinds = comparison.kinds.iter();
-        if !kinds.any(|(kind, cases)| *kind == due && cases[Call::DrawnReading as usize] > 0) {
-            return Err(Difference(format!("no case of: {due}\n")));
-        }
-    }
-    Ok(())
-}
 
 /// Compares the drawn reading of a file, and gives what both answer.
 fn compare_reading(comparison: &mut Comparison, file: &[u8]) -> Result<raw::Drawn, Difference> {
@@ -362,22 +347,6 @@ fn random_bodies(comparison: &mut Comparison, random: &mut Random) -> Outcome {
 #[cfg(test)]
 mod tests {
     use super::*;
-
-    #[test]
-    fn too_few_files_and_missing_kinds_are_missed() {
-        let mut comparison = Comparison::default();
-        for kind in DUE_KINDS {
-            comparison.begin(kind);
-            comparison.count(Call::DrawnReading, 0);
-        }
-        assert!(check_compared(&comparison).is_err());
-        for _ in 0..LEAST_FILES {
-            comparison.count(Call::DrawnReading, 0);
-        }
-        assert!(check_compared(&comparison).is_ok());
-        comparison.kinds.remove(0);
-        assert!(check_compared(&comparison).is_err());
-    }
 
     #[test]
     fn every_choice_of_operands_comes_once() {

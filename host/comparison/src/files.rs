@@ -27,7 +27,7 @@ pub fn compare(comparison: &mut Comparison, random: &mut Random) -> Outcome {
     random_bytes(comparison, random)
 }
 
-fn small_file(random: &mut Random) -> PlanFile {
+pub fn small_file(random: &mut Random) -> PlanFile {
     let counts = Counts::small(random);
     accepted_file(random, counts)
 }

@@ -17,6 +17,7 @@ mod fabric;
 mod files;
 mod memory;
 mod program;
+mod saving;
 
 mod buffer;
 mod gates;
@@ -43,6 +44,10 @@ enum Call {
     Evaluation,
     DrawnReading,
     DrawnOutputs,
+    Saving,
+    ReadingBack,
+    Shortest,
+    FilesTried,
     PermutationWriting,
     PermutationProgramming,
     PermutationDelivery,
@@ -60,12 +65,16 @@ enum Call {
 }
 
 /// Each call's name, and the numbers that it must have given at least once.
-const CALLS: [(&str, &[usize]); 19] = [
+const CALLS: [(&str, &[usize]); 23] = [
     ("reading", &[0, 1, 2, 3, 4, 5, 6, 7, 8, 9, 10]),
     ("plan faults", &[0, 2, 3, 4, 7, 8, 9]),
     ("evaluation", &[0, 2, 3, 4, 7, 8, 9, 11, 12]),
     ("drawn reading", &[0, 1, 2, 3, 4, 5, 6, 7, 8, 9, 10, 15]),
     ("drawn outputs", &[0]),
+    ("saving", &[0, 2, 3, 4, 7, 8, 9, 11]),
+    ("reading back", &[0]),
+    ("shortest", &[0]),
+    ("files tried", &[0, 5, 6, 7, 8, 9, 10]),
     ("writing P", &[0, 2, 11, 12, 13]),
     ("programming P", &[0, 2, 9, 11, 12]),
     ("delivery by P", &[0]),
@@ -103,6 +112,7 @@ impl Comparison {
         files::compare(&mut comparison, &mut random)?;
         memory::compare(&mut comparison, &mut random)?;
         drawn::compare(&mut comparison, &mut random)?;
+        saving::compare(&mut comparison, &mut random)?;
         blocks::compare(&mut comparison, &mut random)?;
         fabric::compare(&mut comparison, &mut random)?;
         program::compare(&mut comparison, &mut random)?;
@@ -207,6 +217,22 @@ impl Comparison {
         Ok(())
     }
 
+    /// Fails if a call had less than so many cases, or none of a kind that is due.
+    fn check_cases(&self, call: Call, least: u64, due_kinds: &[&str]) -> Outcome {
+        let cases = self.cases(call);
+        if cases < least {
+            let name = CALLS[call as usize].0;
+            return Err(Difference(format!("only {cases} cases of {name}\n")));
+        }
+        for due in due_kinds {
+            let mut kinds = self.kinds.iter();
+            if !kinds.any(|(kind, cases)| kind == due && cases[call as usize] > 0) {
+                return Err(Difference(format!("no case of: {due}\n")));
+            }
+        }
+        Ok(())
+    }
+
     /// A difference in the present kind: the case and both answers, by name.
     fn difference(&self, parts: &[(&str, String)]) -> Difference {
         let kind = self.kinds.last().map_or("", |&(kind, _)| kind);
@@ -278,6 +304,23 @@ mod tests {
     #[test]
     fn a_comparison_without_cases_fails() {
         assert!(Comparison::default().check_seen().is_err());
+    }
+
+    #[test]
+    fn too_few_cases_and_missing_kinds_are_missed() {
+        let check = |comparison: &Comparison| {
+            comparison.check_cases(Call::DrawnReading, 3, &["some", "others"])
+        };
+        let mut comparison = Comparison::default();
+        for kind in ["some", "others"] {
+            comparison.begin(kind);
+            comparison.count(Call::DrawnReading, 0);
+        }
+        assert!(check(&comparison).is_err());
+        comparison.count(Call::DrawnReading, 5);
+        assert!(check(&comparison).is_ok());
+        comparison.kinds.remove(0);
+        assert!(check(&comparison).is_err());
     }
 
     #[test]

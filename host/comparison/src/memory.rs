@@ -1,10 +1,11 @@
 //! Plans in memory: accepted ones, every fault and every two of them, unused places filled with
 //! anything; input rows good and bad; result buffers short, exact and long.
 
-use mukdalis::{Gate, Plan};
+use mukdalis::Plan;
 
 use super::{Comparison, Outcome};
 use crate::random::Random;
+use crate::samples::plans::every_plan;
 use crate::samples::{accepted_plan, fill_unused, Counts, LIMIT_COUNTS};
 
 pub fn compare(comparison: &mut Comparison, random: &mut Random) -> Outcome {
@@ -19,7 +20,7 @@ pub fn compare(comparison: &mut Comparison, random: &mut Random) -> Outcome {
 }
 
 /// An accepted plan with anything in its unused places.
-fn filled_plan(random: &mut Random, counts: Counts) -> Plan {
+pub fn filled_plan(random: &mut Random, counts: Counts) -> Plan {
     let mut plan = accepted_plan(random, counts);
     fill_unused(random, &mut plan);
     plan
@@ -42,23 +43,9 @@ fn all_orders(comparison: &mut Comparison, plan: &Plan, row_len: usize) -> Outco
 /// One gate of every table with its operands in each order, on every row.
 fn every_table(comparison: &mut Comparison) -> Outcome {
     comparison.begin("every table on every row");
-    for table in 0..16 {
-        for (first, second) in [(1, 1), (1, 2), (2, 1), (2, 2)] {
-            let mut plan = Plan {
-                inputs: 2,
-                gate_count: 1,
-                output_count: 1,
-                ..Plan::ZERO
-            };
-            plan.gates[0] = Gate {
-                first,
-                second,
-                table,
-            };
-            plan.outputs[0] = 3;
-            for row in [[0, 0], [0, 1], [1, 0], [1, 1]] {
-                comparison.evaluation(&plan, &row, 1)?;
-            }
+    for plan in every_plan(2, 1) {
+        for row in [[0, 0], [0, 1], [1, 0], [1, 1]] {
+            comparison.evaluation(&plan, &row, 1)?;
         }
     }
     Ok(())
@@ -134,19 +121,28 @@ fn result_lengths(comparison: &mut Comparison, random: &mut Random) -> Outcome {
     Ok(())
 }
 
-/// Every choice of counts, in range or not, over the places of one of the longest plans.
-fn counts_at_limits(comparison: &mut Comparison, random: &mut Random) -> Outcome {
-    comparison.begin("counts at their limits, in memory");
+/// Plans of every choice of counts, in range or not, over the places of one of the longest plans.
+pub fn plans_at_limits(random: &mut Random) -> Vec<Plan> {
+    let mut plans = Vec::new();
     for u in LIMIT_COUNTS {
         for k in LIMIT_COUNTS {
             for v in LIMIT_COUNTS {
-                let mut plan = accepted_plan(random, Counts::MOST);
-                plan.inputs = u;
-                plan.gate_count = k;
-                plan.output_count = v;
-                all_orders(comparison, &plan, usize::from(u).min(80))?;
+                plans.push(Plan {
+                    inputs: u,
+                    gate_count: k,
+                    output_count: v,
+                    ..accepted_plan(random, Counts::MOST)
+                });
             }
         }
+    }
+    plans
+}
+
+fn counts_at_limits(comparison: &mut Comparison, random: &mut Random) -> Outcome {
+    comparison.begin("counts at their limits, in memory");
+    for plan in plans_at_limits(random) {
+        all_orders(comparison, &plan, usize::from(plan.inputs).min(80))?;
     }
     Ok(())
 }
@@ -172,7 +168,7 @@ fn other_counts(comparison: &mut Comparison, random: &mut Random) -> Outcome {
 
 /// One place of a plan set to another value.
 #[derive(Clone, Copy)]
-pub enum Change {
+enum Change {
     Inputs(u16),
     GateCount(u16),
     OutputCount(u16),
@@ -183,7 +179,7 @@ pub enum Change {
 }
 
 impl Change {
-    pub fn apply(self, plan: &mut Plan) {
+    fn apply(self, plan: &mut Plan) {
         match self {
             Change::Inputs(u) => plan.inputs = u,
             Change::GateCount(k) => plan.gate_count = k,
@@ -198,7 +194,7 @@ impl Change {
 
 /// Changes that each give a plan a fault: of the counts, and of the first, a middle and the last
 /// gate and output. Those of the place after the last one, which is unused, give none.
-pub fn faulty_changes(plan: &Plan) -> Vec<Change> {
+fn faulty_changes(plan: &Plan) -> Vec<Change> {
     let (u, k, v) = (plan.inputs, plan.gate_count, plan.output_count);
     let Counts(most_inputs, most_gates, most_outputs) = Counts::MOST;
     let mut changes = Vec::new();
@@ -227,49 +223,64 @@ fn places(used: u16, most: u16) -> Vec<u16> {
     places
 }
 
-/// Every fault alone and every two of them, over plans of several sizes.
+/// The plan with every fault alone and with every two of them; those of unused places are none.
+pub fn faulty_plans(plan: &Plan) -> Vec<Plan> {
+    let changes = faulty_changes(plan);
+    let mut plans = Vec::new();
+    for first in &changes {
+        for second in &changes {
+            let mut faulty = *plan;
+            first.apply(&mut faulty);
+            second.apply(&mut faulty);
+            plans.push(faulty);
+        }
+    }
+    plans
+}
+
+/// Counts of the plans that get every fault and every two.
+pub const FAULTY_COUNTS: [Counts; 6] = [
+    Counts::LEAST,
+    Counts::MOST,
+    Counts(1, 2, 2),
+    Counts(3, 5, 4),
+    Counts(64, 3, 64),
+    Counts(5, 256, 1),
+];
+
 fn two_faults(comparison: &mut Comparison, random: &mut Random) -> Outcome {
     comparison.begin("every fault, and every two");
-    let sizes = [
-        Counts::LEAST,
-        Counts::MOST,
-        Counts(1, 2, 2),
-        Counts(3, 5, 4),
-        Counts(64, 3, 64),
-        Counts(5, 256, 1),
-    ];
-    for counts in sizes {
+    for counts in FAULTY_COUNTS {
         let plan = filled_plan(random, counts);
-        let changes = faulty_changes(&plan);
-        for first in &changes {
-            for second in &changes {
-                let mut faulty = plan;
-                first.apply(&mut faulty);
-                second.apply(&mut faulty);
-                all_orders(comparison, &faulty, plan.inputs.into())?;
-            }
+        for faulty in faulty_plans(&plan) {
+            all_orders(comparison, &faulty, plan.inputs.into())?;
         }
     }
     Ok(())
 }
 
-/// Records of random places, small or any, which are seldom accepted.
+/// A record of random places, small or any, which is seldom accepted.
+pub fn random_record(random: &mut Random) -> Plan {
+    let mut plan = Plan::ZERO;
+    let most = random.choose(&[2, 4, 16, u16::MAX]);
+    plan.inputs = random.between(0, most.min(70));
+    plan.gate_count = random.between(0, most.min(270));
+    plan.output_count = random.between(0, most.min(70));
+    for gate in &mut plan.gates {
+        gate.first = random.between(0, most);
+        gate.second = random.between(0, most);
+        gate.table = random.between(0, most.min(17));
+    }
+    for output in &mut plan.outputs {
+        *output = random.between(0, most);
+    }
+    plan
+}
+
 fn random_records(comparison: &mut Comparison, random: &mut Random) -> Outcome {
     comparison.begin("random records");
     for _ in 0..20_000 {
-        let mut plan = Plan::ZERO;
-        let most = random.choose(&[2, 4, 16, u16::MAX]);
-        plan.inputs = random.between(0, most.min(70));
-        plan.gate_count = random.between(0, most.min(270));
-        plan.output_count = random.between(0, most.min(70));
-        for gate in &mut plan.gates {
-            gate.first = random.between(0, most);
-            gate.second = random.between(0, most);
-            gate.table = random.between(0, most.min(17));
-        }
-        for output in &mut plan.outputs {
-            *output = random.between(0, most);
-        }
+        let plan = random_record(random);
         all_orders(comparison, &plan, plan.inputs.into())?;
     }
     Ok(())

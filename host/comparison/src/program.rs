@@ -1,18 +1,18 @@
 //! A plan's program bits, and the plan in the fabric of its counts: the library's table, program
 //! and run against the reference's evaluation, and crossed with the reference's.
 
-use mukdalis::{Gate, Plan};
+use mukdalis::Plan;
 
 use super::buffer::{buffer_lengths, Both, Buffer};
 use super::fabric::compare_table;
-use super::memory::faulty_changes;
+use super::memory::{faulty_plans, filled_plan, plans_at_limits};
 use super::show::{hex, show_number, show_plan};
 use super::{number, Call, Comparison, Difference, Outcome};
 use crate::random::Random;
 use crate::reference;
 use crate::samples::fabric::{gates_of, table_len, wires, UNIVERSAL_SIZES};
-use crate::samples::plans::{shaped_plan, PlanShape};
-use crate::samples::{accepted_plan, fill_unused, Counts, LIMIT_COUNTS};
+use crate::samples::plans::{every_plan, shaped_plan, PlanShape};
+use crate::samples::{accepted_plan, fill_unused, Counts};
 
 /// The most inputs of a plan that is run on every row.
 const FEW_INPUTS: u16 = 4;
@@ -149,45 +149,6 @@ fn every_small_plan(comparison: &mut Comparison, random: &mut Random) -> Outcome
     Ok(())
 }
 
-/// Every accepted plan of these counts and one output.
-fn every_plan(u: u16, k: u16) -> Vec<Plan> {
-    let empty = Plan {
-        inputs: u,
-        gate_count: k,
-        output_count: 1,
-        ..Plan::ZERO
-    };
-    let mut plans = vec![empty];
-    for g in 0..k {
-        let operands = 1..u + g + 1;
-        let mut gates = Vec::new();
-        for first in operands.clone() {
-            for second in operands.clone() {
-                gates.extend((0..16).map(|table| Gate {
-                    first,
-                    second,
-                    table,
-                }));
-            }
-        }
-        let with_gate = |plan: Plan| {
-            gates.iter().map(move |&gate| {
-                let mut longer = plan;
-                longer.gates[usize::from(g)] = gate;
-                longer
-            })
-        };
-        plans = plans.into_iter().flat_map(with_gate).collect();
-    }
-    let with_output = |mut plan: Plan| {
-        (u + 1..=u + k).map(move |output| {
-            plan.outputs[0] = output;
-            plan
-        })
-    };
-    plans.into_iter().flat_map(with_output).collect()
-}
-
 /// A plan of every shape for these counts; some with anything in their unused places.
 fn plans_of(comparison: &mut Comparison, random: &mut Random, counts: Counts) -> Outcome {
     let tables = tables_of(comparison, random, counts)?;
@@ -255,37 +216,21 @@ const FAULTY_LENGTHS: [usize; 2] = [0, 5_000];
 
 fn counts_at_limits(comparison: &mut Comparison, random: &mut Random) -> Outcome {
     comparison.begin("counts at their limits, in memory");
-    for u in LIMIT_COUNTS {
-        for k in LIMIT_COUNTS {
-            for v in LIMIT_COUNTS {
-                let mut plan = accepted_plan(random, Counts::MOST);
-                plan.inputs = u;
-                plan.gate_count = k;
-                plan.output_count = v;
-                for len in FAULTY_LENGTHS {
-                    compare_program(comparison, random, &plan, len)?;
-                }
-            }
+    for plan in plans_at_limits(random) {
+        for len in FAULTY_LENGTHS {
+            compare_program(comparison, random, &plan, len)?;
         }
     }
     Ok(())
 }
 
-/// Every fault alone and every two of them; those of unused places are none.
 fn faults(comparison: &mut Comparison, random: &mut Random) -> Outcome {
     comparison.begin("every fault, and every two");
     for counts in [Counts::LEAST, Counts(1, 2, 2), Counts(3, 5, 4)] {
-        let mut plan = accepted_plan(random, counts);
-        fill_unused(random, &mut plan);
-        let changes = faulty_changes(&plan);
-        for first in &changes {
-            for second in &changes {
-                let mut faulty = plan;
-                first.apply(&mut faulty);
-                second.apply(&mut faulty);
-                for len in FAULTY_LENGTHS {
-                    compare_program(comparison, random, &faulty, len)?;
-                }
+        let plan = filled_plan(random, counts);
+        for faulty in faulty_plans(&plan) {
+            for len in FAULTY_LENGTHS {
+                compare_program(comparison, random, &faulty, len)?;
             }
         }
     }

@@ -3,6 +3,7 @@
 
 pub mod drawn;
 pub mod plan;
+pub mod saving;
 
 pub mod elements;
 

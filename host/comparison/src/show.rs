@@ -26,6 +26,10 @@ pub fn show_drawn(read: &raw::Drawn) -> String {
     format!("{number} at {}, {plan} drawn {drawn:?}", read.at)
 }
 
+pub fn show_saved(saved: &raw::Saved) -> String {
+    format!("{}, {} bytes", show_number(saved.number), saved.length)
+}
+
 /// All places of a plan up to the last that is not zero: counts in decimal, the rest in hex.
 pub fn show_plan(plan: &Plan) -> String {
     let (u, k, v) = (plan.inputs, plan.gate_count, plan.output_count);

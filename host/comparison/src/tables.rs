@@ -7,9 +7,15 @@ use super::show::show_number;
 use super::{Call, Comparison, CALLS, NUMBERS};
 
 /// The calls that share a table.
-const SUBJECTS: [&[Call]; 6] = [
+const SUBJECTS: [&[Call]; 7] = [
     &[Call::Reading, Call::Faults, Call::Evaluation],
     &[Call::DrawnReading, Call::DrawnOutputs],
+    &[
+        Call::Saving,
+        Call::ReadingBack,
+        Call::Shortest,
+        Call::FilesTried,
+    ],
     &[
         Call::PermutationWriting,
         Call::PermutationProgramming,
@@ -35,17 +41,20 @@ impl fmt::Display for Comparison {
         for calls in SUBJECTS {
             self.write_tables(out, calls)?;
         }
-        let total: u64 = self.seen.iter().flatten().sum();
+        let tried = self.cases(Call::FilesTried);
+        let total = self.seen.iter().flatten().sum::<u64>() - tried;
         let (files, drawn) = (self.cases(Call::Reading), self.cases(Call::DrawnReading));
+        let saved = self.cases(Call::ReadingBack);
         let permutations = self.cases(Call::PermutationDelivery);
         let selections = self.cases(Call::SelectionDelivery);
         let (fabrics, runs) = (self.cases(Call::Fabric), self.cases(Call::Run));
         let plans = self.cases(Call::PlanInFabric);
         writeln!(
             out,
-            "compared {total} cases, {files} of them files, {drawn} drawn files, {permutations} \
-             permutations, {selections} selections, {fabrics} fabrics, {runs} runs, {plans} plans \
-             in their fabrics: no difference"
+            "compared {total} cases, {files} of them files, {drawn} drawn files, {saved} saved \
+             plans, {permutations} permutations, {selections} selections, {fabrics} fabrics, \
+             {runs} runs, {plans} plans in their fabrics, and tried {tried} files for shorter \
+             ones: no difference"
         )
     }
 }

@@ -1,6 +1,6 @@
 //! The example plans of `plans/`: the library reads each file, plain or drawn, evaluates the plan
 //! and runs its fabric, and both give what the plan's rule says. Its gates are those that document
-//! 01 alone gives. What `plans/README.md` and the worked example of `README.md` show is what the
+//! 01 alone gives. The library saves the plan in no more bytes than its file has. What `plans/README.md` and the worked example of `README.md` show is what the
 //! library gives.
 
 use std::fs;
@@ -10,9 +10,10 @@ use comparison::random::Random;
 use comparison::reference::plan::used_gates;
 use comparison::reference::programs::Program;
 use comparison::samples::drawings::drawn_as;
+use comparison::samples::{PlanFile, Standing};
 use mukdalis::{
-    count_fabric, evaluate, program_plan, read, read_drawn, run_fabric, write_fabric, Fault, Gate,
-    Plan,
+    count_fabric, evaluate, program_plan, read, read_drawn, run_fabric, save, write_fabric, Fault,
+    Gate, Plan,
 };
 
 /// An example plan: its file, its counts u, k, v, and its rule, the outputs on a row of inputs. A
@@ -208,6 +209,26 @@ fn drawings_are_read_in_their_order() {
                 assert_eq!(Ok(drawn.plan), read(&file));
             }
         }
+    }
+}
+
+/// A saved plan is read as the same plan, the drawing's too. Every file that the plain reading reads is
+/// already its plan's shortest, so that its own bytes come back, and come back too from a longer file
+/// in which every field stands.
+#[test]
+fn plans_are_saved_in_no_more_bytes() {
+    let mut random = Random::new(SEED);
+    for example in EXAMPLES {
+        let plan = plan_of(&example);
+        let saved = save(&plan).expect("the plan is accepted");
+        assert_eq!(read(&saved), Ok(plan), "{}", example.file);
+        if example.drawn.is_none() {
+            assert_eq!(saved, file_of(example.file), "{}", example.file);
+        }
+        let longer = PlanFile::new(&mut random, &plan, Standing::All).bytes;
+        assert!(longer.len() > saved.len(), "{}", example.file);
+        let plan = read(&longer).expect("the file is a plan");
+        assert_eq!(save(&plan), Ok(saved), "{}", example.file);
     }
 }
 

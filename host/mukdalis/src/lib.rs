@@ -30,6 +30,9 @@
 //! # Ok::<(), Box<dyn std::error::Error>>(())
 //! ```
 //!
+//! [`save`] gives a plan's shortest file, and [`read_drawn`] reads a plan whose gates stand as they
+//! were drawn.
+//!
 //! The library itself is the archive `libcapi.a`, which `rt staticlib capi` writes. The package
 //! takes it from `target/staticlib` of the repository, or from the folder that MUKDALIS_LIB_DIR
 //! names.
@@ -49,6 +52,6 @@ pub use fabric::{
     count_fabric, count_kinds, program_plan, run_fabric, write_fabric, Kinds, Sheet, Size,
 };
 pub use fault::{Fault, Refusal};
-pub use plan::{check, evaluate, read, read_drawn, DrawnPlan, Gate, Plan};
+pub use plan::{check, evaluate, read, read_drawn, save, DrawnPlan, Gate, Plan};
 
 pub mod raw;

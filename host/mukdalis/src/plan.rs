@@ -245,3 +245,40 @@ pub fn evaluate(plan: &Plan, row: &[u8], result: &mut [u8]) -> Result<(), Fault>
         )
     })
 }
+
+/// Saves a plan: gives its shortest file. [`read`] of it gives the plan, with its unused places
+/// zero, and no file that [`read`] reads as this plan is shorter.
+///
+/// The file is laid out as [`read`] says. Only fields that differ from what their absence means
+/// stand: the first operand if it is not the wire just before the gate, the table if it is not 8.
+/// The second operand is left out exactly if it equals the first and the table has bits 1 and 2
+/// clear, so that two lines say it: the tables 0, 1, 8 and 9. The file has at most
+/// [`Plan::MAX_FILE_LEN`] bytes.
+///
+/// # Errors
+///
+/// The first plan fault, see [`check`].
+///
+/// ```
+/// use mukdalis::{read, save, Fault};
+///
+/// // NOT, with all three fields standing. Both operands equal what their absence means, and the
+/// // table needs two lines only: the table byte alone is left.
+/// let mut plan = read(&[1, 0, 1, 0, 1, 0, 7, 1, 0, 1, 0, 1, 2, 0])?;
+/// let file = save(&plan)?;
+/// assert_eq!(file, [1, 0, 1, 0, 1, 0, 4, 1, 2, 0]);
+/// assert_eq!(read(&file), Ok(plan));
+///
+/// // With table 6 the second operand stands, though it equals the first.
+/// plan.gates[0].table = 6;
+/// assert_eq!(save(&plan)?, [1, 0, 1, 0, 1, 0, 6, 1, 0, 6, 2, 0]);
+///
+/// plan.outputs[0] = 1;
+/// assert_eq!(save(&plan), Err(Fault::Source));
+/// # Ok::<(), Box<dyn std::error::Error>>(())
+/// ```
+pub fn save(plan: &Plan) -> Result<Vec<u8>, Fault> {
+    let mut file = [0; Plan::MAX_FILE_LEN];
+    let raw::Saved { number, length } = raw::plan_save(plan, &mut file);
+    answer(number).map(|()| file[..length as usize].to_vec())
+}

@@ -26,6 +26,14 @@ pub struct Drawn {
     pub drawn: [u16; Plan::MAX_GATES],
 }
 
+/// `struct mkd_saved`: number 0 with the bytes of the file, or a refusal with length 0.
+#[repr(C)]
+#[derive(Clone, Copy, Debug, PartialEq, Eq)]
+pub struct Saved {
+    pub number: u32,
+    pub length: u64,
+}
+
 /// `struct mkd_counts`: number 0 with a block's or a fabric's counts, or a refusal with counts 0.
 #[repr(C)]
 #[derive(Clone, Copy, Debug, PartialEq, Eq)]
@@ -58,6 +66,7 @@ extern "C" {
         result: *mut u8,
         result_len: usize,
     ) -> u32;
+    fn mkd_plan_save(plan: Plan, file: *mut u8, len: usize) -> Saved;
     fn mkd_permutation_count(n: u32) -> Counts;
     pub(crate) fn mkd_permutation_write(
         n: u32,
@@ -124,6 +133,14 @@ pub fn plan_read(file: &[u8]) -> Read {
 pub fn plan_read_drawn(file: &[u8]) -> Drawn {
     // SAFETY: the pointer and length are a slice's; the call only reads it and keeps no pointer.
     unsafe { mkd_plan_read_drawn(file.as_ptr(), file.len()) }
+}
+
+/// `mkd_plan_save` of a plan into a lent buffer.
+pub fn plan_save(plan: &Plan, file: &mut [u8]) -> Saved {
+    // SAFETY: the plan goes by value, and every value of its fields is allowed; the pointer and
+    // length are a slice's, which is borrowed for writing; the call stays within it and keeps no
+    // pointer.
+    unsafe { mkd_plan_save(*plan, file.as_mut_ptr(), file.len()) }
 }
 
 /// `mkd_permutation_count` of a size.

@@ -18,11 +18,124 @@ fn refused_plans_have_their_words() {
     for answer in [
         check(&plan),
         evaluate(&plan, &[2], &mut []),
+        save(&plan).map(drop),
         program_plan(&plan, &mut []),
     ] {
         assert_eq!(answer, Err(Fault::Operand));
     }
     assert_eq!(check(&Plan::ZERO), Err(Fault::Inputs));
+}
+
+/// Three inputs and a gate of every choice of standing fields; the last is gate 8, wire 11.
+fn plan_of_every_map() -> Plan {
+    let gate = |first, second, table| Gate {
+        first,
+        second,
+        table,
+    };
+    let mut plan = Plan {
+        inputs: 3,
+        gate_count: 8,
+        output_count: 2,
+        ..Plan::ZERO
+    };
+    plan.gates[..8].copy_from_slice(&[
+        gate(3, 3, 8),
+        gate(1, 1, 8),
+        gate(5, 1, 8),
+        gate(1, 2, 8),
+        gate(7, 7, 9),
+        gate(2, 2, 0),
+        gate(9, 9, 10),
+        gate(2, 9, 14),
+    ]);
+    plan.outputs[..2].copy_from_slice(&[11, 4]);
+    plan
+}
+
+/// The same by hand.
+#[rustfmt::skip]
+const EVERY_MAP: [u8; 38] = [
+    3, 0, 8, 0, 2, 0,
+    0,
+    1, 1, 0,
+    2, 1, 0,
+    3, 1, 0, 2, 0,
+    4, 3,
+    5, 2, 0, 0,
+    6, 9, 0, 10,
+    7, 2, 0, 9, 0, 14,
+    11, 0, 4, 0,
+];
+
+#[test]
+fn a_plan_is_saved_without_needless_fields() {
+    let mut plan = plan_of_every_map();
+    assert_eq!(save(&plan), Ok(EVERY_MAP.to_vec()));
+    assert_eq!(read(&EVERY_MAP), Ok(plan));
+
+    // No call looks at an unused place.
+    plan.gates[8].table = 99;
+    plan.outputs[2] = 99;
+    assert_eq!(save(&plan), Ok(EVERY_MAP.to_vec()));
+}
+
+/// The second operand of NOT's gate equals the first: it is left out with tables 0, 1, 8 and 9.
+#[test]
+fn an_equal_second_operand_stands_where_the_table_needs_it() {
+    let mut plan = read(&NOT).expect("the file is a plan");
+    for table in 0..16 {
+        plan.gates[0].table = table.into();
+        let gate = match table {
+            0 => vec![4, 0],
+            1 => vec![4, 1],
+            8 => vec![0],
+            9 => vec![4, 3],
+            _ => vec![6, 1, 0, table],
+        };
+        let file = [&NOT[..6], &gate, &NOT[8..]].concat();
+        assert_eq!(save(&plan), Ok(file), "table {table}");
+    }
+}
+
+#[test]
+fn a_saved_file_fills_its_bytes_alone() {
+    let plan = read(&NOT).expect("the file is a plan");
+    let saved = |len: usize| {
+        let mut file = [9; 16];
+        let raw::Saved { number, length } = raw::plan_save(&plan, &mut file[..len]);
+        (number, length, file)
+    };
+    let short = Fault::Short.number();
+    assert_eq!(saved(0), (short, 0, [9; 16]));
+    assert_eq!(saved(9), (short, 0, [9; 16]));
+    for len in [10, 11, 16] {
+        let (number, length, file) = saved(len);
+        assert_eq!((number, length), (0, 10));
+        assert_eq!((&file[..10], &file[10..]), (&NOT[..], &[9; 6][..]));
+    }
+}
+
+/// Every word of a saving: the plan faults in their order, and short after them.
+#[test]
+fn refused_savings_have_their_words() {
+    let mut plan = plan_of_every_map();
+    let mut refused = |change: &dyn Fn(&mut Plan), fault: Fault| {
+        change(&mut plan);
+        assert_eq!(save(&plan), Err(fault));
+        for len in [0, 38] {
+            let mut file = [9; 38];
+            let saved = raw::plan_save(&plan, &mut file[..len]);
+            assert_eq!((saved.number, saved.length), (fault.number(), 0));
+            assert_eq!(file, [9; 38]);
+        }
+    };
+    refused(&|plan| plan.outputs[1] = 3, Fault::Source);
+    refused(&|plan| plan.gates[7].table = 16, Fault::Table);
+    refused(&|plan| plan.gates[7].second = 11, Fault::Operand);
+    refused(&|plan| plan.output_count = 65, Fault::Outputs);
+    refused(&|plan| plan.gate_count = 257, Fault::Gates);
+    refused(&|plan| plan.inputs = 0, Fault::Inputs);
 }
 
 /// Four gates: 1 draws from 3 and is the output, 2 is input 1, 3 draws from 2, 4 from the one before.

@@ -60,6 +60,34 @@ static int drawn_plans_fail(void)
     return 0;
 }
 
+/* NOT read from a file with all its fields, and saved; a short buffer, and no plan. */
+static int savings_fail(void)
+{
+    const uint8_t longer[14] = {1, 0, 1, 0, 1, 0, 7, 1, 0, 1, 0, 1, 2, 0};
+    const struct mkd_plan plan = mkd_plan_read(longer, sizeof longer).plan;
+    const struct mkd_plan none = mkd_plan_read(longer, 5).plan;
+    uint8_t file[12] = {9, 9, 9, 9, 9, 9, 9, 9, 9, 9, 9, 9};
+    struct mkd_saved saved;
+    size_t i;
+
+    saved = mkd_plan_save(none, file, sizeof file);
+    if (saved.number != MKD_INPUTS || saved.length != 0)
+        return fails("a saving of no plan");
+    saved = mkd_plan_save(plan, file, 9);
+    if (saved.number != MKD_SHORT || saved.length != 0)
+        return fails("a short file");
+    for (i = 0; i < 12; i++)
+        if (file[i] != 9)
+            return fails("the file of a refused saving");
+    saved = mkd_plan_save(plan, file, sizeof file);
+    if (saved.number != 0 || saved.length != sizeof not_plan)
+        return fails("a saving");
+    for (i = 0; i < 12; i++)
+        if (file[i] != (i < sizeof not_plan ? not_plan[i] : 9))
+            return fails("the file written");
+    return 0;
+}
+
 static int permutations_fail(void)
 {
     const uint16_t pair[2] = {2, 1};
@@ -221,6 +249,7 @@ static void print_layout(void)
            offsetof(struct mkd_read, plan));
     printf(" %zu %zu %zu %zu", sizeof(struct mkd_drawn), offsetof(struct mkd_drawn, at),
            offsetof(struct mkd_drawn, plan), offsetof(struct mkd_drawn, drawn));
+    printf(" %zu %zu", sizeof(struct mkd_saved), offsetof(struct mkd_saved, length));
     printf(" %zu %zu %zu %zu", sizeof(struct mkd_counts), offsetof(struct mkd_counts, rows),
            offsetof(struct mkd_counts, wires), offsetof(struct mkd_counts, bits));
     printf(" %zu %zu %zu %zu", sizeof(struct mkd_kinds), offsetof(struct mkd_kinds, y),
@@ -242,8 +271,8 @@ static void print_faults(void)
 
 int main(void)
 {
-    if (plans_fail() || drawn_plans_fail() || counts_fail() || permutations_fail() ||
-        selections_fail() || sheets_fail() || fabrics_fail())
+    if (plans_fail() || drawn_plans_fail() || savings_fail() || counts_fail() ||
+        permutations_fail() || selections_fail() || sheets_fail() || fabrics_fail())
         return 1;
     print_layout();
     print_faults();

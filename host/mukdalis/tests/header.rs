@@ -6,7 +6,7 @@ use std::mem::{offset_of, size_of};
 use std::path::{Path, PathBuf};
 use std::process::Command;
 
-use mukdalis::raw::{Counts, Drawn, FabricSheet, Read};
+use mukdalis::raw::{Counts, Drawn, FabricSheet, Read, Saved};
 use mukdalis::{Fault, Gate, Kinds, Plan, Size, MAX_SIZE};
 
 const C11: &[&str] = &["cc", "-std=c11"];
@@ -67,6 +67,8 @@ fn records_and_refusals_are_the_packages() {
         offset_of!(Drawn, at),
         offset_of!(Drawn, plan),
         offset_of!(Drawn, drawn),
+        size_of::<Saved>(),
+        offset_of!(Saved, length),
         size_of::<Counts>(),
         offset_of!(Counts, rows),
         offset_of!(Counts, wires),
@@ -103,7 +105,7 @@ fn limits_are_the_packages() {
     assert_eq!(output_of("host/mukdalis/tests/lengths.c"), limits + "\n");
 }
 
-/// The example's plan is the bench sheet's; its output field begins at byte 15.
+/// The example's plan is the bench sheet's, of 17 bytes; its output field begins at byte 15.
 #[test]
 fn the_example_prints_the_bench_sheets_lines() {
     let expected = "\
@@ -112,6 +114,7 @@ u 2 k 2 v 1 rows 23 wires 40 bits 29
 10 1 1
 01 0 0
 11 0 0
+saved 17 bytes
 cut: refused 5 at 15
 ";
     assert_eq!(output_of("include/example.c"), expected);

@@ -56,6 +56,35 @@ static int longest_file_fails(void)
     return 0;
 }
 
+/* The longest saved plan: no field of any gate equals what its absence means. */
+static int longest_saved_file_fails(void)
+{
+    static uint8_t file[MKD_MAX_FILE_LEN + 1];
+    struct mkd_plan plan;
+    struct mkd_saved saved;
+    size_t i;
+
+    plan.inputs = 2;
+    plan.gate_count = MKD_MAX_GATES;
+    plan.output_count = MKD_MAX_OUTPUTS;
+    for (i = 0; i < MKD_MAX_GATES; i++) {
+        plan.gates[i].first = 1;
+        plan.gates[i].second = 2;
+        plan.gates[i].table = 6;
+    }
+    for (i = 0; i < MKD_MAX_OUTPUTS; i++)
+        plan.outputs[i] = 3;
+    for (i = MKD_MAX_FILE_LEN; i <= sizeof file; i++) {
+        saved = mkd_plan_save(plan, file, i);
+        if (saved.number != 0 || saved.length != MKD_MAX_FILE_LEN)
+            return fails("the longest saved file");
+    }
+    saved = mkd_plan_save(plan, file, MKD_MAX_FILE_LEN - 1);
+    if (saved.number != MKD_SHORT || saved.length != 0)
+        return fails("a byte less than the longest saved file");
+    return 0;
+}
+
 static void fill_lists(void)
 {
     uint16_t i;
@@ -226,6 +255,22 @@ static struct mkd_plan plan_of(uint8_t u, uint16_t k, uint8_t v)
     return plan;
 }
 
+/* That plan's saving: of a gate the first operand alone stands, unless it is the wire before. */
+static int saving_fails(uint8_t u, uint16_t k, uint8_t v)
+{
+    static uint8_t file[MKD_MAX_FILE_LEN];
+    const struct mkd_plan plan = plan_of(u, k, v);
+    const size_t len = (size_t)6 + 3 * k - (u == 1 ? 2 : 0) + 2 * v;
+    const struct mkd_saved less = mkd_plan_save(plan, file, len - 1);
+    const struct mkd_saved saved = mkd_plan_save(plan, file, len);
+
+    if (less.number != MKD_SHORT || less.length != 0)
+        return fails("less than a saved file's length");
+    if (saved.number != 0 || saved.length != len || mkd_plan_read(file, len).number != 0)
+        return fails("a saved file's length");
+    return 0;
+}
+
 /* The answer of a run with buffers of these lengths, which are in the order of its parameters. */
 static uint32_t run(const size_t len[5])
 {
@@ -280,7 +325,7 @@ static int fabric_fails(uint8_t u, uint16_t k, uint8_t v)
     return run_fails(u, k, v);
 }
 
-static int fabrics_fail(void)
+static int plans_fail(void)
 {
     static const struct {
         uint8_t u;
@@ -291,15 +336,16 @@ static int fabrics_fail(void)
     size_t i;
 
     for (i = 0; i < sizeof counts / sizeof counts[0]; i++)
-        if (fabric_fails(counts[i].u, counts[i].k, counts[i].v))
+        if (saving_fails(counts[i].u, counts[i].k, counts[i].v) ||
+            fabric_fails(counts[i].u, counts[i].k, counts[i].v))
             return 1;
     return 0;
 }
 
 int main(void)
 {
-    if (longest_file_fails() || blocks_fail() || counts_fail() || constants_fail() ||
-        fabrics_fail())
+    if (longest_file_fails() || longest_saved_file_fails() || blocks_fail() || counts_fail() ||
+        constants_fail() || plans_fail())
         return 1;
     printf("%d %d %d %d", MKD_MAX_INPUTS, MKD_MAX_GATES, MKD_MAX_OUTPUTS, MKD_MAX_FILE_LEN);
     printf(" %d %d %d %d\n", MKD_MAX_SIZE, MKD_MAX_FABRIC_ROWS, MKD_MAX_FABRIC_WIRES,

@@ -103,18 +103,57 @@ fn plan_of(inputs: u16, gate_count: u16, output_count: u16) -> Plan {
     }
 }
 
+/// u, k and v of small plans, of the largest, and between.
+const COUNTS: [(u16, u16, u16); 8] = [
+    (1, 1, 1),
+    (2, 2, 1),
+    (3, 3, 2),
+    (64, 1, 1),
+    (1, 2, 64),
+    (33, 9, 17),
+    (17, 129, 33),
+    (64, 256, 64),
+];
+
+/// The plan's saved file has so many bytes: they are enough, one less is refused.
+fn check_saved_length(plan: &Plan, len: usize) {
+    let save = |len| {
+        let raw::Saved { number, length } = raw::plan_save(plan, &mut vec![9; len]);
+        (number, length as usize)
+    };
+    assert_eq!(save(len), (0, len));
+    assert_eq!(save(len - 1), (Fault::Short.number(), 0));
+    assert_eq!(mukdalis::save(plan).map(|file| file.len()), Ok(len));
+}
+
+/// Of a gate the first operand alone stands, unless it is the wire before.
+#[test]
+fn lengths_of_saved_plans() {
+    for (u, k, v) in COUNTS {
+        let absent = if u == 1 { 2 } else { 0 };
+        let len = 6 + 3 * k - absent + 2 * v;
+        check_saved_length(&plan_of(u, k, v), len.into());
+    }
+}
+
+/// No field of any gate equals what its absence means.
+#[test]
+fn the_longest_saved_plan() {
+    let gate = Gate {
+        first: 1,
+        second: 2,
+        table: 6,
+    };
+    let plan = Plan {
+        gates: [gate; Plan::MAX_GATES],
+        ..plan_of(2, 256, 64)
+    };
+    check_saved_length(&plan, Plan::MAX_FILE_LEN);
+}
+
 #[test]
 fn lengths_of_fabrics() {
-    for (u, k, v) in [
-        (1, 1, 1),
-        (2, 2, 1),
-        (3, 3, 2),
-        (64, 1, 1),
-        (1, 2, 64),
-        (33, 9, 17),
-        (17, 129, 33),
-        (64, 256, 64),
-    ] {
+    for (u, k, v) in COUNTS {
         let plan = plan_of(u, k, v);
         let [u, k, v] = plan.counts();
         let size = count_fabric(u, k, v).expect("the counts are in range");

@@ -9,7 +9,8 @@
 //! so that every search goes through all gates that are left. Both sides make the same checks and write to the same lent
 //! buffers. The library is called by its safe wrappers. Its exports take a plan's record by value, and
 //! copying it is part of their time; the reference borrows it. Reading hands the record back by value
-//! on both sides. The reference has its work lists on the heap, a few for each block.
+//! on both sides. Saving is lent room for the longest file, and both sides make the file in an array of
+//! their own and copy it. The reference has its work lists on the heap, a few for each block.
 //!
 //! Both sides run in short batches by turns, so that a busy machine disturbs both. The columns:
 //! - Rattle ns, Rust ns: nanoseconds a call, the least of all batches;
@@ -96,6 +97,7 @@ fn main() {
 #[derive(Clone, Copy)]
 enum Call {
     Read,
+    Save,
     Evaluate,
     WriteFabric,
     ProgramPlan,
@@ -106,8 +108,9 @@ enum Call {
 }
 
 impl Call {
-    const OF_PLANS: [Call; 5] = [
+    const OF_PLANS: [Call; 6] = [
         Call::Read,
+        Call::Save,
         Call::Evaluate,
         Call::WriteFabric,
         Call::ProgramPlan,
@@ -119,6 +122,7 @@ impl Call {
     fn name(self) -> &'static str {
         match self {
             Call::Read => "reading",
+            Call::Save => "saving",
             Call::Evaluate => "evaluation",
             Call::WriteFabric => "fabric table",
             Call::ProgramPlan => "program bits",
@@ -133,6 +137,7 @@ impl Call {
     fn export(self) -> &'static str {
         match self {
             Call::Read => "mkd_plan_read",
+            Call::Save => "mkd_plan_save",
             Call::Evaluate => "mkd_plan_evaluate",
             Call::WriteFabric => "mkd_fabric",
             Call::ProgramPlan => "mkd_program",
@@ -199,6 +204,13 @@ impl Plans {
                 |sample, ()| raw::plan_read(&sample.file),
                 |sample, ()| reference::plan::read(&sample.file),
                 |read, answer| read.number == 0 && answer == Ok(read.plan),
+            ),
+            Call::Save => measure(
+                samples,
+                vec![9; Plan::MAX_FILE_LEN],
+                |sample, file| raw::plan_save(&sample.plan, file),
+                |sample, file| reference::saving::save(&sample.plan, file),
+                |saved, answer| saved.number == 0 && answer == Ok(saved.length as usize),
             ),
             Call::Evaluate => measure(
                 samples,

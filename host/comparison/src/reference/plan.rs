@@ -18,7 +18,7 @@ const LAST_TABLE: u16 = 15;
 const LAST_TWO_LINES: u16 = 3;
 
 /// The table of a gate whose file leaves it out: AND.
-const ABSENT_TABLE: u16 = 8;
+pub(super) const ABSENT_TABLE: u16 = 8;
 
 /// Places for the wires of the largest plan, and place 0.
 pub(super) const WIRES: usize = 1 + Plan::MAX_INPUTS + Plan::MAX_GATES;

@@ -1,4 +1,4 @@
-//! Random accepted plans of several shapes.
+//! Random accepted plans of several shapes, and every plan of small counts.
 
 use mukdalis::{Gate, Plan};
 
@@ -70,6 +70,45 @@ pub fn shaped_plan(random: &mut Random, counts: Counts, shape: PlanShape) -> Pla
     plan
 }
 
+/// Every accepted plan of these counts and one output.
+pub fn every_plan(u: u16, k: u16) -> Vec<Plan> {
+    let empty = Plan {
+        inputs: u,
+        gate_count: k,
+        output_count: 1,
+        ..Plan::ZERO
+    };
+    let mut plans = vec![empty];
+    for g in 0..k {
+        let operands = 1..u + g + 1;
+        let mut gates = Vec::new();
+        for first in operands.clone() {
+            for second in operands.clone() {
+                gates.extend((0..16).map(|table| Gate {
+                    first,
+                    second,
+                    table,
+                }));
+            }
+        }
+        let with_gate = |plan: Plan| {
+            gates.iter().map(move |&gate| {
+                let mut longer = plan;
+                longer.gates[usize::from(g)] = gate;
+                longer
+            })
+        };
+        plans = plans.into_iter().flat_map(with_gate).collect();
+    }
+    let with_output = |mut plan: Plan| {
+        (u + 1..=u + k).map(move |output| {
+            plan.outputs[0] = output;
+            plan
+        })
+    };
+    plans.into_iter().flat_map(with_output).collect()
+}
+
 #[cfg(test)]
 mod tests {
     use super::*;
@@ -83,6 +122,27 @@ mod tests {
                 let counts = Counts::random(&mut random);
                 let plan = shaped_plan(&mut random, counts, shape);
                 assert_eq!(fault(&plan), None, "{shape:?}");
+            }
+        }
+    }
+
+    /// 16 tables for each choice of operands, and each gate as the output.
+    #[test]
+    fn every_small_plan_comes_once() {
+        for (u, k, count) in [
+            (1, 1, 16),
+            (2, 1, 4 * 16),
+            (3, 1, 9 * 16),
+            (1, 2, 16 * 4 * 16 * 2),
+        ] {
+            let plans = every_plan(u, k);
+            assert_eq!(plans.len(), count);
+            for (i, plan) in plans.iter().enumerate() {
+                assert_eq!(
+                    (fault(plan), plan.counts()),
+                    (None, [u, k, 1].map(u32::from))
+                );
+                assert!(!plans[..i].contains(plan));
             }
         }
     }
