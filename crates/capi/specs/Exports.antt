@@ -18,7 +18,7 @@ exportDrawn r = record { number = r .number; at = r .at; plan = r .plan; drawn =
 
 -- what the header's struct mkd_saved says
 abbrev pub exportSaved : Saved → SaveOutcome
-exportSaved r = record { number = r .number; length = r .length }
+exportSaved r = record { number = r .number; fileLength = r .length }
 
 -- what the header's struct mkd_counts says
 abbrev pub countsOf : Counted → CountOutcome

@@ -14,14 +14,14 @@ lent n = replicate n 255
 
 -- what saving says and leaves, as a row of numbers: number, length, the buffer
 savedRow : SaveOutcome → List ℕ → List ℕ
-savedRow o buffer = o .number ∷ o .length ∷ buffer
+savedRow o buffer = o .number ∷ o .fileLength ∷ buffer
 
 -- saving into a buffer of two bytes more than the file's writes this file and leaves those two
 unfoldable pub saves : Plan → List ℕ → Figure
 unfolding lent savedRow planSave
 saves plan file = let n : ℕ = length (file ++ lent 2) in record {
   computed = savedRow (planSave plan n) (saveResult plan (lent n));
-  stated = savedRow (record { number = 0; length = length file }) (file ++ lent 2);
+  stated = savedRow (record { number = 0; fileLength = length file }) (file ++ lent 2);
 }
 
 -- saving into a buffer of n bytes is refused with this number, and the buffer is as it was
@@ -29,7 +29,7 @@ unfoldable pub saveRefuses : Plan → ℕ → ℕ → Figure
 unfolding lent savedRow planSave
 saveRefuses plan n number = record {
   computed = savedRow (planSave plan n) (saveResult plan (lent n));
-  stated = savedRow (record { number = number; length = 0 }) (lent n);
+  stated = savedRow (record { number = number; fileLength = 0 }) (lent n);
 }
 
 gateOf : ℕ → ℕ → ℕ → Gate

@@ -1,4 +1,4 @@
--- The length of `listOf n f`, its elements, and when two such lists are equal.
+-- The length of `listOf n f`, its elements, and when two such lists are equal; stores of one list behind another.
 use mathlib.Core.Path.{_≡_, refl, sym, ap, _∙_}
 use mathlib.Core.Logic.{_⊎_, inl, inr}
 use mathlib.Core.List.{List, [], _∷_, _++_, append-assoc, append-nil}

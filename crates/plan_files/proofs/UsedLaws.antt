@@ -7,7 +7,7 @@ use Rattle.lists.proofs.ListsLaws.{getD-listOf}
 use Rattle.plan.specs.declared.record.Plan.{Plan}
 use Rattle.plan.specs.Record.{maxGates, maxOutputs, wire, zeroGate, gateAt, outputAt, Agree}
 use Rattle.plan.proofs.RecordLaws.{getD-places}
-use Rattle.plan_files.specs.Encoding.{word, encodeGate, joinedBytes, encode, used}
+use Rattle.plan_files.specs.Encoding.{word, encodeGate, encode, used}
 use Rattle.plan_files.proofs.ListLaws.{joined-same}
 
 pub used-agrees : (p : Plan) → Agree (used p) p

@@ -10,10 +10,10 @@ use Rattle.plan.specs.Faults.{Accepted}
 use Rattle.plan.proofs.RecordLaws.{wire-fits}
 use Rattle.plan.proofs.FaultsLaws.{accepted-counts}
 use Rattle.plan_reading.specs.PlanFile.{headerBytes}
-use Rattle.plan_files.specs.Encoding.{word, encodeGate, joinedBytes, encode, outputBytes}
+use Rattle.plan_files.specs.Encoding.{word, joinedBytes, encode, outputBytes}
 use Rattle.plan_files.proofs.ListLaws.{joined-length, joined-split}
 use Rattle.plan_saving.specs.declared.gate.Standing.{Standing}
-use Rattle.plan_saving.specs.Saving.{fieldsNeeded, shortestMap, savedFile}
+use Rattle.plan_saving.specs.Saving.{fieldsNeeded, savedFile}
 use Rattle.plan_saving.specs.Parts.{savedGates}
 
 -- items one after another: there is room for the next

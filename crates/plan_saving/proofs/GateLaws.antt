@@ -3,30 +3,35 @@ use Prim.Native.Nat.{ℕ, _+_}
 use native.Mathlib.Omega.{arith}
 use mathlib.Core.Path.{_≡_, refl, ap, _∙_}
 use mathlib.Core.Bool.{Bool, true, false}
-use mathlib.Core.List.{List, [], _++_}
+use mathlib.Core.List.{List, _++_}
 use lib.ListN.{length, length-append}
 use Rattle.plan.specs.declared.record.Gate.{Gate}
+use Rattle.plan.specs.Rules.{mapAllowed}
 use Rattle.plan_fields.specs.Fields.{firstPlace, secondPlace, tablePlace, mapBit}
 use Rattle.plan_files.specs.Encoding.{byte, word, whereStanding, tableByte, encodeGate}
 use Rattle.plan_saving.specs.declared.gate.Standing.{Standing}
 use Rattle.plan_saving.specs.Saving.{mapByteOf}
 
--- each map bit is its field's
-pub map-bits : (s : Standing)
-    → (mapBit (mapByteOf s) firstPlace ≡ s .first) × (mapBit (mapByteOf s) secondPlace ≡ s .second) × (mapBit (mapByteOf s) tablePlace ≡ s .table)
-unfolding mapByteOf
+-- a map byte whose bits are the standing fields'
+pub record MapBits (s : Standing) (m : ℕ) : Type 0 where
+  pub isMap : mapAllowed m ≡ true
+  pub first : mapBit m firstPlace ≡ s .first
+  pub second : mapBit m secondPlace ≡ s .second
+  pub table : mapBit m tablePlace ≡ s .table
+
+pub map-bits : (s : Standing) → MapBits s (mapByteOf s)
+unfolding mapByteOf mapAllowed
 map-bits s = go (s .first) (s .second) (s .table)
   where
-    go : (a b c : Bool) → let m = mapByteOf (record { first = a; second = b; table = c }) in
-        (mapBit m firstPlace ≡ a) × (mapBit m secondPlace ≡ b) × (mapBit m tablePlace ≡ c)
-    go true true true = (refl, refl, refl)
-    go true true false = (refl, refl, refl)
-    go true false true = (refl, refl, refl)
-    go true false false = (refl, refl, refl)
-    go false true true = (refl, refl, refl)
-    go false true false = (refl, refl, refl)
-    go false false true = (refl, refl, refl)
-    go false false false = (refl, refl, refl)
+    go : (a b c : Bool) → let t : Standing = record { first = a; second = b; table = c } in MapBits t (mapByteOf t)
+    go true true true = record { isMap = refl; first = refl; second = refl; table = refl }
+    go true true false = record { isMap = refl; first = refl; second = refl; table = refl }
+    go true false true = record { isMap = refl; first = refl; second = refl; table = refl }
+    go true false false = record { isMap = refl; first = refl; second = refl; table = refl }
+    go false true true = record { isMap = refl; first = refl; second = refl; table = refl }
+    go false true false = record { isMap = refl; first = refl; second = refl; table = refl }
+    go false false true = record { isMap = refl; first = refl; second = refl; table = refl }
+    go false false false = record { isMap = refl; first = refl; second = refl; table = refl }
 
 module _ (s : Standing) (g : Gate) where
   -- the bytes of the fields that stand
@@ -41,7 +46,7 @@ module _ (s : Standing) (g : Gate) where
 
   -- the gate's bytes are the map byte and these
   pub gate-standing : encodeGate (mapByteOf s) g ≡ byte (mapByteOf s) ++ (firstPart ++ (secondPart ++ tablePart))
-  gate-standing = let (first, second, table) = map-bits s in rw (first, second, table)
+  gate-standing = let bits = map-bits s in rw (bits .first, bits .second, bits .table)
 
   -- how many they are
   pub gate-parts : length (encodeGate (mapByteOf s) g) ≡ 1 + length firstPart + length secondPart + length tablePart

@@ -5,9 +5,8 @@ use native.Mathlib.Omega.{arith}
 use mathlib.Core.Path.{_≡_, refl, sym, ap, ap₂, subst, _∙_}
 use mathlib.Core.Bool.{false}
 use mathlib.Core.List.{List}
-use lib.ListN.{length, take, drop}
+use lib.ListN.{length, take}
 use lib.Seq.{take-at, drop-at}
-use Rattle.fault.specs.declared.Fault.{Fault}
 use Rattle.fault.specs.Checks.{andThen, roomFault}
 use Rattle.fault.specs.Buffers.{over, filled}
 use Rattle.fault.proofs.ChecksLaws.{and-then-zero, fails, room-passes, room-refuses}
@@ -23,8 +22,8 @@ use Rattle.plan_files.proofs.BytesLaws.{encode-bytes}
 use Rattle.plan_files.proofs.EncodingLaws.{read-encoded, read-is-encoded, reads-exactly, longest, largest, largest-accepted}
 use Rattle.plan_files.proofs.UsedLaws.{used-agrees}
 use Rattle.plan_files.proofs.OffsetLaws.{map-byte-stands}
-use Rattle.plan_saving.specs.Saving.{SaveOutcome, savedOutcome, shortestMap, savedFile, saveFault, planSave, saveResult}
-use Rattle.plan_saving.specs.SavingTheorems.{readAs, LeftOut, savedLength, written, SavedRight, SaveRefused, SavedRightTheorem, SaveRefusedTheorem, NeededLength, NeededLengthTheorem, LongestSaved, SavedAgainTheorem}
+use Rattle.plan_saving.specs.Saving.{savedOutcome, shortestMap, savedFile, saveFault, planSave, saveResult}
+use Rattle.plan_saving.specs.SavingTheorems.{readAs, LeftOut, savedLength, written, SavedRight, SavedRightTheorem, SaveRefusedTheorem, NeededLengthTheorem, LongestSaved, SavedAgainTheorem}
 use Rattle.plan_saving.proofs.ShortestLaws.{left-out, shortest-choice, file-shortest, same-file, largest-saved}
 
 -- the number that saving says is that of its checks
@@ -33,7 +32,7 @@ checks-number zero long = refl
 checks-number (suc n) long = refl
 
 -- a refusal has length 0 and leaves the buffer
-refused-length : (n long : ℕ) → (n ≡ 0 → ⊥) → savedOutcome n long .length ≡ 0
+refused-length : (n long : ℕ) → (n ≡ 0 → ⊥) → savedOutcome n long .fileLength ≡ 0
 refused-length zero long h = absurd (h refl)
 refused-length (suc n) long h = refl
 
@@ -58,7 +57,7 @@ read-longer p s small e =
 module _ (p : Plan) (buffer : List ℕ) (none : saveFault p (length buffer) ≡ 0) where
   length-said : savedLength p buffer ≡ length (savedFile p)
   unfolding planSave
-  length-said = ap (λ n. savedOutcome n (length (savedFile p)) .length) none
+  length-said = ap (λ n. savedOutcome n (length (savedFile p)) .fileLength) none
 
   left : saveResult p buffer ≡ over (savedFile p) buffer
   left = ap (λ n. filled n (savedFile p) buffer) none
@@ -126,7 +125,7 @@ longest-saved = record {
   plan = largest;
   saved =
       rw (enough-room largest longestFile largest-accepted (omega (arith, largest-saved)))
-      (ap (λ n. record { number = 0; length = n }) largest-saved);
+      (ap (λ n. record { number = 0; fileLength = n }) largest-saved);
 }
 
 pub saved-again : SavedAgainTheorem

@@ -4,23 +4,21 @@ use Prim.Native.Nat.{ℕ, _-_, _≤_, _<_}
 use native.Mathlib.Omega.{arith}
 use mathlib.Core.Path.{_≡_, refl, sym, ap, ap₂, _∙_}
 use mathlib.Core.Logic.{_↔_}
-use mathlib.Core.Bool.{Bool, true, false, not, _&&_, true≢false}
+use mathlib.Core.Bool.{Bool, true, false, not, true≢false}
 use mathlib.Core.List.{List}
 use borrow.Author.Tests.{not-false, ne-eqb}
-use lib.Dec.{eqb}
 use lib.ListN.{length, length-append}
 use Rattle.fault.proofs.ChecksLaws.{eqb-iff}
 use Rattle.plan.specs.declared.record.Gate.{Gate}
 use Rattle.plan.specs.declared.record.Plan.{Plan}
 use Rattle.plan.specs.Record.{maxGates, gateAt, gateWire, Agree}
-use Rattle.plan.specs.Rules.{maxMap, mapAllowed}
+use Rattle.plan.specs.Rules.{maxMap}
 use Rattle.plan.proofs.RulesLaws.{both-bounds}
 use Rattle.plan_fields.specs.Fields.{firstPlace, secondPlace, tablePlace, absentTable, mapBit}
 use Rattle.plan_files.specs.Encoding.{byte, word, whereStanding, middleLines, tableByte, encodeGate, encode, LeavesOutDefaults, Choice, longestFile}
 use Rattle.plan_files.proofs.ListLaws.{joined-shorter}
 use Rattle.plan_files.proofs.EncodingLaws.{xorGate, largest, largest-gate, full-length}
 use Rattle.plan_files.proofs.UsedLaws.{encode-same}
-use Rattle.plan_saving.specs.declared.gate.Standing.{Standing}
 use Rattle.plan_saving.specs.Saving.{mapByteOf, fieldsNeeded, shortestMap, savedFile}
 use Rattle.plan_saving.specs.SavingTheorems.{LeftOut}
 use Rattle.plan_saving.proofs.GateLaws.{map-bits}
@@ -33,27 +31,12 @@ left-by {b} {t} e p = (λ h. p .0 (not-false t (sym e ∙ h)), λ q. e ∙ ap no
 pub left-out : (own : ℕ) (g : Gate) → LeftOut own (mapByteOf (fieldsNeeded own g)) g
 unfolding fieldsNeeded
 left-out own g =
-    let (first, second, table) = map-bits (fieldsNeeded own g) in
+    let bits = map-bits (fieldsNeeded own g) in
     record {
-      first = left-by first (eqb-iff (g .first .0) (own - 1));
-      second = left-by second (both-bounds (eqb-iff (g .second .0) (g .first .0)) (eqb-iff (middleLines (g .table)) 0));
-      table = left-by table (eqb-iff (g .table) absentTable);
+      first = left-by (bits .first) (eqb-iff (g .first .0) (own - 1));
+      second = left-by (bits .second) (both-bounds (eqb-iff (g .second .0) (g .first .0)) (eqb-iff (middleLines (g .table)) 0));
+      table = left-by (bits .table) (eqb-iff (g .table) absentTable);
     }
-
--- any standing fields make an allowed map byte
-map-allowed : (s : Standing) → mapAllowed (mapByteOf s) ≡ true
-unfolding mapAllowed mapByteOf
-map-allowed s = go (s .first) (s .second) (s .table)
-  where
-    go : (a b c : Bool) → mapAllowed (mapByteOf (record { first = a; second = b; table = c })) ≡ true
-    go true true true = refl
-    go true true false = refl
-    go true false true = refl
-    go true false false = refl
-    go false true true = refl
-    go false true false = refl
-    go false false true = refl
-    go false false false = refl
 
 -- so saving's choice is one of the plan's
 pub shortest-choice : (p : Plan) → Choice (shortestMap p) p
@@ -61,7 +44,7 @@ shortest-choice p i l =
     let own = gateWire (p .inputs) i in
     let left = left-out own (gateAt p i) in
     record {
-      isMap = map-allowed (fieldsNeeded own (gateAt p i));
+      isMap = map-bits (fieldsNeeded own (gateAt p i)) .isMap;
       first = left .first .0;
       second = λ h. left .second .0 h .0;
       lines = λ h. left .second .0 h .1;

@@ -5,5 +5,5 @@ use Rattle.plan_saving.specs.Saving.{SaveOutcome}
 
 -- the length of the file that was written, or the refusal with length 0
 abbrev pub saveOutcome : SaveAnswer → SaveOutcome
-saveOutcome (SaveAnswer.Saved long) = record { number = 0; length = long }
-saveOutcome (SaveAnswer.Refused f) = record { number = faultNumber f; length = 0 }
+saveOutcome (SaveAnswer.Saved long) = record { number = 0; fileLength = long }
+saveOutcome (SaveAnswer.Refused f) = record { number = faultNumber f; fileLength = 0 }

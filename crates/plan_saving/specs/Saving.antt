@@ -44,12 +44,12 @@ saveFault p n = andThen (planFault p) (roomFault (length (savedFile p)) n)
 -- what saving says: 0 and the file's length, or the refusal's number and 0
 pub record SaveOutcome : Type 0 where
   pub number : ℕ
-  pub length : ℕ
+  pub fileLength : ℕ
 
 -- what saving a file of this length says, whose checks gave the number
 abbrev pub savedOutcome : ℕ → ℕ → SaveOutcome
-savedOutcome zero long = record { number = 0; length = long }
-savedOutcome (suc n) long = record { number = suc n; length = 0 }
+savedOutcome zero long = record { number = 0; fileLength = long }
+savedOutcome (suc n) long = record { number = suc n; fileLength = 0 }
 
 -- saving a plan into a buffer of n bytes
 unfoldable pub planSave : Plan → ℕ → SaveOutcome

@@ -2,7 +2,7 @@
 use Prim.Native.Nat.{ℕ, _-_, _<_, _≤_}
 use mathlib.Core.Path.{_≡_}
 use mathlib.Core.Logic.{_↔_}
-use mathlib.Core.Bool.{Bool, false}
+use mathlib.Core.Bool.{false}
 use mathlib.Core.List.{List}
 use lib.ListN.{length, take, drop}
 use Rattle.plan.specs.declared.record.Gate.{Gate}
@@ -30,7 +30,7 @@ pub record LeftOut (own m : ℕ) (g : Gate) : Type 0 where
 module _ (p : Plan) (buffer : List ℕ) where
   -- the length that is handed back
   abbrev pub savedLength : ℕ
-  savedLength = planSave p (length buffer) .length
+  savedLength = planSave p (length buffer) .fileLength
 
   -- the file: that many of the first bytes that the call leaves
   abbrev pub written : List ℕ
@@ -67,8 +67,8 @@ SaveRefusedTheorem = (p : Plan) (buffer : List ℕ) → (planSave p (length buff
 pub record NeededLength (p : Plan) : Type 0 where
   pub needed : ℕ
   pub most : needed ≤ longestFile
-  pub enough : (n : ℕ) → needed ≤ n → planSave p n ≡ record { number = 0; length = needed }
-  pub less : (n : ℕ) → n < needed → planSave p n ≡ record { number = 11; length = 0 }
+  pub enough : (n : ℕ) → needed ≤ n → planSave p n ≡ record { number = 0; fileLength = needed }
+  pub less : (n : ℕ) → n < needed → planSave p n ≡ record { number = 11; fileLength = 0 }
 
 abbrev pub NeededLengthTheorem : Type 0
 NeededLengthTheorem = (p : Plan) → Accepted p → NeededLength p
@@ -76,9 +76,9 @@ NeededLengthTheorem = (p : Plan) → Accepted p → NeededLength p
 -- some plan's file is as long as the longest file
 pub record LongestSaved : Type 0 where
   pub plan : Plan
-  pub saved : planSave plan longestFile ≡ record { number = 0; length = longestFile }
+  pub saved : planSave plan longestFile ≡ record { number = 0; fileLength = longestFile }
 
 -- saving what was read, into a buffer that has room for the file that was read, is done and gives no longer file
 abbrev pub SavedAgainTheorem : Type 0
 SavedAgainTheorem = (s : List ℕ) → OfBytes s → planRead s .number ≡ 0 → (n : ℕ) → length s ≤ n
-    → (planSave (planRead s .plan) n .number ≡ 0) × (planSave (planRead s .plan) n .length ≤ length s)
+    → (planSave (planRead s .plan) n .number ≡ 0) × (planSave (planRead s .plan) n .fileLength ≤ length s)

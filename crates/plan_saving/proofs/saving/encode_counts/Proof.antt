@@ -1,7 +1,6 @@
 -- `plan_saving::saving::encode_counts` meets its contract. Assumes nothing.
-use mathlib.Core.List.{_++_, append-assoc}
 use borrow.Author.Needs.{needs}
-use Rattle.plan_saving.proofs.WritingLaws.{wrote-as, wrote-more}
+use Rattle.plan_saving.proofs.WritingLaws.{wrote-more}
 use Rattle.plan_saving.proofs.saving.encode_counts.Statement.{statement}
 use Rattle.plan_saving.proofs.saving.encode_counts.Tie as tie
 

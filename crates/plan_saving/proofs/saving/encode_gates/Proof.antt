@@ -1,7 +1,7 @@
 -- `plan_saving::saving::encode_gates` meets its contract. The loop's invariant: the first i gates are written. Assumes nothing.
 use Prim.Native.Nat.{_-_, _≤_}
 use native.Mathlib.Omega.{arith}
-use mathlib.Core.Path.{_≡_, ap, _∙_}
+use mathlib.Core.Path.{_≡_, ap}
 use borrow.Author.Needs.{needs}
 use Rattle.plan.specs.Record.{gateAt, gateWire}
 use Rattle.plan.proofs.FaultsLaws.{accepted-counts, accepted-gate}

@@ -1,10 +1,9 @@
 -- `plan_saving::saving::encode_plan` meets its contract: the counts, behind them the gates, behind them the outputs. Assumes nothing.
-use Prim.Native.Nat.{_*_}
 use native.Mathlib.Omega.{arith}
 use mathlib.Core.Path.{_∙_}
 use mathlib.Core.List.{_++_, append-assoc}
 use borrow.Author.Needs.{needs}
-use lib.ListN.{length, length-append}
+use lib.ListN.{length-append}
 use Rattle.plan.proofs.FaultsLaws.{accepted-counts}
 use Rattle.plan_files.specs.Encoding.{word}
 use Rattle.plan_saving.specs.Parts.{savedGates, Wrote}
