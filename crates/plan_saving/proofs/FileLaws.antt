@@ -40,8 +40,8 @@ module _ (p : Plan) where
   saved-long = ap length (sym saved-parts) ∙ simp length-append (omega (arith, outputs-long))
 
   -- the standing fields that the code decides for gate i are those of the shortest file
-  pub needed-map : Accepted p → (i : ℕ) → i < p .«gate_count» → {w : ℕ} {s : Standing} → w ≡ gateWire (p .inputs) i % wordNumbers
+  pub needed-fields : Accepted p → (i : ℕ) → i < p .«gate_count» → {w : ℕ} {s : Standing} → w ≡ gateWire (p .inputs) i % wordNumbers
       → s ≡ fieldsNeeded w (gateAt p i) → s ≡ fieldsNeeded (gateWire (p .inputs) i) (gateAt p i)
-  needed-map ok i h own decided =
+  needed-fields ok i h own decided =
       let counts = accepted-counts p ok in
       decided ∙ ap (λ w. fieldsNeeded w (gateAt p i)) (own ∙ wire-fits (counts .inputs) (omega arith))

@@ -1,7 +1,7 @@
 //! The example plans of `plans/`: the library reads each file, plain or drawn, evaluates the plan
 //! and runs its fabric, and both give what the plan's rule says. Its gates are those that document
-//! 01 alone gives. The library saves the plan in no more bytes than its file has. What `plans/README.md` and the worked example of `README.md` show is what the
-//! library gives.
+//! 01 alone gives. The library saves the plan in no more bytes than its file has. What
+//! `plans/README.md` and the worked example of `README.md` show is what the library gives.
 
 use std::fs;
 use std::path::{Path, PathBuf};

@@ -10,7 +10,7 @@ use Rattle.plan_files.proofs.ListLaws.{joined-more}
 use Rattle.plan_saving.specs.Saving.{mapByteOf, fieldsNeeded, shortestMap}
 use Rattle.plan_saving.specs.Parts.{savedGates, Wrote}
 use Rattle.plan_saving.proofs.WritingLaws.{wrote-none, wrote-length, wrote-as, wrote-more}
-use Rattle.plan_saving.proofs.FileLaws.{joined-room, needed-map}
+use Rattle.plan_saving.proofs.FileLaws.{joined-room, needed-fields}
 use Rattle.plan_saving.proofs.saving.encode_gates.Statement.{statement}
 use Rattle.plan_saving.proofs.saving.encode_gates.Tie as tie
 
@@ -33,7 +33,7 @@ decided : (c : tie.After-fields-needed Inv-loop μ-loop)
     c .fields-needed .result ≡ fieldsNeeded (gateWire (plan .inputs) (at .loop .i)) (gateAt plan (at .loop .i))
 decided c =
     let at = c .before .before .before .before .before in
-    needed-map _ (at .before .before .pre .0) (at .loop .i) (omega arith) (c .before .gate-wire .ensures) (c .fields-needed .ensures)
+    needed-fields _ (at .before .before .pre .0) (at .loop .i) (omega arith) (c .before .gate-wire .ensures) (c .fields-needed .ensures)
 
 room : tie.Need-encode-gate-requires Inv-loop μ-loop
 room c κs =
