@@ -50,7 +50,7 @@ joined-split f (suc n) i h =
     ]
 
 -- the first n values, listed
-listed : {A : Type 0} (none : A) (xs : List A) (n : ℕ) → n ≤ length xs → listOf n (λ i. getD xs i none) ≡ take n xs
+pub listed : {A : Type 0} (none : A) (xs : List A) (n : ℕ) → n ≤ length xs → listOf n (λ i. getD xs i none) ≡ take n xs
 unfolding listOf
 listed none xs zero h = refl
 listed none xs (suc n) h = cc (listed none xs n (omega arith), take-suc xs n none h)

@@ -1,15 +1,14 @@
 -- Bytes that are written one after another into a buffer. The conclusion of `wrote-more` has its premises' shape, so that any number of writers follow each
 -- other; a buffer keeps its length whatever is written.
-use Prim.Native.Nat.{ℕ, _+_, _≤_, _<_}
+use Prim.Native.Nat.{ℕ, _+_, _≤_}
 use native.Mathlib.Nat.{zero-add}
 use native.Mathlib.Numerals.{add-one}
 use native.Mathlib.Omega.{arith}
 use mathlib.Core.Path.{_≡_, refl, sym, ap, _∙_}
 use mathlib.Core.List.{List, [], _∷_, _++_}
-use lib.ListN.{length, getD, set, take, drop, length-append}
-use lib.Seq.{sets, length-sets, sets-eq, take-suc, length-take-le}
+use lib.ListN.{length, set, drop, length-append}
+use lib.Seq.{sets, length-sets, sets-eq}
 use Rattle.fault.specs.Buffers.{over}
-use Rattle.fault.proofs.BuffersLaws.{over-more}
 use Rattle.lists.proofs.ListsLaws.{sets-append}
 use Rattle.plan_saving.specs.Parts.{Wrote}
 
@@ -47,12 +46,3 @@ module _ {a L P : List ℕ} {n : ℕ} (front : Wrote a L 0 P n) where
 
   pub front-over : length a ≤ length L → P ≡ over a L
   front-over room = front .isAfter ∙ sets-eq a L 0 (omega arith) ∙ ap (λ k. a ++ drop k L) (zero-add (length a))
-
--- one byte more is copied
-pub copied-more : (from old : List ℕ) (i : ℕ) → i < length from → i < length old
-    → set (over (take i from) old) i (getD from i 0) ≡ over (take (i + 1) from) old
-copied-more from old i h room =
-    let long = length-take-le i from (omega arith) in
-    ap (λ n. set (over (take i from) old) n (getD from i 0)) (sym long)
-    ∙ over-more (take i from) old (getD from i 0) (omega arith)
-    ∙ ap (λ l. over l old) (sym (take-suc from i 0 h) ∙ ap (λ n. take n from) (sym (add-one i)))

@@ -3,36 +3,41 @@ use Prim.Native.Nat.{_-_, _≤_}
 use native.Mathlib.Omega.{arith}
 use mathlib.Core.Path.{_≡_, refl, ap, _∙_}
 use borrow.Author.Needs.{needs}
-use lib.ListN.{length, getD, set, take, length-set}
+use lib.ListN.{length, getD, length-set}
+use Rattle.lists.specs.Lists.{listOf}
 use Rattle.fault.specs.Buffers.{over}
-use Rattle.plan_saving.proofs.WritingLaws.{copied-more}
+use Rattle.fault.proofs.BuffersLaws.{list-step}
+use Rattle.plan_files.proofs.ListLaws.{listed}
 use Rattle.plan_saving.proofs.saving.copy_front.Statement.{statement}
 use Rattle.plan_saving.proofs.saving.copy_front.Tie as tie
 
 abbrev Inv-loop : tie.InvT-loop
-Inv-loop from count file₀ i₀ file i = (i ≤ count) × (length file ≡ length file₀) × (file ≡ over (take i from) file₀)
+Inv-loop from count file₀ i₀ file i = (i ≤ count) × (length file ≡ length file₀) × (file ≡ over (listOf i (λ j. getD from j 0)) file₀)
 
 abbrev μ-loop : tie.MeasureT-loop
 μ-loop from count file₀ i₀ file i = count - i
 
 holds : tie.Need-loop-holds Inv-loop μ-loop
+unfolding listOf
 holds c = (omega arith, refl, refl)
 
 again : tie.Need-loop-again Inv-loop μ-loop
 again c =
     let at = c .before .before in
-    let start = at .before .args in
-    let from = start .from .now in (
+    let start = at .before .args in (
       omega arith,
       simp length-set (at .loop .inv .1),
-      ap (λ l. set l (at .loop .i) (getD from (at .loop .i) 0)) (at .loop .inv .2) ∙ copied-more from (start .file .now) (at .loop .i) (omega arith) (omega arith),
+      list-step (start .file .now) (at .loop .i) (λ j. getD (start .from .now) j 0) (at .loop .inv .2) refl (omega arith),
     )
 
 all : tie.Need-returns Inv-loop μ-loop
 all c =
     let start = c .before .before .args in
+    let from = start .from .now in
     let e : c .before .loop .i ≡ start .count = omega arith in
-    c .before .loop .inv .2 ∙ ap (λ n. over (take n (start .from .now)) (start .file .now)) e
+    c .before .loop .inv .2
+    ∙ ap (λ n. over (listOf n (λ j. getD from j 0)) (start .file .now)) e
+    ∙ ap (λ l. over l (start .file .now)) (listed 0 from (start .count) (c .before .before .pre .0))
 
 pub copy-front-spec : {M : Type 1} → statement M
 copy-front-spec =
