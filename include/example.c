@@ -2,13 +2,15 @@
  * A worked example of mukdalis.h: a unit for plans of two inputs, two gates and one output. It
  * reads a plan file, makes the fabric's table and the plan's program, runs every input row, and
  * compares each with plan evaluation. Then it saves the plan, which gives the file back, and shows
- * how a file that was cut short is refused.
+ * how a file that was cut short is refused. Last, a plan that holds: a latch that sheds until it is
+ * reset, over a series of intervals by the plan and by the fabric of its counts.
  *
  *     rt staticlib capi
  *     cc -std=c11 include/example.c target/staticlib/libcapi.a -o example
  *
  * It prints the counts, and a line for each row: the inputs, the plan's output, the fabric's; then
- * the length of the saved file, and the refusal.
+ * the length of the saved file, and the refusal; then a line for each interval of the latch: fault
+ * and reset, whether the plan sheds, whether the fabric does; and what each holds at the end.
  */
 #include "mukdalis.h"
 
@@ -24,6 +26,30 @@ static const uint8_t file[] = {
     0x03, 1, 0, 2, 0,                /* both operands stand; table absent: AND */
     0x06, 1, 0, 6,                   /* first operand absent: wire 3; XOR is table 6 */
     4, 0                             /* the output */
+};
+
+/* The counts of the latch, its hold count, and the intervals that it is run over. */
+enum { LATCH_INPUTS = 3, LATCH_GATES = 2, LATCH_OUTPUTS = 1, HOLD = 1, INTERVALS = 6 };
+
+/*
+ * Inputs 1 and 2: fault and reset. Input 3: whether the interval before shed. Gate 1, wire 4: input
+ * 3 OR input 1. Gate 2, wire 5: wire 4 and not input 2. The output, which is held: wire 5.
+ */
+static const uint8_t latch_file[] = {
+    LATCH_INPUTS, 0, LATCH_GATES, 0, LATCH_OUTPUTS, 0, /* u, k, v */
+    0x06, 1, 0, 14,                                    /* first operand absent: input 3; OR */
+    0x06, 2, 0, 4,                                     /* absent: wire 4; table 4: 1 on 1, 0 */
+    5, 0                                               /* the output */
+};
+
+/* Fault and reset of each interval. */
+static const uint8_t fresh[MKD_FRESH_LEN(LATCH_INPUTS, HOLD, INTERVALS)] = {
+    0, 0, /* nothing */
+    1, 0, /* a fault: the latch sheds */
+    0, 0, /* the fault has gone: it still sheds */
+    0, 1, /* a reset: it sheds no more */
+    0, 0, /* nothing */
+    1, 0  /* another fault */
 };
 
 static uint16_t table[MKD_TABLE_LEN(MKD_FABRIC_ROWS(INPUTS, GATES, OUTPUTS), OUTPUTS)];
@@ -70,6 +96,47 @@ static int save(struct mkd_plan plan)
     return answer.length != sizeof file || memcmp(saved, file, sizeof file) != 0;
 }
 
+/* The latch over all intervals, with nothing shed before: by the plan and by its fabric. */
+static int show_latch(void)
+{
+    static uint16_t latch_table[MKD_TABLE_LEN(
+        MKD_FABRIC_ROWS(LATCH_INPUTS, LATCH_GATES, LATCH_OUTPUTS), LATCH_OUTPUTS)];
+    static uint8_t latch_program[MKD_PROGRAM_LEN(
+        MKD_FABRIC_BITS(LATCH_INPUTS, LATCH_GATES, LATCH_OUTPUTS))];
+    static uint8_t latch_work[MKD_WORK_LEN(
+        MKD_FABRIC_WIRES(LATCH_INPUTS, LATCH_GATES, LATCH_OUTPUTS))];
+    const size_t latch_table_len = sizeof latch_table / sizeof latch_table[0];
+    const uint8_t start[MKD_STATE_LEN(HOLD)] = {0};
+    uint8_t expected[MKD_RESULTS_LEN(LATCH_OUTPUTS, INTERVALS)];
+    uint8_t found[MKD_RESULTS_LEN(LATCH_OUTPUTS, INTERVALS)];
+    uint8_t expected_end[MKD_STATE_LEN(HOLD)];
+    uint8_t found_end[MKD_STATE_LEN(HOLD)];
+    const struct mkd_read latch = mkd_plan_read(latch_file, sizeof latch_file);
+    uint32_t number = latch.number;
+    size_t t;
+
+    if (number == 0)
+        number = mkd_fabric(LATCH_INPUTS, LATCH_GATES, LATCH_OUTPUTS, latch_table, latch_table_len);
+    if (number == 0)
+        number = mkd_program(latch.plan, latch_program, sizeof latch_program);
+    if (number == 0)
+        number = mkd_plan_series(latch.plan, HOLD, INTERVALS, fresh, sizeof fresh, start,
+                                 sizeof start, expected, sizeof expected, expected_end,
+                                 sizeof expected_end);
+    if (number == 0)
+        number = mkd_run_series(latch_table, latch_table_len, latch_program, sizeof latch_program,
+                                HOLD, INTERVALS, fresh, sizeof fresh, start, sizeof start,
+                                latch_work, sizeof latch_work, found, sizeof found, found_end,
+                                sizeof found_end);
+    if (number != 0)
+        return refused(number);
+    for (t = 0; t < INTERVALS; t++)
+        printf("latch %u%u %u %u\n", fresh[2 * t], fresh[2 * t + 1], expected[t], found[t]);
+    printf("latch holds %u %u\n", expected_end[0], found_end[0]);
+    return memcmp(found, expected, sizeof expected) != 0 ||
+           memcmp(found_end, expected_end, sizeof expected_end) != 0;
+}
+
 int main(void)
 {
     struct mkd_read read = mkd_plan_read(file, sizeof file);
@@ -103,5 +170,7 @@ int main(void)
     /* The last byte is missing: the field that it belongs to begins one byte before it. */
     read = mkd_plan_read(file, sizeof file - 1);
     printf("cut: refused %u at %u\n", (unsigned)read.number, (unsigned)read.at);
-    return read.number != MKD_CUT;
+    if (read.number != MKD_CUT)
+        return 1;
+    return show_latch();
 }

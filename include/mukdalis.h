@@ -1,11 +1,11 @@
 /*
- * Mukdalis, the contact fabric library: plans and drawn plans, their faults, their evaluation and
- * their saving; the permutation network P and the selection network S of the block library, their
- * rows and their programs; the fabric of three counts, its rows by kind, a plan's program for it,
- * and the run of a fabric table.
+ * Mukdalis, the contact fabric library: plans and drawn plans, their faults, their evaluation, once
+ * or over a series of intervals, and their saving; the permutation network P and the selection
+ * network S of the block library, their rows and their programs; the fabric of three counts, its
+ * rows by kind, a plan's program for it, and the run of a fabric table, once or over a series.
  *
- * example.c beside this file shows the whole path, from a plan file to a run. A program is linked
- * with libcapi.a, which `rt staticlib capi` writes.
+ * example.c beside this file shows the whole path, from a plan file to a run, and a plan that
+ * holds. A program is linked with libcapi.a, which `rt staticlib capi` writes.
  *
  * Every call takes all inputs and refuses bad ones. It answers a number: 0 for done, any other
  * the row of the refusal table below whose check failed first. A refusal writes through no
@@ -45,6 +45,9 @@ extern "C" {
 /* The highest wire of a fabric. */
 #define MKD_LAST_WIRE 65535
 
+/* The most intervals of a series. */
+#define MKD_MAX_INTERVALS 4096
+
 /* The largest fabric, that of 64 inputs, 256 gates and 64 outputs: no other has more of these. */
 #define MKD_MAX_FABRIC_ROWS 31489
 #define MKD_MAX_FABRIC_WIRES 58180
@@ -54,9 +57,10 @@ extern "C" {
 
 /*
  * The stated lengths, but for that of a saved file, which depends on the whole plan, see
- * mkd_plan_save. Each macro has the name of the parameter whose length it gives. All are constant
- * expressions where their arguments are, so that they serve for static buffers, and evaluate an
- * argument once.
+ * mkd_plan_save. Each macro has the name of the parameter whose length it gives; a series' start
+ * and end are states, and h and n its hold count and intervals, see mkd_plan_series. All are
+ * constant expressions where their arguments are, so that they serve for static buffers, and
+ * evaluate an argument once.
  */
 #define MKD_RESULT_LEN(v) ((size_t)(v))                  /* an entry an output */
 #define MKD_ROWS_LEN(rows) (3 * (size_t)(rows))          /* three entries a row */
@@ -64,6 +68,9 @@ extern "C" {
 #define MKD_PROGRAM_LEN(bits) (((size_t)(bits) + 7) / 8) /* bits divided by 8, rounded up */
 #define MKD_TABLE_LEN(rows, v) (3 + MKD_ROWS_LEN(rows) + (size_t)(v))
 #define MKD_WORK_LEN(wires) ((size_t)(wires)) /* an entry a wire */
+#define MKD_FRESH_LEN(u, h, n) ((size_t)(n) * ((size_t)(u) - (size_t)(h)))
+#define MKD_STATE_LEN(h) ((size_t)(h)) /* an entry a held output */
+#define MKD_RESULTS_LEN(v, n) ((size_t)(n) * MKD_RESULT_LEN(v))
 
 /*
  * The rows, wires and program bits of P(n), of S(m, n), and of the fabric of u, k and v, which
@@ -107,8 +114,8 @@ extern "C" {
 #define MKD_U_WIRES(l) (MKD_POWER(l) * (uint32_t)(2 * (l) * (l) + 4) - 3)
 
 /*
- * The refusal table. The block library reads 2, 4, 9, 12 and 13 otherwise, drawn reading 7, and
- * both readings 8: their calls say how. No other number is given.
+ * The refusal table. The block library reads 2, 4, 9, 12 and 13 otherwise, drawn reading 7, both
+ * readings 8, and the series 12: their calls say how. No other number is given.
  */
 enum mkd_fault {
     MKD_STUB = 1,     /* file below 6 bytes */
@@ -125,7 +132,8 @@ enum mkd_fault {
     MKD_CONTACT = 12, /* input row not of length u, or an entry not 0 or 1 */
     MKD_FABRIC = 13,  /* fabric table malformed: mkd_run says when */
     MKD_PROGRAM = 14, /* program not of its exact length, or a spare bit set */
-    MKD_RING = 15     /* drawn gates that each draw from one of them */
+    MKD_RING = 15,    /* drawn gates that each draw from one of them */
+    MKD_HOLD = 16     /* hold count above u or v, or more than 4,096 intervals */
 };
 
 /*
@@ -237,6 +245,34 @@ uint32_t mkd_plan_fault(struct mkd_plan plan);
  */
 uint32_t mkd_plan_evaluate(struct mkd_plan plan, const uint8_t *row, size_t row_len,
                            uint8_t *result, size_t result_len);
+
+/*
+ * Evaluates a plan over a series of intervals in which contacts hold: the last h outputs of one
+ * interval are the last h inputs of the next, where h is hold and n is intervals.
+ *
+ * Interval t, from 0, has as its row the u - h entries of fresh from place t * (u - h) on, then the
+ * h entries of the state. The v entries of results from place t * v on become its outputs, those of
+ * mkd_plan_evaluate on that row. The state is start before the first interval, and after each
+ * interval the last h of its outputs; the first h entries of end become the state after the last.
+ *
+ * With 0 intervals end gets start, and results stays as it was. With hold 0 and one interval
+ * results gets what mkd_plan_evaluate gives. A series of n intervals and then one of m, whose start
+ * is the end of the first and whose fresh entries are those that follow, write the outputs and the
+ * end of one series of n + m intervals, if that is not refused.
+ *
+ * Buffers: fresh has MKD_FRESH_LEN(u, h, n) entries, no more; start has MKD_STATE_LEN(h), no more;
+ * results has MKD_RESULTS_LEN(v, n) or more; end has MKD_STATE_LEN(h) or more. Any of these lengths
+ * may be 0.
+ *
+ * Refusals, in this order: the plan faults; 16 if hold is above u or above v, or intervals above
+ * MKD_MAX_INTERVALS; 12 if fresh_len or start_len is not its length, or an entry of fresh or start
+ * is not 0 or 1; 11 if results_len or end_len is below its stated length, with 0 intervals too. A
+ * refusal leaves results and end as they were.
+ */
+uint32_t mkd_plan_series(struct mkd_plan plan, uint32_t hold, uint32_t intervals,
+                         const uint8_t *fresh, size_t fresh_len, const uint8_t *start,
+                         size_t start_len, uint8_t *results, size_t results_len, uint8_t *end,
+                         size_t end_len);
 
 /* The answer of a saving. */
 struct mkd_saved {
@@ -486,6 +522,28 @@ uint32_t mkd_program(struct mkd_plan plan, uint8_t *program, size_t program_len)
 uint32_t mkd_run(const uint16_t *table, size_t table_len, const uint8_t *program,
                  size_t program_len, const uint8_t *row, size_t row_len, uint8_t *work,
                  size_t work_len, uint8_t *result, size_t result_len);
+
+/*
+ * Runs a fabric table with a program over a series of intervals: fresh, start, results and end are
+ * those of mkd_plan_series, with u and v the table's first two entries, and an interval's outputs
+ * are those of mkd_run on its row. The first entries of work become the bits of all wires in the
+ * last interval; with 0 intervals work stays as it was.
+ *
+ * With the table and the program that mkd_fabric and mkd_program write for a plan, results and end
+ * are those of mkd_plan_series of that plan.
+ *
+ * Buffers: table, program and work as in mkd_run; fresh, start, results and end as in
+ * mkd_plan_series.
+ *
+ * Refusals, in this order: 13 and 14 as in mkd_run; 16 and 12 as in mkd_plan_series; 11 if
+ * work_len, results_len or end_len is below its stated length, with 0 intervals too. A refusal
+ * leaves work, results and end as they were.
+ */
+uint32_t mkd_run_series(const uint16_t *table, size_t table_len, const uint8_t *program,
+                        size_t program_len, uint32_t hold, uint32_t intervals,
+                        const uint8_t *fresh, size_t fresh_len, const uint8_t *start,
+                        size_t start_len, uint8_t *work, size_t work_len, uint8_t *results,
+                        size_t results_len, uint8_t *end, size_t end_len);
 
 #ifdef __cplusplus
 }

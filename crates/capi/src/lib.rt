@@ -7,11 +7,14 @@ ghost use Rattle.blocks.specs.Calls.{writeFault, selectionWriteFault, writtenRo
 ghost use Rattle.blocks.specs.Calls.{permutationCounting, selectionCounting, programFault, selectionProgramFault, programResult, selectionProgramResult};
 ghost use Rattle.plan.specs.Faults.{planFault};
 ghost use Rattle.plan_evaluation_checks.specs.EvaluationChecks.{evaluateFault};
+ghost use Rattle.plan_series_checks.specs.SeriesChecks.{planSeriesFault};
 ghost use Rattle.plan_evaluation.specs.Evaluation.{evaluateResult};
+ghost use Rattle.plan_evaluation.specs.PlanSeries.{planSeriesResults, planSeriesEnd};
 ghost use Rattle.plan_reading.specs.PlanFile.{planRead};
 ghost use Rattle.plan_drawn.specs.DrawnFile.{drawnRead};
 ghost use Rattle.plan_saving.specs.Saving.{planSave, saveResult};
 ghost use Rattle.fabric.specs.Fabrics.{counting, kindCounting, fabricResult, fabricFault, planProgramFault, planProgramResult, runFault, runWork, runResult};
+ghost use Rattle.fabric.specs.Fabrics.{runSeriesFault, runSeriesWork, runSeriesResults, runSeriesEnd};
 ghost use Rattle.capi.specs.Exports.{exportOutcome, exportDrawn, exportSaved, countsOf, exportSheet};
 use elements::CountAnswer;
 use elements::FabricWire;
@@ -106,6 +109,24 @@ pub extern "C" fn mkd_plan_evaluate(plan: Plan, row: &[u8], result: &mut [u8]) -
     ensures written { λ _. ⌜ now (result .exit) ≡ evaluateResult plan (now (row .entry)) (now (result .entry)) ⌝ }
 {
     plan_evaluation::evaluate(plan, row, result).number()
+}
+
+// The plan's outputs on a series of rows, whose last entries are the last outputs of the row before.
+#[no_mangle]
+pub extern "C" fn mkd_plan_series(
+    plan: Plan,
+    hold: u32,
+    intervals: u32,
+    fresh: &[u8],
+    start: &[u8],
+    results: &mut [u8],
+    end: &mut [u8],
+) -> u32
+    ensures answered { λ r. ⌜ r ≡ planSeriesFault plan hold intervals (now (fresh .entry)) (now (start .entry)) (length (now (results .entry))) (length (now (end .entry))) ⌝ }
+    ensures written { λ _. ⌜ now (results .exit) ≡ planSeriesResults plan hold intervals (now (fresh .entry)) (now (start .entry)) (now (results .entry)) (now (end .entry)) ⌝ }
+    ensures ended { λ _. ⌜ now (end .exit) ≡ planSeriesEnd plan hold intervals (now (fresh .entry)) (now (start .entry)) (now (results .entry)) (now (end .entry)) ⌝ }
+{
+    plan_evaluation::evaluate_series(plan, hold, intervals, fresh, start, results, end).number()
 }
 
 // The header's struct mkd_saved: number 0 with the length of the file that was written, length 0 where none was.
@@ -316,4 +337,35 @@ pub extern "C" fn mkd_run(
     ensures written { λ _. ⌜ now (result .exit) ≡ runResult (now (table .entry)) (now (program .entry)) (now (row .entry)) (now (work .entry)) (now (result .entry)) ⌝ }
 {
     fabric::run(table, program, row, work, result).number()
+}
+
+// The run of a table with a program on a series of rows, whose last entries are the last outputs of the row before.
+#[no_mangle]
+pub extern "C" fn mkd_run_series(
+    table: &[u16],
+    program: &[u8],
+    hold: u32,
+    intervals: u32,
+    fresh: &[u8],
+    start: &[u8],
+    work: &mut [u8],
+    results: &mut [u8],
+    end: &mut [u8],
+) -> u32
+    ensures answered { λ r. ⌜ r ≡ runSeriesFault (now (table .entry)) (now (program .entry)) hold intervals (now (fresh .entry)) (now (start .entry)) (length (now (work .entry))) (length (now (results .entry))) (length (now (end .entry))) ⌝ }
+    ensures worked { λ _. ⌜ now (work .exit) ≡ runSeriesWork (now (table .entry)) (now (program .entry)) hold intervals (now (fresh .entry)) (now (start .entry)) (now (work .entry)) (now (results .entry)) (now (end .entry)) ⌝ }
+    ensures written { λ _. ⌜ now (results .exit) ≡ runSeriesResults (now (table .entry)) (now (program .entry)) hold intervals (now (fresh .entry)) (now (start .entry)) (now (work .entry)) (now (results .entry)) (now (end .entry)) ⌝ }
+    ensures ended { λ _. ⌜ now (end .exit) ≡ runSeriesEnd (now (table .entry)) (now (program .entry)) hold intervals (now (fresh .entry)) (now (start .entry)) (now (work .entry)) (now (results .entry)) (now (end .entry)) ⌝ }
+{
+    fabric::run_series(
+        table,
+        program,
+        hold,
+        intervals,
+        fresh,
+        start,
+        work,
+        results,
+        end,
+    ).number()
 }

@@ -31,7 +31,7 @@ use Rattle.fabric_sizes.specs.Layout.{inputsIn, outputsIn, rowsIn, outputWireAt
 use Rattle.fabric_table_checks.specs.TableFault.{tableFault}
 use Rattle.fabric_table_checks.proofs.TableFaultLaws.{table-faultless}
 use Rattle.fabric_table_checks.proofs.WrittenTables.{tableOf, tableRows-of, output-of, below-cons, flat-below, wiresIn-of, bitsIn-of, well-formed-of}
-use Rattle.fabric_run_checks.specs.RunFault.{givenProgramFault, runFault}
+use Rattle.fabric_run_checks.specs.RunFault.{givenProgramFault, givenFault, runFault}
 use Rattle.fabric_run_checks.proofs.RunFaultLaws.{pack-exact}
 use Rattle.fabric_run.specs.Running.{runWires, runOutputs}
 use Rattle.fabric.specs.Promise.{FabricPromise}
@@ -156,7 +156,7 @@ module _ (p : Plan) where
 
 pub fabric-promise : (p : Plan) (row : List ℕ) → Accepted p → countsFault (p .inputs) (p .«gate_count») (p .«output_count») ≡ 0
     → contactFault (p .inputs) row ≡ 0 → FabricPromise p row
-unfolding runFault roomFault
+unfolding runFault givenFault roomFault
 fabric-promise p row accepted counts contacts =
     let u : ℕ = p .inputs in
     let k : ℕ = p .«gate_count» in

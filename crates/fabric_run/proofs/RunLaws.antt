@@ -20,7 +20,8 @@ use Rattle.fabric_run.specs.Running.{runStart, runWires}
 use Rattle.fabric_run.specs.RunRows.{rowState, rowDone, leftOf, rightOf, RowRoom, Runnable}
 use Rattle.fabric_run.proofs.RunningLaws.{run-areBits}
 use Rattle.fabric_run.proofs.RowLaws.{sees-row}
-use Rattle.fabric_run.proofs.WorkLaws.{sets-over, over-longer}
+use Rattle.series.proofs.CopyingLaws.{sets-over}
+use Rattle.fabric_run.proofs.WorkLaws.{over-longer}
 
 -- where a run stands before row i
 abbrev pub stateTo : List ℕ → List ℕ → List ℕ → ℕ → State ℕ

@@ -1,22 +1,13 @@
 -- Buffers that are written from the front, and the start of a run on the work buffer.
-use mathlib.Core.Path.{_≡_, sym, ap, _∙_}
-use mathlib.Core.List.{List, [], _∷_, _++_, append-assoc, append-nil}
+use mathlib.Core.Path.{_≡_, ap, ap₂, _∙_}
+use mathlib.Core.List.{List, [], _∷_, _++_}
 use Prim.Native.Nat.{ℕ, _+_, _-_, _≤_, _<_}
-use native.Mathlib.Numerals.{add-one}
 use native.Mathlib.Omega.{arith}
-use lib.ListN.{length, getD, take, drop, set, length-append}
-use lib.Seq.{sets, drop-append-add, drop-drop, take-suc, length-take-le}
+use lib.ListN.{length, take, drop, set, length-append}
+use lib.Seq.{sets, drop-append-add, drop-drop, take-length}
 use Rattle.fault.specs.Buffers.{over}
 use Rattle.fault.proofs.BuffersLaws.{over-more}
-
--- values stored behind what is written
-pub sets-over : (new old xs : List ℕ) → length new + length xs ≤ length old → sets (over new old) (length new) xs ≡ over (new ++ xs) old
-sets-over new old [] h = rw append-nil
-sets-over new old (x ∷ xs) h =
-    let one = over-more new old x (omega arith) in
-    let l = length-append new (x ∷ []) in
-    rw (one, ← append-assoc new (x ∷ []) xs)
-    (ap (λ n. sets (over (new ++ (x ∷ [])) old) n xs) (sym (l ∙ add-one (length new))) ∙ sets-over (new ++ (x ∷ [])) old xs (omega arith))
+use Rattle.series.proofs.CopyingLaws.{sets-over}
 
 -- what is written over fewer entries leaves nothing of them
 pub over-longer : (a b old : List ℕ) → length b ≤ length a → over a (over b old) ≡ over a old
@@ -25,19 +16,12 @@ over-longer a b old h =
     let e : length a ≡ length b + k = omega arith in
     ap (λ l. a ++ l) (rw e (drop-append-add b (drop (length b) old) k ∙ drop-drop k (length b) old))
 
--- ---- wire 0 and the inputs
-
-pub start-zero : (old : List ℕ) → 0 < length old → set old 0 0 ≡ over (0 ∷ []) old
-start-zero old h = over-more [] old 0 h
-
-pub start-held : (old : List ℕ) → 0 < length old → set old 0 0 ≡ over (0 ∷ []) (set old 0 0)
-start-held old h = rw (start-zero old h) (sym (over-longer (0 ∷ []) (0 ∷ []) old (omega arith)))
-
-pub start-more : (row old : List ℕ) (i : ℕ) → i < length row → i + 1 < length old
-    → set (over (0 ∷ take i row) old) (i + 1) (getD row i 0) ≡ over (0 ∷ take (i + 1) row) old
-start-more row old i h room =
-    let l : length (0 ∷ take i row) ≡ i + 1 = omega (arith, length-take-le i row (omega arith)) in
-    ap (λ n. set (over (0 ∷ take i row) old) n (getD row i 0)) (sym l)
-    ∙ over-more (0 ∷ take i row) old (getD row i 0) (omega arith)
-    ∙ ap (λ t. over (0 ∷ t) old) (sym (take-suc row i 0 h))
-    ∙ ap (λ n. over (0 ∷ take n row) old) (sym (add-one i))
+-- wire 0, the row's entries, then the state's
+pub start-stored : (row state old : List ℕ) {l₁ l₂ : List ℕ} → length (row ++ state) < length old
+    → l₁ ≡ sets (set old 0 0) 1 (take (length row) row) → l₂ ≡ sets l₁ (1 + length row) (take (length state) state) → l₂ ≡ over (0 ∷ (row ++ state)) old
+start-stored row state old room e₁ e₂ =
+    let n = length-append row state in
+    let place : 1 + length row ≡ length (0 ∷ row) = omega arith in
+    let first = ap (sets (set old 0 0) 1) (take-length row) ∙ ap (λ l. sets l 1 row) (over-more [] old 0 (omega arith)) ∙ sets-over (0 ∷ []) old row (omega arith) in
+    e₂ ∙ ap₂ (λ l s. sets l (1 + length row) s) (e₁ ∙ first) (take-length state)
+    ∙ ap (λ n. sets (over (0 ∷ row) old) n state) place ∙ sets-over (0 ∷ row) old state (omega arith)

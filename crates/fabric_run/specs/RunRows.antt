@@ -1,8 +1,8 @@
 -- One row on the work buffer, and all of them.
 use Prim.Native.Nat.{ℕ, _+_, _<_, _≤_}
 use mathlib.Core.Path.{_≡_}
-use mathlib.Core.List.{List}
-use lib.ListN.{length, getD}
+use mathlib.Core.List.{List, _++_}
+use lib.ListN.{length, getD, take}
 use lib.Seq.{sets}
 use Rattle.lists.specs.Lists.{listOf}
 use Rattle.blocks.specs.Elements.{Row, gateBits, State, outputs, gateOnBits, bitAt, AreBits}
@@ -46,8 +46,15 @@ pub record Runnable (table row : List ℕ) (work : ℕ) : Type 0 where
 abbrev pub outputsOn : List ℕ → List ℕ → List ℕ
 outputsOn table work = listOf (outputsIn table) (λ j. getD work (outputWireAt table j) 0)
 
--- every output wire is on the work buffer, and the result has a place for each
-pub record ResultRoom (table : List ℕ) (work result : ℕ) : Type 0 where
+-- every output wire is on the work buffer, and the results have a place for each from `at` on
+pub record ResultRoom (table : List ℕ) (work results at : ℕ) : Type 0 where
   pub wellFormed : WellFormed table
   pub wires : wiresIn table ≤ work
-  pub room : outputsIn table ≤ result
+  pub room : at + outputsIn table ≤ results
+
+-- one interval: its row is the fresh entries, then the state, which is the last of its outputs afterwards
+pub record RunInterval (table row : List ℕ) (hold work results at : ℕ) (end : List ℕ) : Type 0 where
+  pub runnable : Runnable table (row ++ take hold end) work
+  pub room : at + outputsIn table ≤ results
+  pub held : hold ≤ outputsIn table
+  pub state : hold ≤ length end

@@ -1,15 +1,14 @@
-// The run: every wire's bit into the work buffer, row by row, then the outputs' bits into the result. A program bit is read by shift and mask.
+// One row of inputs through a table with a program: every wire's bit into the work buffer, row by row, then the outputs' bits into the results. A program
+// bit is read by shift and mask.
 ghost use mathlib.Core.Path.{_≡_};
-ghost use mathlib.Core.List.{[], _∷_};
+ghost use mathlib.Core.List.{[], _∷_, _++_};
 ghost use Prim.Native.Nat.{_+_, _<_, _≤_};
 ghost use lib.ListN.{length};
-ghost use Rattle.fault.specs.Number.{answerNumber};
+ghost use lib.Seq.{sets};
 ghost use Rattle.fault.specs.Buffers.{over};
 ghost use Rattle.blocks.specs.Elements.{X, Y, Gate, rowOf, choose};
 ghost use Rattle.fabric_table_checks.specs.Counting.{kindWires};
-ghost use Rattle.fabric_run_checks.specs.RunFault.{runFault};
 ghost use Rattle.fabric_run.specs.Running.{runWires};
-ghost use Rattle.fabric_run.specs.RunCalls.{runWork, runResult};
 ghost use Rattle.fabric_run.specs.RunRows.{Runnable, RowRoom, ResultRoom, outputsOn, leftOf, rightOf, rowDone};
 use blocks::LEFT_PLACE;
 use blocks::RIGHT_PLACE;
@@ -18,37 +17,20 @@ use blocks::wide;
 use elements::FabricWire;
 use elements::KIND_X;
 use elements::KIND_Y;
-use fabric_run_checks::check_run;
 use fabric_sizes::INPUTS;
 use fabric_sizes::OUTPUTS;
 use fabric_sizes::ROWS;
 use fabric_table_checks::counts_of;
 use fabric_table_checks::row_start;
 use fabric_table_checks::wire_of;
-use fault::Answer;
+use series::copy_part;
 
-// The run of a table with a program on a row of inputs: every wire's bit into the work buffer, the outputs' bits into the result.
-pub fn run(table: &[u16], program: &[u8], row: &[u8], work: &mut [u8], result: &mut [u8]) -> Answer
-    ensures answered { λ r. ⌜ answerNumber r ≡ runFault (now (table .entry)) (now (program .entry)) (now (row .entry)) (length (now (work .entry))) (length (now (result .entry))) ⌝ }
-    ensures worked { λ _. ⌜ now (work .exit) ≡ runWork (now (table .entry)) (now (program .entry)) (now (row .entry)) (now (work .entry)) (now (result .entry)) ⌝ }
-    ensures written { λ _. ⌜ now (result .exit) ≡ runResult (now (table .entry)) (now (program .entry)) (now (row .entry)) (now (work .entry)) (now (result .entry)) ⌝ }
+// All wires' bits: wire 0, the inputs, which are the row's entries and then the state's, then row by row.
+pub(crate) fn run_rows(table: &[u16], program: &[u8], row: &[u8], state: &[u8], work: &mut [u8])
+    requires { ⌜ Runnable (now table) (now row ++ now state) (length (now work)) ⌝ }
+    ensures { λ _. ⌜ now (work .exit) ≡ over (runWires (now (table .entry)) (now (program .entry)) (now (row .entry) ++ now (state .entry))) (now (work .entry)) ⌝ }
 {
-    match check_run(table, program, row, work.len(), result.len()) {
-        Answer::Refused(f) => Answer::Refused(f),
-        Answer::Done => {
-            run_rows(table, program, row, work);
-            write_result(table, work, result);
-            Answer::Done
-        }
-    }
-}
-
-// All wires' bits: wire 0, the inputs, then row by row.
-fn run_rows(table: &[u16], program: &[u8], row: &[u8], work: &mut [u8])
-    requires { ⌜ Runnable (now table) (now row) (length (now work)) ⌝ }
-    ensures { λ _. ⌜ now (work .exit) ≡ over (runWires (now (table .entry)) (now (program .entry)) (now (row .entry))) (now (work .entry)) ⌝ }
-{
-    start_wires(row, work);
+    start_wires(row, state, work);
     let rows = table[ROWS];
     let mut made = 1 + wide(table[INPUTS]);
     let mut bit: usize = 0;
@@ -65,16 +47,13 @@ fn run_rows(table: &[u16], program: &[u8], row: &[u8], work: &mut [u8])
 }
 
 // Wire 0, which is 0, and the inputs.
-fn start_wires(row: &[u8], work: &mut [u8])
-    requires { ⌜ length (now row) < length (now work) ⌝ }
-    ensures { λ _. ⌜ now (work .exit) ≡ over (0 ∷ now (row .entry)) (now (work .entry)) ⌝ }
+fn start_wires(row: &[u8], state: &[u8], work: &mut [u8])
+    requires { ⌜ length (now row ++ now state) < length (now work) ⌝ }
+    ensures { λ _. ⌜ now (work .exit) ≡ over (0 ∷ (now (row .entry) ++ now (state .entry))) (now (work .entry)) ⌝ }
 {
     work[0] = 0;
-    let mut i: usize = 0;
-    while i < row.len() {
-        work[i + 1] = row[i];
-        i += 1;
-    }
+    copy_part(row, 0, row.len(), work, 1);
+    copy_part(state, 0, state.len(), work, 1 + row.len());
 }
 
 // The row of a kind at the place `at` of the table, with the program from `bit` on: its outputs' bits behind the `made` wires.
@@ -141,16 +120,16 @@ fn chosen(table: &[u16], at: usize, b: u8) -> FabricWire
     wire_of(table[at + LEFT_PLACE + b as usize])
 }
 
-// The bits on the output wires, into the first entries of the result.
-fn write_result(table: &[u16], work: &[u8], result: &mut [u8])
-    requires { ⌜ ResultRoom (now table) (length (now work)) (length (now result)) ⌝ }
-    ensures { λ _. ⌜ now (result .exit) ≡ over (outputsOn (now (table .entry)) (now (work .entry))) (now (result .entry)) ⌝ }
+// The bits on the output wires, into the results from a place on.
+pub(crate) fn write_result(table: &[u16], work: &[u8], results: &mut [u8], at: usize)
+    requires { ⌜ ResultRoom (now table) (length (now work)) (length (now results)) at ⌝ }
+    ensures { λ _. ⌜ now (results .exit) ≡ sets (now (results .entry)) at (outputsOn (now (table .entry)) (now (work .entry))) ⌝ }
 {
     let first = row_start(table[ROWS]);
     let count = wide(table[OUTPUTS]);
     let mut j: usize = 0;
     while j < count {
-        result[j] = work[wire_of(table[first + j]).0 as usize];
+        results[at + j] = work[wire_of(table[first + j]).0 as usize];
         j += 1;
     }
 }

@@ -42,6 +42,16 @@ filled-refused f (suc n) new old e = refl
 pub filled-done : {A : Type 0} (n : ℕ) (new old : List A) → 0 ≡ n → over new old ≡ filled n new old
 filled-done n new old e = rw (← e)
 
+-- what is written matters only where no check fails
+pub filled-same : {A : Type 0} (n : ℕ) {a b : List A} (old : List A) → (n ≡ 0 → a ≡ b) → filled n a old ≡ filled n b old
+filled-same zero old e = ap (λ new. over new old) (e refl)
+filled-same (suc n) old e = refl
+
+-- where nothing is written the buffer is as it was
+pub filled-none : {A : Type 0} (n : ℕ) (old : List A) → filled n [] old ≡ old
+filled-none zero old = refl
+filled-none (suc n) old = refl
+
 -- a buffer that begins with what is written is as the call leaves it where no check fails
 pub is-filled : {A : Type 0} (n : ℕ) (new old l : List A) → l ≡ over new old → 0 ≡ n → l ≡ filled n new old
 is-filled n new old l e z = e ∙ filled-done n new old z

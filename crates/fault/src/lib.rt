@@ -36,6 +36,8 @@ pub enum Fault {
     Program,
     // Drawn gates that each draw from a gate of the same set.
     Ring,
+    // A hold count above the inputs or the outputs, or too many intervals.
+    Hold,
 }
 
 // A fault of a file, and the byte offset where the faulty field begins or would begin.
@@ -71,6 +73,7 @@ impl Fault {
             Fault::Fabric => 13,
             Fault::Program => 14,
             Fault::Ring => 15,
+            Fault::Hold => 16,
         }
     }
 }

@@ -1,4 +1,4 @@
--- Laws of evaluation: how many wires and outputs there are, that bits stay bits, and that unused places of the wires' array do not show.
+-- Laws of evaluation: how many wires and outputs there are, and that bits stay bits.
 use mathlib.Core.Path.{_≡_, sym, ap, _∙_, fun-ext}
 use mathlib.Core.List.{List, [], _∷_, _++_}
 use Prim.Native.Nat.{ℕ, zero, suc, _+_, _-_, _<_, _≤_}
@@ -16,7 +16,7 @@ use Rattle.plan.specs.Faults.{Accepted, GateWithin}
 use Rattle.plan.proofs.FaultsLaws.{accepted-counts, accepted-gate, accepted-output}
 use Rattle.plan_evaluation_checks.specs.EvaluationChecks.{contactFault, Evaluable}
 use Rattle.plan_evaluation_checks.proofs.EvaluationChecksLaws.{row-length, row-bit}
-use Rattle.plan_evaluation.specs.Evaluation.{valueOn, planWires, namedBy, planOutputs, tableBit, gateBit, wireBit, NamedWires, maxPlanWires}
+use Rattle.plan_evaluation.specs.Evaluation.{valueOn, planWires, namedBy, planOutputs, tableBit, gateBit, wireBit}
 
 module _ {A : Type 0} (none : A) (act : ℕ → ℕ → A → A → A) (p : Plan) (row : List A) where
   -- a wire for each input and for each of n gates
@@ -87,54 +87,3 @@ gate-bit p row accepted contacts i h =
     let earlier : (x : ℕ) → x < gateWire (p .inputs) i → 1 ≤ x → getD (planWires 0 gateBit p row i) (x - 1) 0 ≡ wireBit p row x =
     λ x l m. sym (wires-stay 0 gateBit p row i k (x - 1) (omega arith) (omega arith)) in
     rw (place, gate-value 0 gateBit p row k i h, earlier _ (w .first) (w .someFirst), earlier _ (w .second) (w .someSecond))
-
--- where gate i of an accepted plan and its operands stand
-pub record GateRoom (p : Plan) (i : ℕ) : Type 0 where
-  pub place : i < maxGates
-  pub within : GateWithin (gateWire (p .inputs) i) (gateAt p i)
-  pub own : p .inputs + i < maxPlanWires
-  pub upTo : gateWire (p .inputs) i ≤ maxPlanWires
-
--- the outputs of an accepted plan name wires of the array
-pub named-wires : (p : Plan) → Accepted p → NamedWires (p .«output_count») (p .outputs)
-named-wires p accepted j h =
-    let c = accepted-counts p accepted in
-    let o = accepted-output p accepted j h in
-    record { place = omega arith; someWire = omega arith; upTo = omega arith }
-
-module _ (p : Plan) (row : List ℕ) (e : Evaluable p row) where
-  -- the array has room for the row
-  pub row-room : length row ≤ maxPlanWires
-  row-room =
-      let c = accepted-counts p (e .accepted) in
-      let l = row-length (p .inputs) row (e .contacts) in
-      omega arith
-
-  -- and for each gate
-  pub gate-room : (i : ℕ) → i < p .«gate_count» → GateRoom p i
-  gate-room i h =
-      let c = accepted-counts p (e .accepted) in
-      record { place = omega arith; within = accepted-gate p (e .accepted) i h; own = omega arith; upTo = omega arith }
-
-  -- what the array holds are bits
-  pub held-bit : (wires : List ℕ) (i n : ℕ) → wires ≡ places maxPlanWires 0 (planWires 0 gateBit p row i) → getD wires n 0 ≤ 1
-  held-bit wires i n h =
-      rw (h, getD-places maxPlanWires 0 (planWires 0 gateBit p row i) n)
-      (wire-bit p row (row-bit (p .inputs) row (e .contacts)) i n)
-
-  -- gate i's bit r goes to its own wire
-  pub gate-held : (wires : List ℕ) (i r : ℕ) → i < p .«gate_count» → wires ≡ places maxPlanWires 0 (planWires 0 gateBit p row i)
-      → r ≡ tableBit (gateAt p i .table) (valueOn 0 wires (gateAt p i .first)) (valueOn 0 wires (gateAt p i .second))
-      → set wires (p .inputs + i) r ≡ places maxPlanWires 0 (planWires 0 gateBit p row (i + 1))
-  unfolding planWires
-  gate-held wires i r h held er =
-      let ws = planWires 0 gateBit p row i in
-      let g = gate-room i h in
-      let l = row-length (p .inputs) row (e .contacts) in
-      let lw : length ws ≡ p .inputs + i = length-planWires 0 gateBit p row i ∙ ap (λ n. n + i) l in
-      rw (add-one i, er, held, getD-places maxPlanWires 0 ws (gateAt p i .first .0 - 1), getD-places maxPlanWires 0 ws (gateAt p i .second .0 - 1))
-      (places-more maxPlanWires 0 ws _ (p .inputs + i) lw (g .own))
-
--- unused places of the wires' array do not show in the outputs
-pub named-places : (p : Plan) (ws : List ℕ) (n m : ℕ) → namedBy 0 p (places n 0 ws) m ≡ namedBy 0 p ws m
-named-places p ws n m = ap (listOf m) (fun-ext (λ j. getD-places n 0 ws (outputAt p j .0 - 1)))

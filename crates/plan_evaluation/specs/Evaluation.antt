@@ -1,13 +1,13 @@
 -- Document 01, plan evaluation: "wire i up to u holds entry i of the row, each gate wire its gate's bit, and result entry j is the bit of
 -- the wire that output j names". The wires are defined over values of any type, bits are one instance.
-use Prim.Native.Nat.{ℕ, zero, suc, _+_, _-_, _*_, _/_, _%_, _^_, _<_, _≤_}
+use Prim.Native.Nat.{ℕ, zero, suc, _+_, _-_, _*_, _/_, _%_, _^_}
 use mathlib.Core.List.{List, [], _∷_, _++_}
 use lib.ListN.{length, getD}
 use Rattle.lists.specs.Lists.{listOf}
 use Rattle.fault.specs.Buffers.{filled}
 use Rattle.plan.specs.declared.record.Plan.{Plan}
 use Rattle.plan.specs.declared.record.PlanWire.{PlanWire}
-use Rattle.plan.specs.Record.{gateAt, outputAt, maxInputs, maxGates, maxOutputs, wire}
+use Rattle.plan.specs.Record.{gateAt, outputAt, wire}
 use Rattle.plan_evaluation_checks.specs.EvaluationChecks.{evaluateFault}
 
 -- the value on a wire: wire w stands at place w - 1
@@ -47,17 +47,3 @@ wireBit p row w = valueOn 0 (planWires 0 gateBit p row (p .«gate_count»)) (wir
 -- the result buffer after the call
 abbrev pub evaluateResult : Plan → List ℕ → List ℕ → List ℕ
 evaluateResult p row result = filled (evaluateFault p row (length result)) (planOutputs 0 gateBit p row) result
-
--- the wires of the largest plan
-abbrev pub maxPlanWires : ℕ
-maxPlanWires = maxInputs + maxGates
-
--- where output j and its wire stand
-pub record NamedWire (outputs : List PlanWire) (j : ℕ) : Type 0 where
-  pub place : j < maxOutputs
-  pub someWire : 1 ≤ getD outputs j (wire 0) .0
-  pub upTo : getD outputs j (wire 0) .0 ≤ maxPlanWires
-
--- where the first `count` outputs and their wires stand
-abbrev pub NamedWires : ℕ → List PlanWire → Type 0
-NamedWires count outputs = (j : ℕ) → j < count → NamedWire outputs j

@@ -1,7 +1,7 @@
 //! The fabric of three counts and the run of any table: counting, rows by kind, writing, running.
 
 mod counts;
-mod damage;
+pub mod damage;
 mod runs;
 mod tables;
 

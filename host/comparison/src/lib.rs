@@ -18,6 +18,7 @@ mod files;
 mod memory;
 mod program;
 mod saving;
+mod series;
 
 mod buffer;
 mod gates;
@@ -62,10 +63,15 @@ enum Call {
     Program,
     PlanInFabric,
     PlanRun,
+    PlanSeries,
+    FabricSeries,
+    SeriesParts,
+    SingleCalls,
+    SeriesInFabric,
 }
 
 /// Each call's name, and the numbers that it must have given at least once.
-const CALLS: [(&str, &[usize]); 23] = [
+const CALLS: [(&str, &[usize]); 28] = [
     ("reading", &[0, 1, 2, 3, 4, 5, 6, 7, 8, 9, 10]),
     ("plan faults", &[0, 2, 3, 4, 7, 8, 9]),
     ("evaluation", &[0, 2, 3, 4, 7, 8, 9, 11, 12]),
@@ -89,6 +95,11 @@ const CALLS: [(&str, &[usize]); 23] = [
     ("program bits", &[0, 2, 3, 4, 7, 8, 9, 11]),
     ("plans", &[0]),
     ("plans' runs", &[0]),
+    ("plan series", &[0, 2, 3, 4, 7, 8, 9, 11, 12, 16]),
+    ("fabric series", &[0, 11, 12, 13, 14, 16]),
+    ("in two parts", &[0]),
+    ("single calls", &[0]),
+    ("in its fabric", &[0]),
 ];
 
 /// What ends a comparison: a case with both answers, or what it never met.
@@ -116,6 +127,7 @@ impl Comparison {
         blocks::compare(&mut comparison, &mut random)?;
         fabric::compare(&mut comparison, &mut random)?;
         program::compare(&mut comparison, &mut random)?;
+        series::compare(&mut comparison, &mut random)?;
         comparison.check_seen()?;
         Ok(comparison)
     }

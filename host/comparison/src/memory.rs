@@ -5,6 +5,7 @@ use mukdalis::Plan;
 
 use super::{Comparison, Outcome};
 use crate::random::Random;
+use crate::reference::plan::fault;
 use crate::samples::plans::every_plan;
 use crate::samples::{accepted_plan, fill_unused, Counts, LIMIT_COUNTS};
 
@@ -236,6 +237,18 @@ pub fn faulty_plans(plan: &Plan) -> Vec<Plan> {
         }
     }
     plans
+}
+
+/// The plan with one of its faults.
+pub fn faulty_plan(random: &mut Random, plan: &Plan) -> Plan {
+    let changes = faulty_changes(plan);
+    loop {
+        let mut faulty = *plan;
+        random.choose(&changes).apply(&mut faulty);
+        if fault(&faulty).is_some() {
+            return faulty;
+        }
+    }
 }
 
 /// Counts of the plans that get every fault and every two.

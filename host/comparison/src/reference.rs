@@ -15,4 +15,6 @@ pub mod fabric;
 pub mod program;
 pub mod run;
 
+pub mod series;
+
 pub mod programs;

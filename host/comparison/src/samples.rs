@@ -1,5 +1,5 @@
-//! Random accepted plans and their files, drawings, calls of the block library, and fabric tables,
-//! from which the comparisons make their cases.
+//! Random accepted plans and their files, drawings, calls of the block library, fabric tables, and
+//! series of intervals, from which the comparisons make their cases.
 
 pub mod blocks;
 pub mod damage;
@@ -10,6 +10,7 @@ pub mod permutation;
 pub mod plans;
 pub mod programs;
 pub mod selection;
+pub mod series;
 
 use std::ops::Range;
 

@@ -6,6 +6,7 @@ use mukdalis::{raw, Fault, Gate, Plan};
 
 use crate::samples::blocks::{Programming, Writing};
 use crate::samples::fabric::Run;
+use crate::samples::series::{SeriesCase, Step};
 
 pub fn show_number(number: u32) -> String {
     match Fault::from_number(number) {
@@ -86,17 +87,34 @@ pub fn show_counts([u, k, v]: [u32; 3]) -> String {
     format!("u {u} k {k} v {v}")
 }
 
-/// A run; of a long table or program only the start.
 pub fn show_run(case: &Run) -> String {
-    let (table, program) = (&case.table, &case.program);
+    let fabric = show_fabric(&case.table, &case.program);
+    format!("{fabric}\nrow {}", hex(&case.row))
+}
+
+/// A table and its program; of a long one only the start.
+fn show_fabric(table: &[u16], program: &[u8]) -> String {
     format!(
-        "table {} entries {:?}\nprogram {} bytes {:02x?}\nrow {}",
+        "table {} entries {:?}\nprogram {} bytes {:02x?}",
         table.len(),
         &table[..table.len().min(300)],
         program.len(),
         &program[..program.len().min(100)],
-        hex(&case.row)
     )
+}
+
+/// A series; of many fresh entries only the first.
+pub fn show_series(case: &SeriesCase) -> String {
+    let SeriesCase {
+        hold, intervals, ..
+    } = case;
+    let step = match &case.step {
+        Step::Plan(plan) => show_plan(plan),
+        Step::Fabric { table, program } => show_fabric(table, program),
+    };
+    let fresh = &case.fresh[..case.fresh.len().min(300)];
+    let (count, fresh, start) = (case.fresh.len(), hex(fresh), hex(&case.start));
+    format!("hold {hold} intervals {intervals}\n{step}\nfresh {count}: {fresh}\nstart {start}")
 }
 
 fn show_list(list: &[u16]) -> String {

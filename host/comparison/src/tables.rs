@@ -7,7 +7,7 @@ use super::show::show_number;
 use super::{Call, Comparison, CALLS, NUMBERS};
 
 /// The calls that share a table.
-const SUBJECTS: [&[Call]; 7] = [
+const SUBJECTS: [&[Call]; 8] = [
     &[Call::Reading, Call::Faults, Call::Evaluation],
     &[Call::DrawnReading, Call::DrawnOutputs],
     &[
@@ -34,6 +34,13 @@ const SUBJECTS: [&[Call]; 7] = [
         Call::Run,
     ],
     &[Call::Program, Call::PlanInFabric, Call::PlanRun],
+    &[
+        Call::PlanSeries,
+        Call::FabricSeries,
+        Call::SeriesParts,
+        Call::SingleCalls,
+        Call::SeriesInFabric,
+    ],
 ];
 
 impl fmt::Display for Comparison {
@@ -49,12 +56,14 @@ impl fmt::Display for Comparison {
         let selections = self.cases(Call::SelectionDelivery);
         let (fabrics, runs) = (self.cases(Call::Fabric), self.cases(Call::Run));
         let plans = self.cases(Call::PlanInFabric);
+        let series = self.cases(Call::PlanSeries) + self.cases(Call::FabricSeries);
+        let parts = self.cases(Call::SeriesParts);
         writeln!(
             out,
             "compared {total} cases, {files} of them files, {drawn} drawn files, {saved} saved \
              plans, {permutations} permutations, {selections} selections, {fabrics} fabrics, \
-             {runs} runs, {plans} plans in their fabrics, and tried {tried} files for shorter \
-             ones: no difference"
+             {runs} runs, {plans} plans in their fabrics, {series} series, {parts} series in two \
+             parts, and tried {tried} files for shorter ones: no difference"
         )
     }
 }

@@ -39,8 +39,8 @@ pub enum Fault {
     Tail = 10,
     /// A buffer that is written is below its stated length.
     Short = 11,
-    /// The input row is not of length u, or an entry is not 0 or 1. Block library: the list of input
-    /// wires or wanted inputs has another length.
+    /// The input row is not of length u, or an entry is not 0 or 1; in a series the fresh entries or
+    /// the start state. Block library: the list of input wires or wanted inputs has another length.
     Contact = 12,
     /// A fabric table is malformed. Block library: an input wire is unmade, or a new wire would pass
     /// 65,535.
@@ -49,11 +49,13 @@ pub enum Fault {
     Program = 14,
     /// Some drawn gates each draw from one of the same set.
     Ring = 15,
+    /// A hold count is above u or v, or a series has more than 4,096 intervals.
+    Hold = 16,
 }
 
 impl Fault {
     /// Every word, in the order of the numbers.
-    pub const TABLE: [(Fault, &'static str); 15] = [
+    pub const TABLE: [(Fault, &'static str); 16] = [
         (Fault::Stub, "stub"),
         (Fault::Inputs, "inputs"),
         (Fault::Gates, "gates"),
@@ -69,6 +71,7 @@ impl Fault {
         (Fault::Fabric, "fabric"),
         (Fault::Program, "program"),
         (Fault::Ring, "ring"),
+        (Fault::Hold, "hold"),
     ];
 
     /// The fault's number in the table.
@@ -147,6 +150,6 @@ mod tests {
             assert_eq!(fault.word(), word);
         }
         assert_eq!(Fault::from_number(0), None);
-        assert_eq!(Fault::from_number(16), None);
+        assert_eq!(Fault::from_number(17), None);
     }
 }

@@ -31,7 +31,8 @@
 //! ```
 //!
 //! [`save`] gives a plan's shortest file, and [`read_drawn`] reads a plan whose gates stand as they
-//! were drawn.
+//! were drawn. [`evaluate_series`] and [`run_series`] go over a series of intervals, in which the
+//! last outputs of one are the last inputs of the next.
 //!
 //! The library itself is the archive `libcapi.a`, which `rt staticlib capi` writes. The package
 //! takes it from `target/staticlib` of the repository, or from the folder that MUKDALIS_LIB_DIR
@@ -43,6 +44,7 @@ mod blocks;
 mod fabric;
 mod fault;
 mod plan;
+mod series;
 
 pub use blocks::{
     count_permutation, count_selection, program_permutation, program_selection, write_permutation,
@@ -53,5 +55,6 @@ pub use fabric::{
 };
 pub use fault::{Fault, Refusal};
 pub use plan::{check, evaluate, read, read_drawn, save, DrawnPlan, Gate, Plan};
+pub use series::{evaluate_series, run_series, Series, MAX_INTERVALS};
 
 pub mod raw;

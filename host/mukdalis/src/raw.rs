@@ -66,6 +66,19 @@ extern "C" {
         result: *mut u8,
         result_len: usize,
     ) -> u32;
+    pub(crate) fn mkd_plan_series(
+        plan: Plan,
+        hold: u32,
+        intervals: u32,
+        fresh: *const u8,
+        fresh_len: usize,
+        start: *const u8,
+        start_len: usize,
+        results: *mut u8,
+        results_len: usize,
+        end: *mut u8,
+        end_len: usize,
+    ) -> u32;
     fn mkd_plan_save(plan: Plan, file: *mut u8, len: usize) -> Saved;
     fn mkd_permutation_count(n: u32) -> Counts;
     pub(crate) fn mkd_permutation_write(
@@ -120,6 +133,24 @@ extern "C" {
         work_len: usize,
         result: *mut u8,
         result_len: usize,
+    ) -> u32;
+    pub(crate) fn mkd_run_series(
+        table: *const u16,
+        table_len: usize,
+        program: *const u8,
+        program_len: usize,
+        hold: u32,
+        intervals: u32,
+        fresh: *const u8,
+        fresh_len: usize,
+        start: *const u8,
+        start_len: usize,
+        work: *mut u8,
+        work_len: usize,
+        results: *mut u8,
+        results_len: usize,
+        end: *mut u8,
+        end_len: usize,
     ) -> u32;
 }
 

@@ -305,3 +305,155 @@ fn refused_fabrics_and_runs_have_their_words() {
     assert_eq!(run(&FABRIC, &[8], &[2], &mut [9; 8]), Err(Fault::Contact));
     assert_eq!(run(&FABRIC, &[8], &[1], &mut [9; 7]), Err(Fault::Short));
 }
+
+/// A plan of three inputs that gives input 3, then inputs 1 and 2. With its last two outputs held a
+/// fresh entry comes out two intervals later, and the state is the last two, the newer one first.
+fn delay() -> Plan {
+    let mut plan = Plan {
+        inputs: 3,
+        gate_count: 3,
+        output_count: 3,
+        ..Plan::ZERO
+    };
+    for (gate, input) in plan.gates.iter_mut().zip(1..=3) {
+        *gate = Gate {
+            first: input,
+            second: input,
+            table: 8,
+        };
+    }
+    plan.outputs[..3].copy_from_slice(&[6, 4, 5]);
+    plan
+}
+
+/// Its fabric's table and its program.
+fn delay_fabric() -> (Vec<u16>, Vec<u8>) {
+    let plan = delay();
+    let [u, k, v] = plan.counts();
+    let size = count_fabric(u, k, v).expect("the counts are in range");
+    let (mut table, mut program) = (vec![0; size.table_len(v)], vec![0; size.program_len()]);
+    assert_eq!(write_fabric(u, k, v, &mut table), Ok(()));
+    assert_eq!(program_plan(&plan, &mut program), Ok(()));
+    (table, program)
+}
+
+/// Three intervals, to the start state 1, 0.
+const DELAYED: Series = Series {
+    hold: 2,
+    intervals: 3,
+    fresh: &[1, 1, 0],
+    start: &[1, 0],
+};
+
+#[test]
+fn a_series_holds_its_last_outputs() {
+    let (mut results, mut end) = ([9; 10], [9; 3]);
+    let done = evaluate_series(&delay(), DELAYED, &mut results, &mut end);
+    assert_eq!(done, Ok(()));
+    assert_eq!(results, [0, 1, 1, 1, 1, 1, 1, 0, 1, 9]);
+    assert_eq!(end, [0, 1, 9]);
+
+    let (table, program) = delay_fabric();
+    let (mut work, mut found, mut found_end) = (vec![9; 148], [9; 10], [9; 3]);
+    let run = run_series(
+        &table,
+        &program,
+        DELAYED,
+        &mut work,
+        &mut found,
+        &mut found_end,
+    );
+    assert_eq!(run, Ok(()));
+    assert_eq!((found, found_end), (results, end));
+
+    // The last interval's wires: those of a run on its row.
+    let (mut last, mut result) = (vec![9; 148], [9; 3]);
+    let run = run_fabric(&table, &program, &[0, 1, 1], &mut last, &mut result);
+    assert_eq!((run, &result[..]), (Ok(()), &found[6..9]));
+    assert_eq!(work, last);
+}
+
+#[test]
+fn no_interval_hands_the_state_on() {
+    let none = Series {
+        intervals: 0,
+        fresh: &[],
+        ..DELAYED
+    };
+    let (mut results, mut end) = ([9; 1], [9; 3]);
+    let done = evaluate_series(&delay(), none, &mut results, &mut end);
+    assert_eq!((done, results, end), (Ok(()), [9], [1, 0, 9]));
+
+    let (table, program) = delay_fabric();
+    let (mut work, mut end) = (vec![9; 148], [9; 3]);
+    let done = run_series(&table, &program, none, &mut work, &mut results, &mut end);
+    assert_eq!((done, results, end), (Ok(()), [9], [1, 0, 9]));
+    assert_eq!(work, vec![9; 148]);
+    let mut short = |work: usize, end: usize| {
+        let (work, end) = (&mut vec![9; work], &mut vec![9; end]);
+        run_series(&table, &program, none, work, &mut results, end)
+    };
+    assert_eq!(short(146, 2), Err(Fault::Short));
+    assert_eq!(short(147, 1), Err(Fault::Short));
+    assert_eq!(short(147, 2), Ok(()));
+}
+
+/// Both series of the delay are refused with this word, and change nothing.
+fn assert_series_refused(series: Series, [work, results, end]: [usize; 3], fault: Fault) {
+    let (table, program) = delay_fabric();
+    let (mut work, mut results, mut end) = (vec![9; work], vec![9; results], vec![9; end]);
+    let before = (work.clone(), results.clone(), end.clone());
+    let plan = delay();
+    let refused = evaluate_series(&plan, series, &mut results, &mut end);
+    assert_eq!(refused, Err(fault), "{series:?}");
+    let refused = run_series(&table, &program, series, &mut work, &mut results, &mut end);
+    assert_eq!(refused, Err(fault), "{series:?}");
+    assert_eq!((work, results, end), before);
+}
+
+#[test]
+fn refused_series_have_their_words() {
+    let held = |hold, intervals| Series {
+        hold,
+        intervals,
+        ..DELAYED
+    };
+    for lens in [[147, 9, 2], [147, 8, 2], [147, 9, 1]] {
+        for hold in [4, 65, 65_538, u32::MAX] {
+            assert_series_refused(held(hold, 3), lens, Fault::Hold);
+        }
+        for intervals in [MAX_INTERVALS + 1, 65_539, u32::MAX] {
+            assert_series_refused(held(2, intervals), lens, Fault::Hold);
+        }
+        for fresh in [&[1, 1][..], &[1; 4], &[2, 1, 0], &[1, 1, 2]] {
+            assert_series_refused(Series { fresh, ..DELAYED }, lens, Fault::Contact);
+        }
+        for start in [&[1][..], &[1; 3], &[2, 0], &[1, 255]] {
+            assert_series_refused(Series { start, ..DELAYED }, lens, Fault::Contact);
+        }
+    }
+    assert_series_refused(DELAYED, [146, 8, 2], Fault::Short);
+    assert_series_refused(DELAYED, [146, 9, 1], Fault::Short);
+}
+
+/// A plan's faults, a table's and a program's come before those of the series.
+#[test]
+fn series_of_refused_plans_and_fabrics_have_their_words() {
+    let bad = Series {
+        hold: 4,
+        fresh: &[2],
+        ..DELAYED
+    };
+    let mut plan = delay();
+    plan.outputs[2] = 3;
+    for series in [bad, DELAYED] {
+        let refused = evaluate_series(&plan, series, &mut [], &mut []);
+        assert_eq!(refused, Err(Fault::Source));
+    }
+    let (table, program) = delay_fabric();
+    let run =
+        |table: &[u16], program: &[u8]| run_series(table, program, bad, &mut [], &mut [], &mut []);
+    assert_eq!(run(&table[1..], &program[1..]), Err(Fault::Fabric));
+    assert_eq!(run(&table, &program[1..]), Err(Fault::Program));
+    assert_eq!(run(&table, &program), Err(Fault::Hold));
+}

@@ -238,6 +238,68 @@ static int fabrics_fail(void)
     return 0;
 }
 
+/*
+ * NOT with its output held, by the plan and by the fabric (1, 1, 1): the state turns in every
+ * interval, and there are no fresh entries.
+ */
+static int series_fail(void)
+{
+    const uint16_t table[16] = {1, 1, 4, 1, 1, 0, 2, 2, 3, 1, 2, 4, 3, 5, 6, 7};
+    const uint8_t bits[9] = {0, 0, 0, 0, 0, 0, 0, 1, 9};
+    const uint8_t turned[4] = {1, 0, 1, 9};
+    const uint8_t not_program[1] = {0x08};
+    const uint8_t start[1] = {0};
+    const uint8_t fresh[1] = {2};
+    const struct mkd_plan plan = mkd_plan_read(not_plan, sizeof not_plan).plan;
+    uint8_t work[9] = {9, 9, 9, 9, 9, 9, 9, 9, 9};
+    uint8_t results[4] = {9, 9, 9, 9};
+    uint8_t end[2] = {9, 9};
+    size_t i;
+
+    if (mkd_plan_series(plan, 2, 3, fresh, 1, start, 0, results, 0, end, 0) != MKD_HOLD ||
+        mkd_plan_series(plan, 1, 4097, fresh, 0, start, 1, results, 4, end, 2) != MKD_HOLD ||
+        mkd_run_series(table, 16, not_program, 1, 2, 3, fresh, 1, start, 0, work, 0, results, 0,
+                       end, 0) != MKD_HOLD)
+        return fails("a hold count or intervals above the most");
+    if (mkd_plan_series(plan, 0, 1, fresh, 1, start, 0, results, 4, end, 2) != MKD_CONTACT ||
+        mkd_run_series(table, 16, not_program, 1, 1, 3, fresh, 0, start, 0, work, 9, results, 4,
+                       end, 2) != MKD_CONTACT)
+        return fails("fresh entries or a state that are no row");
+    if (mkd_plan_series(plan, 1, 3, fresh, 0, start, 1, results, 2, end, 2) != MKD_SHORT ||
+        mkd_run_series(table, 16, not_program, 1, 1, 3, fresh, 0, start, 1, work, 7, results, 4,
+                       end, 2) != MKD_SHORT)
+        return fails("short buffers of a series");
+    if (mkd_run_series(table, 15, not_program, 0, 2, 3, fresh, 1, start, 0, work, 0, results, 0,
+                       end, 0) != MKD_FABRIC ||
+        mkd_run_series(table, 16, not_program, 0, 2, 3, fresh, 1, start, 0, work, 0, results, 0,
+                       end, 0) != MKD_PROGRAM)
+        return fails("a series of a refused fabric");
+    if (work[0] != 9 || results[0] != 9 || end[0] != 9)
+        return fails("the buffers of a refused series");
+    if (mkd_plan_series(plan, 1, 3, fresh, 0, start, 1, results, 4, end, 2) != 0)
+        return fails("a plan's series");
+    for (i = 0; i < 4; i++) {
+        if (results[i] != turned[i])
+            return fails("the results of a plan's series");
+        results[i] = 9;
+    }
+    if (end[0] != 1 || end[1] != 9)
+        return fails("the end of a plan's series");
+    end[0] = 9;
+    if (mkd_run_series(table, 16, not_program, 1, 1, 3, fresh, 0, start, 1, work, 9, results, 4,
+                       end, 2) != 0)
+        return fails("a fabric's series");
+    for (i = 0; i < 4; i++)
+        if (results[i] != turned[i])
+            return fails("the results of a fabric's series");
+    for (i = 0; i < 9; i++)
+        if (work[i] != bits[i])
+            return fails("the work of a fabric's series");
+    if (end[0] != 1 || end[1] != 9)
+        return fails("the end of a fabric's series");
+    return 0;
+}
+
 /* Sizes and offsets of the records. */
 static void print_layout(void)
 {
@@ -266,13 +328,14 @@ static void print_faults(void)
     printf(" cut %d map %d operand %d table %d", MKD_CUT, MKD_MAP, MKD_OPERAND, MKD_TABLE);
     printf(" source %d tail %d short %d", MKD_SOURCE, MKD_TAIL, MKD_SHORT);
     printf(" contact %d fabric %d program %d", MKD_CONTACT, MKD_FABRIC, MKD_PROGRAM);
-    printf(" ring %d\n", MKD_RING);
+    printf(" ring %d hold %d\n", MKD_RING, MKD_HOLD);
 }
 
 int main(void)
 {
     if (plans_fail() || drawn_plans_fail() || savings_fail() || counts_fail() ||
-        permutations_fail() || selections_fail() || sheets_fail() || fabrics_fail())
+        permutations_fail() || selections_fail() || sheets_fail() || fabrics_fail() ||
+        series_fail())
         return 1;
     print_layout();
     print_faults();

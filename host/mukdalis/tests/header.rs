@@ -7,7 +7,7 @@ use std::path::{Path, PathBuf};
 use std::process::Command;
 
 use mukdalis::raw::{Counts, Drawn, FabricSheet, Read, Saved};
-use mukdalis::{Fault, Gate, Kinds, Plan, Size, MAX_SIZE};
+use mukdalis::{Fault, Gate, Kinds, Plan, Size, MAX_INTERVALS, MAX_SIZE};
 
 const C11: &[&str] = &["cc", "-std=c11"];
 const CPP: &[&str] = &["c++", "-x", "c++", "-std=c++11"];
@@ -101,11 +101,13 @@ fn limits_are_the_packages() {
         rows,
         wires,
         bits,
+        MAX_INTERVALS as usize,
     ]);
     assert_eq!(output_of("host/mukdalis/tests/lengths.c"), limits + "\n");
 }
 
-/// The example's plan is the bench sheet's, of 17 bytes; its output field begins at byte 15.
+/// The example's plan is the bench sheet's, of 17 bytes; its output field begins at byte 15. The
+/// latch sheds from a fault to a reset.
 #[test]
 fn the_example_prints_the_bench_sheets_lines() {
     let expected = "\
@@ -116,6 +118,13 @@ u 2 k 2 v 1 rows 23 wires 40 bits 29
 11 0 0
 saved 17 bytes
 cut: refused 5 at 15
+latch 00 0 0
+latch 10 1 1
+latch 00 1 1
+latch 01 0 0
+latch 00 0 0
+latch 10 1 1
+latch holds 1 1
 ";
     assert_eq!(output_of("include/example.c"), expected);
 }

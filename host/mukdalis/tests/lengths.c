@@ -12,6 +12,10 @@ static uint8_t program[MKD_MAX_PROGRAM_LEN + 1];
 static uint8_t row[MKD_MAX_INPUTS + 1];
 static uint8_t work[MKD_WORK_LEN(MKD_MAX_FABRIC_WIRES) + 1];
 static uint8_t result[MKD_RESULT_LEN(MKD_MAX_OUTPUTS) + 1];
+static uint8_t fresh[MKD_FRESH_LEN(MKD_MAX_INPUTS, 0, MKD_MAX_INTERVALS + 1)];
+static uint8_t start[MKD_STATE_LEN(MKD_MAX_INPUTS) + 1];
+static uint8_t results[MKD_RESULTS_LEN(MKD_MAX_OUTPUTS, MKD_MAX_INTERVALS + 1)];
+static uint8_t end[MKD_STATE_LEN(MKD_MAX_OUTPUTS) + 1];
 static uint16_t rows[MKD_ROWS_LEN(MKD_SELECTION_ROWS(MKD_MAX_SIZE, MKD_MAX_SIZE))];
 static uint16_t outputs[MKD_OUTPUTS_LEN(MKD_MAX_SIZE)];
 static uint16_t zeros[2 * MKD_MAX_SIZE];
@@ -304,9 +308,82 @@ static int run_fails(uint8_t u, uint16_t k, uint8_t v)
     return 0;
 }
 
-/* A plan's evaluation, the fabric of its counts, its program, and their run. */
+/*
+ * The answer of that plan's series, and of its fabric's, whose table and program are written, with
+ * buffers of these lengths, which are in the order of their parameters: fresh, start, work, which
+ * the plan's has not, results, end.
+ */
+static uint32_t plan_series(struct mkd_plan plan, uint32_t h, uint32_t n, const size_t len[5])
+{
+    return mkd_plan_series(plan, h, n, fresh, len[0], start, len[1], results, len[3], end, len[4]);
+}
+
+static uint32_t run_series(struct mkd_plan plan, uint32_t h, uint32_t n, const size_t len[5])
+{
+    const uint32_t u = plan.inputs, k = plan.gate_count, v = plan.output_count;
+
+    return mkd_run_series(table, MKD_TABLE_LEN(MKD_FABRIC_ROWS(u, k, v), v), program,
+                          MKD_PROGRAM_LEN(MKD_FABRIC_BITS(u, k, v)), h, n, fresh, len[0], start,
+                          len[1], work, len[2], results, len[3], end, len[4]);
+}
+
+/* Both series with their stated lengths, then each of them one less and one more. */
+static int series_fails(struct mkd_plan plan, uint32_t h, uint32_t n)
+{
+    static const uint32_t less[5] = {MKD_CONTACT, MKD_CONTACT, MKD_SHORT, MKD_SHORT, MKD_SHORT};
+    static const uint32_t more[5] = {MKD_CONTACT, MKD_CONTACT, 0, 0, 0};
+    size_t len[5];
+    size_t i;
+
+    len[0] = MKD_FRESH_LEN(plan.inputs, h, n);
+    len[1] = len[4] = MKD_STATE_LEN(h);
+    len[2] = MKD_WORK_LEN(MKD_FABRIC_WIRES(plan.inputs, plan.gate_count, plan.output_count));
+    len[3] = MKD_RESULTS_LEN(plan.output_count, n);
+    if (plan_series(plan, h, n, len) || run_series(plan, h, n, len))
+        return fails("the stated lengths of a series");
+    for (i = 0; i < 5; i++) {
+        len[i]++;
+        if (plan_series(plan, h, n, len) != more[i] || run_series(plan, h, n, len) != more[i])
+            return fails("a series with one entry more");
+        len[i]--;
+        if (len[i] == 0)
+            continue;
+        len[i]--;
+        if (plan_series(plan, h, n, len) != (i == 2 ? 0 : less[i]) ||
+            run_series(plan, h, n, len) != less[i])
+            return fails("a series with one entry less");
+        len[i]++;
+    }
+    return 0;
+}
+
+/* The most intervals that a plan's series takes, the most outputs that one holds, and one more. */
+static int most_series_fails(struct mkd_plan plan)
+{
+    const uint32_t n = MKD_MAX_INTERVALS;
+    const uint32_t u = plan.inputs, v = plan.output_count;
+    const uint32_t h = u < v ? u : v;
+    size_t len[5];
+
+    len[0] = MKD_FRESH_LEN(u, h, n);
+    len[1] = len[4] = MKD_STATE_LEN(h);
+    len[2] = 0;
+    len[3] = MKD_RESULTS_LEN(v, n);
+    if (plan_series(plan, h, n, len) != 0)
+        return fails("the most intervals");
+    if (plan_series(plan, h + 1, n, len) != MKD_HOLD)
+        return fails("a hold count above the most");
+    len[0] = MKD_FRESH_LEN(u, h, n + 1);
+    len[3] = MKD_RESULTS_LEN(v, n + 1);
+    if (plan_series(plan, h, n + 1, len) != MKD_HOLD)
+        return fails("more than the most intervals");
+    return 0;
+}
+
+/* A plan's evaluation, the fabric of its counts, its program, their run, and series of both. */
 static int fabric_fails(uint8_t u, uint16_t k, uint8_t v)
 {
+    const uint32_t held = u < v ? u : v;
     const struct mkd_plan plan = plan_of(u, k, v);
     const size_t result_len = MKD_RESULT_LEN(v);
     const size_t table_len = MKD_TABLE_LEN(MKD_FABRIC_ROWS(u, k, v), v);
@@ -322,7 +399,8 @@ static int fabric_fails(uint8_t u, uint16_t k, uint8_t v)
         mkd_fabric(u, k, v, table, table_len - 1) != MKD_SHORT ||
         mkd_program(plan, program, program_len - 1) != MKD_SHORT)
         return fails("less than a plan's stated lengths");
-    return run_fails(u, k, v);
+    return run_fails(u, k, v) || series_fails(plan, 0, 0) || series_fails(plan, 0, 1) ||
+           series_fails(plan, held, 0) || series_fails(plan, held, 3) || most_series_fails(plan);
 }
 
 static int plans_fail(void)
@@ -348,7 +426,7 @@ int main(void)
         constants_fail() || plans_fail())
         return 1;
     printf("%d %d %d %d", MKD_MAX_INPUTS, MKD_MAX_GATES, MKD_MAX_OUTPUTS, MKD_MAX_FILE_LEN);
-    printf(" %d %d %d %d\n", MKD_MAX_SIZE, MKD_MAX_FABRIC_ROWS, MKD_MAX_FABRIC_WIRES,
-           MKD_MAX_FABRIC_BITS);
+    printf(" %d %d %d %d %d\n", MKD_MAX_SIZE, MKD_MAX_FABRIC_ROWS, MKD_MAX_FABRIC_WIRES,
+           MKD_MAX_FABRIC_BITS, MKD_MAX_INTERVALS);
     return 0;
 }

@@ -179,3 +179,141 @@ fn lengths_of_fabrics() {
         assert_eq!(run(work_len, result_len - 1), Err(Fault::Short));
     }
 }
+
+type Answer = Result<(), Fault>;
+
+/// A plan's series and its fabric's, on zeros.
+struct PlanSeries {
+    plan: Plan,
+    table: Vec<u16>,
+    program: Vec<u8>,
+    hold: usize,
+    intervals: usize,
+}
+
+impl PlanSeries {
+    fn of(plan: Plan, hold: usize, intervals: usize) -> PlanSeries {
+        let [u, k, v] = plan.counts();
+        let size = count_fabric(u, k, v).expect("the counts are in range");
+        let (mut table, mut program) = (vec![0; size.table_len(v)], vec![0; size.program_len()]);
+        assert_eq!(write_fabric(u, k, v, &mut table), Ok(()));
+        assert_eq!(program_plan(&plan, &mut program), Ok(()));
+        PlanSeries {
+            plan,
+            table,
+            program,
+            hold,
+            intervals,
+        }
+    }
+
+    /// The lengths of fresh, start, results and end, and of the work, which the plan's has not.
+    fn lengths(&self) -> [usize; 5] {
+        let [u, k, v] = self.plan.counts();
+        let size = count_fabric(u, k, v).expect("the counts are in range");
+        let (fresh, results) = (u as usize - self.hold, v as usize);
+        [
+            self.intervals * fresh,
+            self.hold,
+            self.intervals * results,
+            self.hold,
+            size.work_len(),
+        ]
+    }
+
+    fn by_plan(&self, lens: [usize; 5]) -> Answer {
+        self.answer(lens, |series, results, end, _| {
+            evaluate_series(&self.plan, series, results, end)
+        })
+    }
+
+    fn by_fabric(&self, lens: [usize; 5]) -> Answer {
+        self.answer(lens, |series, results, end, work| {
+            run_series(&self.table, &self.program, series, work, results, end)
+        })
+    }
+
+    fn answer(
+        &self,
+        lens: [usize; 5],
+        call: impl Fn(Series, &mut [u8], &mut [u8], &mut [u8]) -> Answer,
+    ) -> Answer {
+        let [fresh, start, mut results, mut end, mut work] = lens.map(|len| vec![0; len]);
+        let series = Series {
+            hold: self.hold as u32,
+            intervals: self.intervals as u32,
+            fresh: &fresh,
+            start: &start,
+        };
+        call(series, &mut results, &mut end, &mut work)
+    }
+}
+
+/// The answers of the two series where one length is one less, or one more.
+const LESS: [[Answer; 2]; 5] = [
+    [Err(Fault::Contact); 2],
+    [Err(Fault::Contact); 2],
+    [Err(Fault::Short); 2],
+    [Err(Fault::Short); 2],
+    [Ok(()), Err(Fault::Short)],
+];
+const MORE: [[Answer; 2]; 5] = [
+    [Err(Fault::Contact); 2],
+    [Err(Fault::Contact); 2],
+    [Ok(()); 2],
+    [Ok(()); 2],
+    [Ok(()); 2],
+];
+
+#[test]
+fn lengths_of_series() {
+    for (u, k, v) in COUNTS {
+        for hold in [0, u.min(v).into()] {
+            for intervals in [0, 1, 3] {
+                let series = PlanSeries::of(plan_of(u, k, v), hold, intervals);
+                let stated = series.lengths();
+                let answers = |lens| [series.by_plan(lens), series.by_fabric(lens)];
+                assert_eq!(answers(stated), [Ok(()); 2]);
+                for place in 0..stated.len() {
+                    let (mut less, mut more) = (stated, stated);
+                    more[place] += 1;
+                    assert_eq!(answers(more), MORE[place], "{more:?}");
+                    if stated[place] > 0 {
+                        less[place] -= 1;
+                        assert_eq!(answers(less), LESS[place], "{less:?}");
+                    }
+                }
+            }
+        }
+    }
+}
+
+/// The largest plan, and the fabric of the least.
+#[test]
+fn the_most_intervals_of_a_series() {
+    let most = MAX_INTERVALS as usize;
+    for (intervals, due) in [(most, Ok(())), (most + 1, Err(Fault::Hold))] {
+        for hold in [0, 64] {
+            let series = PlanSeries::of(plan_of(64, 256, 64), hold, intervals);
+            assert_eq!(series.by_plan(series.lengths()), due);
+        }
+        for hold in [0, 1] {
+            let series = PlanSeries::of(plan_of(1, 1, 1), hold, intervals);
+            assert_eq!(series.by_fabric(series.lengths()), due);
+        }
+    }
+}
+
+/// One above u, or above v.
+#[test]
+fn the_most_held_outputs() {
+    for (u, v) in [(3, 2), (2, 3), (64, 64), (1, 64)] {
+        let least = u.min(v);
+        for (hold, due) in [(least, Ok(())), (least + 1, Err(Fault::Hold))] {
+            let mut series = PlanSeries::of(plan_of(u, 3, v), least.into(), 1);
+            let lens = series.lengths();
+            series.hold = hold.into();
+            assert_eq!([series.by_plan(lens), series.by_fabric(lens)], [due; 2]);
+        }
+    }
+}

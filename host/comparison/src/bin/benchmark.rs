@@ -1,6 +1,6 @@
 //! Times the library's calls beside the reference, which is plain Rust, and prints one table.
 //!
-//! Usage: `cargo run --release --bin benchmark`; it takes about 25 seconds. No time is judged. It
+//! Usage: `cargo run --release --bin benchmark`; it takes about a minute. No time is judged. It
 //! stops, with exit status 101, if the two sides differ on a case that is timed.
 //!
 //! A case is a call with random accepted plans of the same counts (u,k,v), one plan after another,
@@ -12,8 +12,11 @@
 //! on both sides. Saving is lent room for the longest file, and both sides make the file in an array of
 //! their own and copy it. The reference has its work lists on the heap, a few for each block.
 //!
+//! A series has 4,096 intervals, with half of the outputs held, rounded up: by one plan of each shape,
+//! and by the fabric of one plan, since that takes long. Both sides check plan, table and program once.
+//!
 //! Both sides run in short batches by turns, so that a busy machine disturbs both. The columns:
-//! - Rattle ns, Rust ns: nanoseconds a call, the least of all batches;
+//! - Rattle ns, Rust ns: nanoseconds a call, of a series an interval, the least of all batches;
 //! - ratio: Rattle's time over Rust's, the median of all batches beside each other;
 //! - arrays: the most bytes of arrays that the export's source holds at one time, whatever it is
 //!   called with, as `check_repository` counts them; each copy of a record that goes by value is
@@ -23,7 +26,8 @@
 //! - growth: the time of P(N) over that of P(N / 2), and what N log N gives for it.
 //!
 //! A line below has the time of drawn reading over that of the plain reading of the same files, for
-//! either side, measured by turns as the ratio is.
+//! either side, and another one that of the library's series over as many of its single calls,
+//! between which the caller carries the state; both measured by turns as the ratio is.
 
 use std::hint::black_box;
 use std::path::Path;
@@ -33,6 +37,7 @@ use std::{ptr, thread};
 use checks::arrays::{counted, Arrays};
 use comparison::random::Random;
 use comparison::reference;
+use comparison::reference::series::Intervals;
 use comparison::samples::blocks::Block;
 use comparison::samples::drawings::backwards;
 use comparison::samples::fabric::wires;
@@ -40,8 +45,8 @@ use comparison::samples::permutation::random_permutation;
 use comparison::samples::plans::{shaped_plan, PlanShape};
 use comparison::samples::{Counts, PlanFile, Standing};
 use mukdalis::{
-    count_fabric, evaluate, program_permutation, program_plan, raw, run_fabric, write_fabric,
-    DrawnPlan, Fault, Plan,
+    count_fabric, evaluate, evaluate_series, program_permutation, program_plan, raw, run_fabric,
+    run_series, write_fabric, DrawnPlan, Fault, Plan, Series, MAX_INTERVALS,
 };
 
 const SEED: u64 = 0x6265_6e63_686d_6172;
@@ -61,9 +66,13 @@ const SIZES: [u32; 4] = [64, 128, 256, 512];
 /// Plans or permutations of a case, four plans of each shape.
 const SAMPLES: usize = 20;
 
-/// The least time of a batch, and the time that all batches of a case have.
+/// Intervals of a series.
+const INTERVALS: u32 = if cfg!(test) { 8 } else { MAX_INTERVALS };
+
+/// The least time of a batch, the time that all batches of a case have, and the least number of them.
 const BATCH_TIME: Duration = Duration::from_micros(100);
 const CASE_TIME: Duration = Duration::from_millis(if cfg!(test) { 1 } else { 600 });
+const LEAST_BATCHES: usize = if cfg!(test) { 1 } else { 5 };
 
 fn main() {
     let arrays = arrays();
@@ -91,6 +100,7 @@ fn main() {
         }
     }
     drawings.print_beside_plain();
+    plans[COUNTS.len() - 1].print_beside_single_calls();
 }
 
 /// The timed calls.
@@ -99,22 +109,26 @@ enum Call {
     Read,
     Save,
     Evaluate,
+    EvaluateSeries,
     WriteFabric,
     ProgramPlan,
     Run,
+    RunSeries,
     ReadInOrder,
     ReadBackwards,
     ProgramP,
 }
 
 impl Call {
-    const OF_PLANS: [Call; 6] = [
+    const OF_PLANS: [Call; 8] = [
         Call::Read,
         Call::Save,
         Call::Evaluate,
+        Call::EvaluateSeries,
         Call::WriteFabric,
         Call::ProgramPlan,
         Call::Run,
+        Call::RunSeries,
     ];
 
     const OF_DRAWINGS: [Call; 2] = [Call::ReadInOrder, Call::ReadBackwards];
@@ -124,9 +138,11 @@ impl Call {
             Call::Read => "reading",
             Call::Save => "saving",
             Call::Evaluate => "evaluation",
+            Call::EvaluateSeries => "plan's series",
             Call::WriteFabric => "fabric table",
             Call::ProgramPlan => "program bits",
             Call::Run => "run",
+            Call::RunSeries => "fabric's series",
             Call::ReadInOrder => "drawn in order",
             Call::ReadBackwards => "drawn backwards",
             Call::ProgramP => "P's program",
@@ -139,20 +155,25 @@ impl Call {
             Call::Read => "mkd_plan_read",
             Call::Save => "mkd_plan_save",
             Call::Evaluate => "mkd_plan_evaluate",
+            Call::EvaluateSeries => "mkd_plan_series",
             Call::WriteFabric => "mkd_fabric",
             Call::ProgramPlan => "mkd_program",
             Call::Run => "mkd_run",
+            Call::RunSeries => "mkd_run_series",
             Call::ReadInOrder | Call::ReadBackwards => "mkd_plan_read_drawn",
             Call::ProgramP => "mkd_permutation_program",
         }
     }
 }
 
-/// Accepted plans of the same counts, and their fabric's table.
+/// Accepted plans of the same counts, their fabric's table, and a series.
 struct Plans {
     counts: [u32; 3],
     samples: Vec<Sample>,
     table: Vec<u16>,
+    hold: u32,
+    fresh: Vec<u8>,
+    start: Vec<u8>,
 }
 
 /// A plan with its file, an input row and its program.
@@ -182,11 +203,43 @@ impl Plans {
                 program,
             }
         });
+        let hold = v.div_ceil(2);
+        let mut rows = Random::new(SEED);
         Plans {
             counts: [u, k, v],
             samples: samples.collect(),
             table,
+            hold,
+            fresh: rows.row((INTERVALS * (u - hold)) as usize),
+            start: rows.row(hold as usize),
         }
+    }
+
+    fn series(&self) -> Series<'_> {
+        Series {
+            hold: self.hold,
+            intervals: INTERVALS,
+            fresh: &self.fresh,
+            start: &self.start,
+        }
+    }
+
+    /// A plan of each shape, and the first of them.
+    fn of_each_shape(&self) -> &[Sample] {
+        &self.samples[..PlanShape::ALL.len()]
+    }
+
+    fn first(&self) -> &[Sample] {
+        &self.samples[..1]
+    }
+
+    /// The buffers of a series: results and end.
+    fn series_buffers(&self) -> (Vec<u8>, Vec<u8>) {
+        let [_, _, v] = self.counts;
+        (
+            vec![9; (INTERVALS * v) as usize],
+            vec![9; self.hold as usize],
+        )
     }
 
     fn size(&self) -> String {
@@ -196,7 +249,7 @@ impl Plans {
 
     fn measure(&self, call: Call) -> Measured {
         let ([u, k, v], samples, table) = (self.counts, &self.samples, &self.table);
-        let result = vec![9; v as usize];
+        let (result, series) = (vec![9; v as usize], self.series());
         match call {
             Call::Read => measure(
                 samples,
@@ -219,6 +272,16 @@ impl Plans {
                 |sample, result| reference::plan::evaluate(&sample.plan, &sample.row, result),
                 are_done,
             ),
+            Call::EvaluateSeries => measure(
+                self.of_each_shape(),
+                self.series_buffers(),
+                |Sample { plan, .. }, (results, end)| evaluate_series(plan, series, results, end),
+                |Sample { plan, .. }, (results, end)| {
+                    reference::series::evaluate(plan, series, results, end)
+                },
+                are_done,
+            )
+            .an_interval(),
             Call::WriteFabric => measure(
                 &[[u, k, v]],
                 vec![9; table.len()],
@@ -244,10 +307,66 @@ impl Plans {
                 },
                 are_done,
             ),
+            Call::RunSeries => measure(
+                self.first(),
+                (vec![9; wires(table)], self.series_buffers()),
+                |Sample { program, .. }, (work, (results, end))| {
+                    run_series(table, program, series, work, results, end)
+                },
+                |Sample { program, .. }, (work, (results, end))| {
+                    reference::series::run(table, program, series, work, results, end)
+                },
+                are_done,
+            )
+            .an_interval(),
             Call::ReadInOrder | Call::ReadBackwards | Call::ProgramP => {
                 unreachable!("no call of plans")
             }
         }
+    }
+
+    /// The library's series over as many of its single calls, by the plan and by the fabric.
+    fn print_beside_single_calls(&self) {
+        let ([u, _, v], table, series) = (self.counts, &self.table, self.series());
+        let intervals = Intervals {
+            series,
+            inputs: u as usize,
+            outputs: v as usize,
+        };
+        let by_plan = measure(
+            self.of_each_shape(),
+            self.series_buffers(),
+            |Sample { plan, .. }, (results, end)| evaluate_series(plan, series, results, end),
+            |Sample { plan, .. }, (results, end)| {
+                let mut answer = Ok(());
+                intervals.run(results, end, |row, result| {
+                    answer = answer.and(evaluate(plan, row, result));
+                });
+                answer
+            },
+            are_done,
+        );
+        let by_fabric = measure(
+            self.first(),
+            (vec![9; wires(table)], self.series_buffers()),
+            |Sample { program, .. }, (work, (results, end))| {
+                run_series(table, program, series, work, results, end)
+            },
+            |Sample { program, .. }, (work, (results, end))| {
+                let mut answer = Ok(());
+                intervals.run(results, end, |row, result| {
+                    answer = answer.and(run_fabric(table, program, row, work, result));
+                });
+                answer
+            },
+            are_done,
+        );
+        println!(
+            "a series over {INTERVALS} single calls of the library, {}: plan's {:.2}, fabric's {:.2}",
+            self.size(),
+            by_plan.times.ratio,
+            by_fabric.times.ratio
+        );
     }
 }
 
@@ -345,6 +464,16 @@ struct Times {
     ratio: f64,
 }
 
+impl Measured {
+    /// The figures of a series, with the times of an interval.
+    fn an_interval(mut self) -> Measured {
+        for nanoseconds in &mut self.times.nanoseconds {
+            *nanoseconds /= f64::from(INTERVALS);
+        }
+        self
+    }
+}
+
 /// Whether neither side refused.
 fn are_done(rattle: Result<(), Fault>, rust: Result<(), Fault>) -> bool {
     rattle.is_ok() && rust.is_ok()
@@ -389,7 +518,7 @@ fn time<S, B, A, C>(
     let mut least = [f64::INFINITY; 2];
     let mut ratios = Vec::new();
     let start = Instant::now();
-    while start.elapsed() < CASE_TIME {
+    while start.elapsed() < CASE_TIME || ratios.len() < LEAST_BATCHES {
         let times = [
             batch(samples, rounds, buffers, rattle),
             batch(samples, rounds, buffers, rust),
@@ -562,7 +691,10 @@ mod tests {
         measured.push((Call::ProgramP, measure_permutation(&mut random, 512)));
         for (call, measured) in measured {
             let (bytes, [rattle, _]) = (array_bytes(&arrays, call), measured.stack);
-            let has_record = !matches!(call, Call::WriteFabric | Call::Run | Call::ProgramP);
+            let has_record = !matches!(
+                call,
+                Call::WriteFabric | Call::Run | Call::RunSeries | Call::ProgramP
+            );
             assert!(has_record || rattle >= bytes, "{}: {rattle}", call.name());
         }
     }

@@ -7,7 +7,7 @@ use super::super::buffer::shorter;
 use super::super::{first_failing, Comparison, Outcome};
 use super::compare_run;
 use crate::random::Random;
-use crate::samples::fabric::{Run, Shape, Table};
+use crate::samples::fabric::{small_table, Run, Table};
 
 pub fn compare(comparison: &mut Comparison, random: &mut Random) -> Outcome {
     table_entries(comparison, random)?;
@@ -19,13 +19,6 @@ pub fn compare(comparison: &mut Comparison, random: &mut Random) -> Outcome {
     programs(comparison, random)?;
     rows(comparison, random)?;
     failing_checks(comparison, random)
-}
-
-/// A random table of up to so many rows.
-fn small_table(random: &mut Random, most: u16) -> Table {
-    let shape = random.choose(&Shape::ALL);
-    let rows = random.between(0, most);
-    Table::of_rows(random, shape, rows)
 }
 
 fn refused(comparison: &mut Comparison, random: &mut Random, case: &Run, fault: Fault) -> Outcome {
@@ -285,7 +278,7 @@ fn failing_checks(comparison: &mut Comparison, random: &mut Random) -> Outcome {
 }
 
 /// Makes a table malformed: in its length, a count, or an entry of a random row or output.
-fn spoil_table(random: &mut Random, table: &Table, entries: &mut Vec<u16>) {
+pub fn spoil_table(random: &mut Random, table: &Table, entries: &mut Vec<u16>) {
     let last_row = table.rows.len().saturating_sub(1) as u16;
     let row = usize::from(random.between(0, last_row));
     let kind_at = 3 + 3 * row;
@@ -310,7 +303,7 @@ fn spoil_table(random: &mut Random, table: &Table, entries: &mut Vec<u16>) {
 }
 
 /// Gives a program another length, or sets a spare bit if it has any.
-fn spoil_program(random: &mut Random, bits: usize, program: &mut Vec<u8>) {
+pub fn spoil_program(random: &mut Random, bits: usize, program: &mut Vec<u8>) {
     let len = program.len();
     if bits < 8 * len && random.one_in(2) {
         let spare = random.between(bits as u16, 8 * len as u16 - 1);

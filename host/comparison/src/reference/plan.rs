@@ -70,11 +70,16 @@ pub fn evaluate(plan: &Plan, row: &[u8], result: &mut [u8]) -> Result<(), Fault>
     if result.len() < usize::from(plan.output_count) {
         return Err(Fault::Short);
     }
+    write_outputs(plan, row, result);
+    Ok(())
+}
+
+/// The outputs of an accepted plan on a good row.
+pub(super) fn write_outputs(plan: &Plan, row: &[u8], result: &mut [u8]) {
     let bits = wire_bits(plan, row);
     for (entry, &wire) in result.iter_mut().zip(used_outputs(plan)) {
         *entry = bits[usize::from(wire)];
     }
-    Ok(())
 }
 
 /// A plan file and the place of its next field.

@@ -27,28 +27,22 @@ pub fn run(
     if work.len() < fabric.wires || result.len() < fabric.outputs.len() {
         return Err(Fault::Short);
     }
-    let first_made = 1 + fabric.inputs;
-    work[0] = 0;
-    work[1..first_made].copy_from_slice(row);
-    run_rows(fabric.rows, program, work, first_made, gate_bit);
-    for (entry, &wire) in result.iter_mut().zip(fabric.outputs) {
-        *entry = work[usize::from(wire)];
-    }
+    fabric.run(program, row, work, result);
     Ok(())
 }
 
 /// The parts of a table, and what its rows have in all.
-struct Fabric<'a> {
-    inputs: usize,
+pub(super) struct Fabric<'a> {
+    pub(super) inputs: usize,
     rows: &'a [u16],
-    outputs: &'a [u16],
-    wires: usize,
+    pub(super) outputs: &'a [u16],
+    pub(super) wires: usize,
     bits: usize,
 }
 
 impl<'a> Fabric<'a> {
     /// None of a malformed table.
-    fn of(table: &'a [u16]) -> Option<Fabric<'a>> {
+    pub(super) fn of(table: &'a [u16]) -> Option<Fabric<'a>> {
         let (&counts, rest) = table.split_first_chunk()?;
         let [inputs, output_count, row_count] = counts.map(usize::from);
         if !is_count(inputs, Plan::MAX_INPUTS) || !is_count(output_count, Plan::MAX_OUTPUTS) {
@@ -80,9 +74,20 @@ impl<'a> Fabric<'a> {
     }
 
     /// Whether the program has its exact length and no spare bit set.
-    fn has_program(&self, program: &[u8]) -> bool {
+    pub(super) fn has_program(&self, program: &[u8]) -> bool {
         program.len() == self.bits.div_ceil(BYTE_BITS)
             && (self.bits..BYTE_BITS * program.len()).all(|p| !bit(program, p))
+    }
+
+    /// The run with a good program and row, in buffers that have room.
+    pub(super) fn run(&self, program: &[u8], row: &[u8], work: &mut [u8], result: &mut [u8]) {
+        let first_made = 1 + self.inputs;
+        work[0] = 0;
+        work[1..first_made].copy_from_slice(row);
+        run_rows(self.rows, program, work, first_made, gate_bit);
+        for (entry, &wire) in result.iter_mut().zip(self.outputs) {
+            *entry = work[usize::from(wire)];
+        }
     }
 }
 

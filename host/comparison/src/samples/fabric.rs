@@ -213,6 +213,13 @@ impl Table {
     }
 }
 
+/// A random well-formed table of up to so many rows.
+pub fn small_table(random: &mut Random, most: u16) -> Table {
+    let shape = random.choose(&Shape::ALL);
+    let rows = random.between(0, most);
+    Table::of_rows(random, shape, rows)
+}
+
 /// A run with lent buffers of these lengths.
 #[derive(Clone)]
 pub struct Run {

@@ -70,6 +70,12 @@ pub fn shaped_plan(random: &mut Random, counts: Counts, shape: PlanShape) -> Pla
     plan
 }
 
+/// The same of any shape.
+pub fn any_plan(random: &mut Random, counts: Counts) -> Plan {
+    let shape = random.choose(&PlanShape::ALL);
+    shaped_plan(random, counts, shape)
+}
+
 /// Every accepted plan of these counts and one output.
 pub fn every_plan(u: u16, k: u16) -> Vec<Plan> {
     let empty = Plan {

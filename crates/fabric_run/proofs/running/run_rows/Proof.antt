@@ -2,7 +2,7 @@
 use native.Mathlib.Omega.{arith}
 use native.Mathlib.Nat.{le-antisymm, le-of-lt, le-trans, lt-of-lt-of-le}
 use mathlib.Core.Path.{_≡_, sym, ap, subst, _∙_}
-use mathlib.Core.List.{List}
+use mathlib.Core.List.{List, _++_}
 use Prim.Native.Nat.{ℕ, zero-le, _+_, _-_, _*_, _≤_, _<_}
 use mir.Syntax.{w16, w64}
 use mir.Val.{Fits}
@@ -22,11 +22,11 @@ use Rattle.fabric_run.proofs.running.run_rows.Statement.{statement}
 use Rattle.fabric_run.proofs.running.run_rows.Tie as tie
 
 abbrev Inv-loop : tie.InvT-loop
-Inv-loop table program row work₀ rows made₀ bit₀ i₀ work made bit i =
-    (i ≤ rows) × (rows < maxWires) × RunStands table program row work₀ i bit made work
+Inv-loop table program row state work₀ rows made₀ bit₀ i₀ work made bit i =
+    (i ≤ rows) × (rows < maxWires) × RunStands table program (row ++ state) work₀ i bit made work
 
 abbrev μ-loop : tie.MeasureT-loop
-μ-loop table program row work₀ rows made₀ bit₀ i₀ work made bit i = rows - i
+μ-loop table program row state work₀ rows made₀ bit₀ i₀ work made bit i = rows - i
 
 -- the numbers of the run are small, and its places lie in the table
 first-fits : {n : ℕ} → n < maxWires → Fits w64 (1 + n)
@@ -69,10 +69,10 @@ abbrev started : tie.At-loop Inv-loop μ-loop → tie.After-start-wires Inv-loop
 started c = c .before .before .before .before .before .before
 
 abbrev start : tie.After-start-wires Inv-loop μ-loop → tie.Start Inv-loop μ-loop
-start c = c .before .before .before .before .before .before
+start c = c .before .before .before .before .before .before .before
 
 for-start : tie.Need-start-wires-requires Inv-loop μ-loop
-for-start c κs = start-room (c .before .before .before .before .before .pre)
+for-start c κs = start-room (c .before .before .before .before .before .before .pre)
 
 holds : tie.Need-loop-holds Inv-loop μ-loop
 holds c =
@@ -80,12 +80,12 @@ holds c =
     let first = read .before .before .before in
     let s = start first in
     let a = s .args in
-    let ready = subst (Runnable (a .table .now) (a .row .now)) (sym (first .start-wires .kept .1 .0)) (s .pre) in
+    let ready = subst (Runnable (a .table .now) (a .row .now ++ a .state .now)) (sym (first .start-wires .kept .1 .1 .0)) (s .pre) in
     let made = 1 + c .wide .result in
     let counted = counted-first (a .table .now) made (ap (λ n. 1 + n) (c .wide .ensures .0)) in (
       zero-le,
-      omega (arith, read .shared-slice-known4 .given 2),
-      stands-first (a .table .now) (a .program .now) (a .row .now) (a .work .now) _ made ready counted (first .start-wires .ensures),
+      omega (arith, read .shared-slice-known5 .given 2),
+      stands-first (a .table .now) (a .program .now) (a .row .now ++ a .state .now) (a .work .now) _ made ready counted (first .start-wires .ensures),
     )
 
 -- the kind that is read
@@ -124,7 +124,7 @@ again c =
     )
 
 same-length : tie.Need-same-length Inv-loop μ-loop
-same-length c = c .before .loop .inv .2 .size ∙ started (c .before) .start-wires .kept .1 .0
+same-length c = c .before .loop .inv .2 .size ∙ started (c .before) .start-wires .kept .1 .1 .0
 
 all : tie.Need-returns Inv-loop μ-loop
 all c =

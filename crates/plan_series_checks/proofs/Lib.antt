@@ -1,0 +1,2 @@
+-- what holds where the checks of a series pass
+pub mod SeriesChecksLaws
