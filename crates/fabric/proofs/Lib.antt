@@ -4,3 +4,5 @@ pub mod FabricsLaws
 pub mod FabricTableLaws
 -- the sheet's figures stand in the table that is written
 pub mod SheetPromiseLaws
+-- a series of runs that equal the plan equals the plan's series
+pub mod SeriesPromiseLaws

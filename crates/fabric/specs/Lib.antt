@@ -3,5 +3,7 @@
 pub mod Fabrics
 -- what the fabric promises of a plan
 pub mod Promise
+-- what a run promises of its series
+pub mod SeriesPromise
 -- what its sheet promises of its table
 pub mod SheetPromise

@@ -3,7 +3,7 @@ use Prim.Native.Nat.{ℕ, _-_}
 use mathlib.Core.List.{List}
 use lib.ListN.{length}
 use Rattle.fault.specs.Buffers.{filled}
-use Rattle.series.specs.Series.{stateAfter, outputRows, ofLast}
+use Rattle.series.specs.Series.{stateAfter, seriesRows, ofLast}
 use Rattle.fabric_sizes.specs.Layout.{inputsIn}
 use Rattle.fabric_run_checks.specs.RunFault.{runSeriesFault}
 use Rattle.fabric_run.specs.Running.{runWires, runOutputs}
@@ -11,7 +11,7 @@ use Rattle.fabric_run.specs.Running.{runWires, runOutputs}
 module _ (table program : List ℕ) (h n : ℕ) (fresh start : List ℕ) where
   -- the output rows of n intervals with hold count h, and the end state
   abbrev pub runSeriesRows : List ℕ
-  runSeriesRows = outputRows (runOutputs table program) (inputsIn table - h) h fresh start n
+  runSeriesRows = seriesRows (runOutputs table program) (inputsIn table - h) h fresh start n
 
   abbrev pub runSeriesState : List ℕ
   runSeriesState = stateAfter (runOutputs table program) (inputsIn table - h) h fresh start n

@@ -17,7 +17,17 @@ pub fn run(table: &[u16], program: &[u8], row: &[u8], work: &mut [u8], result: &
     ensures written { λ _. ⌜ now (result .exit) ≡ runResult (now (table .entry)) (now (program .entry)) (now (row .entry)) (now (work .entry)) (now (result .entry)) ⌝ }
 {
     let mut none = [0u8; 0];
-    run_series(table, program, 0, 1, row, &row[..0], work, result, &mut none)
+    run_series(
+        table,
+        program,
+        0,
+        1,
+        row,
+        &row[..0],
+        work,
+        result,
+        &mut none,
+    )
 }
 
 // The run on a series of rows, whose last `hold` entries are the last outputs of the row before: the last interval's bits into the work buffer, the

@@ -8,3 +8,5 @@ pub mod DrawnFiguresLaws
 pub mod TableFiguresLaws
 -- the figures of saving hold
 pub mod SavingFiguresLaws
+-- the figures of series hold
+pub mod SeriesFiguresLaws

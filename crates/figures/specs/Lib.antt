@@ -1,4 +1,4 @@
--- Document 01, "Bench sheet", and document 02, W1, W4 and W5, on figures.
+-- Document 01, "Bench sheet", and document 02, W1, W4, W5 and W6, on figures.
 -- a figure, and the claim that a table of them holds
 pub mod Figure
 -- the starred figures
@@ -9,3 +9,5 @@ pub mod DrawnFigures
 pub mod TableFigures
 -- document 02, W5, on figures
 pub mod SavingFigures
+-- document 02, W6, on figures
+pub mod SeriesFigures

@@ -1,5 +1,5 @@
 -- Unused places never matter: plans that agree on the counts and the used places have the same evaluation.
-use mathlib.Core.Path.{_≡_, refl, ap₂, _∙_}
+use mathlib.Core.Path.{_≡_, refl, ap₂, _∙_, fun-ext}
 use mathlib.Core.List.{List}
 use Prim.Native.Nat.{ℕ, zero, suc, _≤_}
 use native.Mathlib.Omega.{arith}
@@ -9,6 +9,8 @@ use Rattle.plan.specs.declared.record.Plan.{Plan}
 use Rattle.plan.specs.Record.{outputAt}
 use Rattle.plan.proofs.AgreeLaws.{Agree, same-fault}
 use Rattle.plan_evaluation_checks.specs.EvaluationChecks.{evaluateFault}
+use Rattle.plan_series_checks.specs.SeriesChecks.{planSeriesFault}
+use Rattle.plan_evaluation.specs.PlanSeries.{planSeriesResults, planSeriesEnd}
 use Rattle.plan_evaluation.specs.Evaluation.{valueOn, planWires, namedBy, planOutputs, gateBit, evaluateResult}
 
 module _ (p q : Plan) (same : Agree p q) where
@@ -34,3 +36,14 @@ module _ (p q : Plan) (same : Agree p q) where
   same-evaluation row result =
       let fault : evaluateFault p row (length result) ≡ evaluateFault q row (length result) = cc (same-fault p q same) in
       (fault, cc (same-outputs 0 gateBit row))
+
+  -- the series' call: its answer, its results and its end state
+  pub same-series : (h n : ℕ) (fresh start results end : List ℕ)
+      → (planSeriesFault p h n fresh start (length results) (length end) ≡ planSeriesFault q h n fresh start (length results) (length end))
+      × (planSeriesResults p h n fresh start results end ≡ planSeriesResults q h n fresh start results end)
+      × (planSeriesEnd p h n fresh start results end ≡ planSeriesEnd q h n fresh start results end)
+  same-series h n fresh start results end =
+      let step : planOutputs 0 gateBit p ≡ planOutputs 0 gateBit q = fun-ext (same-outputs 0 gateBit) in
+      let fault : planSeriesFault p h n fresh start (length results) (length end) ≡ planSeriesFault q h n fresh start (length results) (length end) =
+      cc (same-fault p q same, same .inputs, same .outputs) in
+      (fault, cc (fault, step, same .inputs), cc (fault, step, same .inputs))

@@ -1,22 +1,19 @@
 -- Laws of evaluation: how many wires and outputs there are, and that bits stay bits.
-use mathlib.Core.Path.{_≡_, sym, ap, _∙_, fun-ext}
+use mathlib.Core.Path.{_≡_, sym, _∙_}
 use mathlib.Core.List.{List, [], _∷_, _++_}
 use Prim.Native.Nat.{ℕ, zero, suc, _+_, _-_, _<_, _≤_}
 use native.Mathlib.Omega.{arith}
 use native.Mathlib.Decide.{ℕ-discrete}
-use native.Mathlib.Numerals.{add-one}
-use lib.ListN.{length, getD, set, length-append, List·getD-append}
+use lib.ListN.{length, getD, length-append, List·getD-append}
 use lib.Seq.{getD-at}
-use Rattle.lists.specs.Lists.{listOf}
 use Rattle.lists.proofs.ListsLaws.{length-listOf, getD-listOf}
 use Rattle.plan.specs.declared.record.Plan.{Plan}
-use Rattle.plan.specs.Record.{maxGates, places, gateAt, outputAt, gateWire}
-use Rattle.plan.proofs.RecordLaws.{places-more, getD-places}
-use Rattle.plan.specs.Faults.{Accepted, GateWithin}
-use Rattle.plan.proofs.FaultsLaws.{accepted-counts, accepted-gate, accepted-output}
-use Rattle.plan_evaluation_checks.specs.EvaluationChecks.{contactFault, Evaluable}
+use Rattle.plan.specs.Record.{gateAt, outputAt, gateWire}
+use Rattle.plan.specs.Faults.{Accepted}
+use Rattle.plan.proofs.FaultsLaws.{accepted-gate}
+use Rattle.plan_evaluation_checks.specs.EvaluationChecks.{contactFault}
 use Rattle.plan_evaluation_checks.proofs.EvaluationChecksLaws.{row-length, row-bit}
-use Rattle.plan_evaluation.specs.Evaluation.{valueOn, planWires, namedBy, planOutputs, tableBit, gateBit, wireBit}
+use Rattle.plan_evaluation.specs.Evaluation.{valueOn, planWires, planOutputs, tableBit, gateBit, wireBit}
 
 module _ {A : Type 0} (none : A) (act : ℕ → ℕ → A → A → A) (p : Plan) (row : List A) where
   -- a wire for each input and for each of n gates

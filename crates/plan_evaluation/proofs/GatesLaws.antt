@@ -4,7 +4,7 @@ use mathlib.Core.List.{List}
 use Prim.Native.Nat.{ℕ, _+_, _-_, _<_, _≤_}
 use native.Mathlib.Omega.{arith}
 use native.Mathlib.Numerals.{add-one}
-use lib.ListN.{length, getD, set, length-append, length-drop, List·getD-append}
+use lib.ListN.{length, getD, set, List·getD-append}
 use Rattle.lists.proofs.ListsLaws.{listOf-ext}
 use Rattle.fault.specs.Buffers.{over}
 use Rattle.fault.proofs.BuffersLaws.{over-more}
@@ -46,11 +46,11 @@ module _ (p : Plan) (row : List ℕ) (e : Evaluable p row) (old : List ℕ) (roo
         }
 
     -- and its bit goes to its own wire
-    pub gate-put : i < p .«gate_count»
+    pub gate-on-wires : i < p .«gate_count»
         → set wires (p .inputs + i) (tableBit (gateAt p i .table) (valueOn 0 wires (gateAt p i .first)) (valueOn 0 wires (gateAt p i .second)))
         ≡ over (ws (i + 1)) old
     unfolding planWires
-    gate-put l =
+    gate-on-wires l =
         let c = accepted-counts p (e .accepted) in
         let g = accepted-gate p (e .accepted) i l in
         let n = so-many i in
@@ -59,7 +59,7 @@ module _ (p : Plan) (row : List ℕ) (e : Evaluable p row) (old : List ℕ) (roo
         (ap (λ b. set b (p .inputs + i) bit) held ∙ ap (λ m. set (over (ws i) old) m bit) (sym n) ∙ over-more (ws i) old bit (omega arith))
 
   -- what stands past the wires does not show in the outputs
-  pub outputs-held : (wires : List ℕ) → wires ≡ over (ws (p .«gate_count»)) old → namedBy 0 p wires (p .«output_count») ≡ planOutputs 0 gateBit p row
-  outputs-held wires held =
+  pub outputs-on-wires : (wires : List ℕ) → wires ≡ over (ws (p .«gate_count»)) old → namedBy 0 p wires (p .«output_count») ≡ planOutputs 0 gateBit p row
+  outputs-on-wires wires held =
       listOf-ext (p .«output_count») _ _ (λ j h.
       on-wire (p .«gate_count») wires held (outputAt p j .0 - 1) (omega (arith, accepted-output p (e .accepted) j h)))

@@ -1,11 +1,11 @@
 -- The theorems of a plan's series.
-use mathlib.Core.Path.{_≡_, refl, sym, ap, _∙_}
+use mathlib.Core.Path.{_≡_, ap, _∙_}
 use mathlib.Core.List.{List, [], _++_}
 use Prim.Native.Nat.{ℕ, _+_, _-_}
 use native.Mathlib.Omega.{arith}
 use lib.ListN.{length, take}
 use lib.Seq.{take-at}
-use Rattle.fault.specs.Buffers.{over, filled}
+use Rattle.fault.specs.Buffers.{filled}
 use Rattle.fault.specs.Checks.{andThen}
 use Rattle.fault.proofs.BuffersLaws.{filled-same, filled-none}
 use Rattle.fault.proofs.ChecksLaws.{and-then-zero}

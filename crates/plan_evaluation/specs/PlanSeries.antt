@@ -3,7 +3,7 @@ use Prim.Native.Nat.{ℕ, _-_}
 use mathlib.Core.List.{List}
 use lib.ListN.{length}
 use Rattle.fault.specs.Buffers.{filled}
-use Rattle.series.specs.Series.{stateAfter, outputRows}
+use Rattle.series.specs.Series.{stateAfter, seriesRows}
 use Rattle.plan.specs.declared.record.Plan.{Plan}
 use Rattle.plan_series_checks.specs.SeriesChecks.{planSeriesFault}
 use Rattle.plan_evaluation.specs.Evaluation.{planOutputs, gateBit}
@@ -11,7 +11,7 @@ use Rattle.plan_evaluation.specs.Evaluation.{planOutputs, gateBit}
 module _ (p : Plan) (h n : ℕ) (fresh start : List ℕ) where
   -- the output rows of n intervals with hold count h, and the end state
   abbrev pub planSeriesRows : List ℕ
-  planSeriesRows = outputRows (planOutputs 0 gateBit p) (p .inputs - h) h fresh start n
+  planSeriesRows = seriesRows (planOutputs 0 gateBit p) (p .inputs - h) h fresh start n
 
   abbrev pub planSeriesState : List ℕ
   planSeriesState = stateAfter (planOutputs 0 gateBit p) (p .inputs - h) h fresh start n

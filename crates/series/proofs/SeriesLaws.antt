@@ -1,16 +1,16 @@
 -- Laws of a series over any step: composition, equal steps, how long states and output rows are, and an interval more on lent buffers.
 use mathlib.Core.Path.{_≡_, refl, sym, ap, ap₂, _∙_}
-use mathlib.Core.List.{List, [], _∷_, _++_, append-assoc, append-nil}
+use mathlib.Core.List.{List, [], _++_, append-assoc, append-nil}
 use Prim.Native.Nat.{ℕ, zero, suc, _+_, _-_, _*_, _≤_, _<_}
 use native.Mathlib.Nat.{add-zero, add-suc}
 use native.Mathlib.Numerals.{add-one}
 use native.Mathlib.Omega.{arith}
 use native.Mathlib.Decide.{decLt}
 use lib.ListN.{length, getD, take, drop, length-append, length-take, length-drop, drop-of-length-le, List·getD-append, List·getD-eq-default}
-use lib.Seq.{sets, take-append-le, drop-append-le, drop-append-add, take-all, take-at, drop-at, getD-append-add, getD-take, getD-drop, length-take-le}
+use lib.Seq.{sets, take-append-le, drop-append-le, drop-append-add, take-all, take-at, getD-append-add, getD-take, getD-drop, length-take-le}
 use Rattle.fault.specs.Buffers.{over}
 use Rattle.fault.proofs.PartsLaws.{length-over, over-again}
-use Rattle.series.specs.Series.{lastOf, freshRow, stateAfter, intervalRow, outputRows, ofLast}
+use Rattle.series.specs.Series.{lastOf, freshRow, stateAfter, intervalRow, seriesRows, ofLast}
 use Rattle.series.specs.Composition.{Composes}
 use Rattle.series.proofs.CopyingLaws.{sets-over}
 
@@ -52,12 +52,12 @@ module _ {A : Type 0} (step : List A → List A) (f h : ℕ) (a b start : List A
   row-front : (t : ℕ) → t < n → intervalRow step f h all start t ≡ intervalRow step f h a start t
   row-front t l = ap₂ (λ r s. r ++ s) (fresh-front f a b n size t l) (state-front t (omega arith))
 
-  rows-front : (t : ℕ) → t ≤ n → outputRows step f h all start t ≡ outputRows step f h a start t
-  unfolding outputRows
+  rows-front : (t : ℕ) → t ≤ n → seriesRows step f h all start t ≡ seriesRows step f h a start t
+  unfolding seriesRows
   rows-front zero l = refl
   rows-front (suc t) l = ap₂ (λ rows r. rows ++ step r) (rows-front t (omega arith)) (row-front t l)
 
-  pub state-behind : (t : ℕ) → stateAfter step f h all start (n + t) ≡ stateAfter step f h b left t
+  state-behind : (t : ℕ) → stateAfter step f h all start (n + t) ≡ stateAfter step f h b left t
   unfolding stateAfter
   state-behind zero = ap (stateAfter step f h all start) (add-zero n) ∙ state-front n (omega arith)
   state-behind (suc t) =
@@ -67,13 +67,13 @@ module _ {A : Type 0} (step : List A → List A) (f h : ℕ) (a b start : List A
   row-behind : (t : ℕ) → intervalRow step f h all start (n + t) ≡ intervalRow step f h b left t
   row-behind t = ap₂ (λ r s. r ++ s) (fresh-behind f a b n size t) (state-behind t)
 
-  pub rows-behind : (t : ℕ) → outputRows step f h all start (n + t) ≡ outputRows step f h a start n ++ outputRows step f h b left t
-  unfolding outputRows
-  rows-behind zero = ap (outputRows step f h all start) (add-zero n) ∙ rows-front n (omega arith) ∙ sym (append-nil _)
+  rows-behind : (t : ℕ) → seriesRows step f h all start (n + t) ≡ seriesRows step f h a start n ++ seriesRows step f h b left t
+  unfolding seriesRows
+  rows-behind zero = ap (seriesRows step f h all start) (add-zero n) ∙ rows-front n (omega arith) ∙ sym (append-nil _)
   rows-behind (suc t) =
-      ap (outputRows step f h all start) (add-suc n t)
+      ap (seriesRows step f h all start) (add-suc n t)
       ∙ ap₂ (λ rows r. rows ++ step r) (rows-behind t) (row-behind t)
-      ∙ append-assoc (outputRows step f h a start n) (outputRows step f h b left t) (step (intervalRow step f h b left t))
+      ∙ append-assoc (seriesRows step f h a start n) (seriesRows step f h b left t) (step (intervalRow step f h b left t))
 
 -- ---- steps that agree on the rows of the series give the same series
 
@@ -85,8 +85,8 @@ module _ {A : Type 0} (step other : List A → List A) (f h : ℕ) (fresh start 
   same-state (suc t) l =
       ap (lastOf h) (agree t l) ∙ ap (λ s. lastOf h (other (freshRow f fresh t ++ s))) (same-state t (omega arith))
 
-  pub same-rows : (t : ℕ) → t ≤ n → outputRows step f h fresh start t ≡ outputRows other f h fresh start t
-  unfolding outputRows
+  pub same-rows : (t : ℕ) → t ≤ n → seriesRows step f h fresh start t ≡ seriesRows other f h fresh start t
+  unfolding seriesRows
   same-rows zero l = refl
   same-rows (suc t) l =
       ap₂ (λ rows out. rows ++ out) (same-rows t (omega arith)) (agree t l ∙ ap (λ s. other (freshRow f fresh t ++ s)) (same-state t (omega arith)))
@@ -100,8 +100,8 @@ module _ {A : Type 0} (step : List A → List A) (f : ℕ) (row : List A) (size 
       let none : 0 * f ≡ 0 = omega arith in
       append-nil _ ∙ ap (λ n. take f (drop n row)) none ∙ take-all f row (omega arith)
 
-  pub single-row : outputRows step f 0 row [] 1 ≡ step row
-  unfolding outputRows
+  pub single-row : seriesRows step f 0 row [] 1 ≡ step row
+  unfolding seriesRows
   single-row = ap step whole-row
 
   pub single-state : stateAfter step f 0 row [] 1 ≡ []
@@ -117,7 +117,7 @@ pub record Contacts (m : ℕ) (row : List ℕ) : Type 0 where
   pub size : length row ≡ m
   pub bit : (i : ℕ) → getD row i 0 ≤ 1
 
-pub contacts-append : {m n : ℕ} {a b : List ℕ} → Contacts m a → Contacts n b → Contacts (m + n) (a ++ b)
+contacts-append : {m n : ℕ} {a b : List ℕ} → Contacts m a → Contacts n b → Contacts (m + n) (a ++ b)
 contacts-append {m} {n} {a} {b} ca cb = record { size = omega (arith, length-append a b); bit = λ i. go i (decLt i (length a)) }
   where
     go : (i : ℕ) → Dec (i < length a) → getD (a ++ b) i 0 ≤ 1
@@ -159,17 +159,17 @@ module _ {step : List ℕ → List ℕ} {f h v n : ℕ} {fresh start : List ℕ}
   pub row-contacts : (t : ℕ) → t < n → Contacts (f + h) (intervalRow step f h fresh start t)
   row-contacts t l = contacts-append (contacts-part (t * f) f (series .rows) (row-ends t n f l)) (state-contacts t (omega arith))
 
-  pub rows-length : (t : ℕ) → t ≤ n → length (outputRows step f h fresh start t) ≡ t * v
-  unfolding outputRows
+  pub rows-length : (t : ℕ) → t ≤ n → length (seriesRows step f h fresh start t) ≡ t * v
+  unfolding seriesRows
   rows-length zero l = omega arith
   rows-length (suc t) l =
-      length-append (outputRows step f h fresh start t) _ ∙ omega (arith, rows-length t (omega arith), series .gives _ (row-contacts t l) .size)
+      length-append (seriesRows step f h fresh start t) _ ∙ omega (arith, rows-length t (omega arith), series .gives _ (row-contacts t l) .size)
 
 -- ---- the series on lent buffers
 
 -- behind t intervals the output rows and the state stand in front of what the buffers held
 pub record SeriesStands (step : List ℕ → List ℕ) (f h : ℕ) (fresh start results₀ end₀ : List ℕ) (t : ℕ) (results end : List ℕ) : Type 0 where
-  pub rows : results ≡ over (outputRows step f h fresh start t) results₀
+  pub rows : results ≡ over (seriesRows step f h fresh start t) results₀
   pub state : end ≡ over (stateAfter step f h fresh start t) end₀
 
 module _ {step : List ℕ → List ℕ} {f h v n : ℕ} {fresh start results₀ end₀ : List ℕ} (series : ContactSeries step f h v n fresh start) where
@@ -184,7 +184,7 @@ module _ {step : List ℕ → List ℕ} {f h v n : ℕ} {fresh start results₀ 
     out = step (intervalRow step f h fresh start t)
 
     abbrev rows : List ℕ
-    rows = outputRows step f h fresh start t
+    rows = seriesRows step f h fresh start t
 
     size : length out ≡ v
     size = series .gives _ (row-contacts series t l) .size
@@ -200,7 +200,7 @@ module _ {step : List ℕ → List ℕ} {f h v n : ℕ} {fresh start results₀ 
     -- one interval more: its outputs behind the rows, the last of them in the state's place
     pub series-more : {results′ end′ : List ℕ} → results′ ≡ sets results (t * v) out → end′ ≡ sets end 0 (lastOf h out)
         → SeriesStands step f h fresh start results₀ end₀ (t + 1) results′ end′
-    unfolding stateAfter outputRows
+    unfolding stateAfter seriesRows
     series-more er ee =
         let held = state-contacts series t (omega arith) in
         let again = state-contacts series (suc t) l in
@@ -219,7 +219,7 @@ module _ {step : List ℕ → List ℕ} {f h v n : ℕ} {fresh start end₀ : Li
   started = e ∙ sets-over [] older start (omega (arith, series .state .size))
 
   pub series-first : (results₀ : List ℕ) → SeriesStands step f h fresh start results₀ end₀ 0 results₀ end₀
-  unfolding stateAfter outputRows
+  unfolding stateAfter seriesRows
   series-first results₀ = record { rows = refl; state = started ∙ sym (over-again start start older refl) ∙ ap (over start) (sym started) }
 
   pub series-last : {results₀ results end : List ℕ} → SeriesStands step f h fresh start results₀ end₀ n results end
@@ -233,19 +233,19 @@ module _ {step : List ℕ → List ℕ} {f h v n : ℕ} {fresh start end₀ : Li
 module _ {step : List ℕ → List ℕ} {f h v n m : ℕ} {first next start left : List ℕ} (one : ContactSeries step f h v n first start)
     (two : ContactSeries step f h v m next left) (both : ContactSeries step f h v (n + m) (first ++ next) start)
     (is-left : left ≡ stateAfter step f h first start n) where
-  pub composed : (r₁ r₂ e₂ r₃ e₃ : List ℕ) → Composes v h n m (over (outputRows step f h first start n) r₁)
-      (over (outputRows step f h next left m) r₂) (over (stateAfter step f h next left m) e₂)
-      (over (outputRows step f h (first ++ next) start (n + m)) r₃) (over (stateAfter step f h (first ++ next) start (n + m)) e₃)
+  pub composed : (r₁ r₂ e₂ r₃ e₃ : List ℕ) → Composes v h n m (over (seriesRows step f h first start n) r₁)
+      (over (seriesRows step f h next left m) r₂) (over (stateAfter step f h next left m) e₂)
+      (over (seriesRows step f h (first ++ next) start (n + m)) r₃) (over (stateAfter step f h (first ++ next) start (n + m)) e₃)
   composed r₁ r₂ e₂ r₃ e₃ =
       let whole = rows-length both (n + m) (omega arith) in
       let behind = rows-behind step f h first next start n (one .rows .size) m in
       let stays = state-behind step f h first next start n (one .rows .size) m in
       record {
         rows =
-          ap₂ (λ (a b : List ℕ). a ++ b) (take-at (outputRows step f h first start n) _ (n * v) (rows-length one n (omega arith)))
-          (take-at (outputRows step f h next left m) _ (m * v) (rows-length two m (omega arith)) ∙ ap (λ s. outputRows step f h next s m) is-left)
-          ∙ sym behind ∙ sym (take-at (outputRows step f h (first ++ next) start (n + m)) _ ((n + m) * v) whole);
+            ap₂ (λ (a b : List ℕ). a ++ b) (take-at (seriesRows step f h first start n) _ (n * v) (rows-length one n (omega arith)))
+            (take-at (seriesRows step f h next left m) _ (m * v) (rows-length two m (omega arith)) ∙ ap (λ s. seriesRows step f h next s m) is-left)
+            ∙ sym behind ∙ sym (take-at (seriesRows step f h (first ++ next) start (n + m)) _ ((n + m) * v) whole);
         state =
-          take-at (stateAfter step f h next left m) _ h (state-contacts two m (omega arith) .size) ∙ ap (λ s. stateAfter step f h next s m) is-left
-          ∙ sym stays ∙ sym (take-at (stateAfter step f h (first ++ next) start (n + m)) _ h (state-contacts both (n + m) (omega arith) .size));
+            take-at (stateAfter step f h next left m) _ h (state-contacts two m (omega arith) .size) ∙ ap (λ s. stateAfter step f h next s m) is-left
+            ∙ sym stays ∙ sym (take-at (stateAfter step f h (first ++ next) start (n + m)) _ h (state-contacts both (n + m) (omega arith) .size));
       }

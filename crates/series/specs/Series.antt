@@ -24,9 +24,9 @@ module _ {A : Type 0} (step : List A → List A) (f h : ℕ) (fresh start : List
   intervalRow t = freshRow f fresh t ++ stateAfter t
 
   -- the output rows of n intervals, one after another
-  unfoldable pub outputRows : ℕ → List A
-  outputRows zero = []
-  outputRows (suc t) = outputRows t ++ step (intervalRow t)
+  unfoldable pub seriesRows : ℕ → List A
+  seriesRows zero = []
+  seriesRows (suc t) = seriesRows t ++ step (intervalRow t)
 
   -- what is shown of the last of n intervals' rows; nothing at 0 intervals
   abbrev pub ofLast : (List A → List A) → ℕ → List A

@@ -2,7 +2,7 @@
 //!
 //! Under the heading `## Reading order`, or under `## Inside the calls`, each file of
 //! crates/*/specs/, Lib.antt left out, has exactly one row: its path in backticks, its number of
-//! lines as `wc -l` prints it, and a sentence. The files of the reading order stay below 4,000 lines
+//! lines as `wc -l` prints it, and a sentence. The files of the reading order stay below 4,500 lines
 //! together. Those inside the calls are what functions that no export and no door hands on say of each
 //! other.
 
@@ -17,7 +17,7 @@ const HEADING: &str = "## Reading order";
 const INSIDE: &str = "## Inside the calls";
 
 /// What a reader of the definitions may be asked to read stays below so many lines.
-const MOST_LINES: usize = 4_000;
+const MOST_LINES: usize = 4_500;
 
 /// A file of definitions and its number of lines.
 struct Definitions {
@@ -204,28 +204,28 @@ mod tests {
     #[test]
     fn too_many_lines_are_found() {
         let page = page(&format!(
-            "| `{ROWS}` | 3960 | Rows. |\n| `{PLANS}` | 40 | Plans. |\n"
+            "| `{ROWS}` | 4460 | Rows. |\n| `{PLANS}` | 40 | Plans. |\n"
         ));
         assert_eq!(
-            findings_of(&page, [3960, 40]),
-            ["README.md: 4000 lines in the reading order, not below 4000"]
+            findings_of(&page, [4460, 40]),
+            ["README.md: 4500 lines in the reading order, not below 4500"]
         );
     }
 
     #[test]
     fn files_inside_the_calls_have_a_row_and_no_part_in_the_limit() {
         let order = format!("| `{PLANS}` | 40 | Plans. |\n");
-        let inside = format!("\n## Inside the calls\n\n| `{ROWS}` | 3960 | Rows. |\n");
+        let inside = format!("\n## Inside the calls\n\n| `{ROWS}` | 4460 | Rows. |\n");
         let page = page(&order) + &inside;
-        assert_eq!(findings_of(&page, [3960, 40]), [""; 0]);
+        assert_eq!(findings_of(&page, [4460, 40]), [""; 0]);
         assert_eq!(
-            findings_of(&page, [3959, 40]),
-            [format!("README.md:15: {ROWS} has 3959 lines, not 3960")]
+            findings_of(&page, [4459, 40]),
+            [format!("README.md:15: {ROWS} has 4459 lines, not 4460")]
         );
         let twice = page.replace(
             &order,
-            &(order.clone() + &format!("| `{ROWS}` | 3960 | Rows. |\n")),
+            &(order.clone() + &format!("| `{ROWS}` | 4460 | Rows. |\n")),
         );
-        assert_eq!(findings_of(&twice, [3960, 40]).len(), 2);
+        assert_eq!(findings_of(&twice, [4460, 40]).len(), 2);
     }
 }

@@ -2,7 +2,7 @@
 //!
 //! | Storey | Crates | May list |
 //! |---|---|---|
-//! | foundations | `lists`, `fault`, `powers`, `elements` | foundations |
+//! | foundations | `lists`, `fault`, `powers`, `elements`, `series` | foundations |
 //! | block library | `blocks`, `block_*` | foundations, its own |
 //! | plans | `plan`, `plan_*` | foundations, its own |
 //! | fabrics | `fabric`, `fabric_*` | foundations, plans, `blocks`, its own |
@@ -16,7 +16,7 @@ use std::path::Path;
 use crate::listing::{self, Listed};
 use crate::Report;
 
-const FOUNDATIONS: [&str; 4] = ["lists", "fault", "powers", "elements"];
+const FOUNDATIONS: [&str; 5] = ["lists", "fault", "powers", "elements", "series"];
 
 /// The doors of the block library and of the fabrics.
 pub const BLOCKS: &str = "blocks";

@@ -1,7 +1,6 @@
 -- `plan_series_checks::check_series_rooms` meets its contract: the output rows first, then the end state. Assumes nothing.
 use native.Mathlib.Omega.{arith}
 use mathlib.Core.Path.{refl}
-use borrow.Author.Needs.{needs}
 use Rattle.fault.proofs.ChecksLaws.{room-passes, room-refuses, _then_, stop}
 use Rattle.fault.specs.declared.Fault.{Fault}
 use Rattle.plan_series_checks.proofs.SeriesChecksLaws.{entries-fit}

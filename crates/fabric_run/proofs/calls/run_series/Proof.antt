@@ -1,5 +1,5 @@
 -- `fabric_run::calls::run_series` meets its contract: the checks decide, and where none fails the intervals are run. Assumes nothing.
-use mathlib.Core.Path.{_≡_, sym}
+use mathlib.Core.Path.{sym}
 use borrow.Author.Needs.{needs}
 use Rattle.fault.proofs.ChecksLaws.{answer-passes, answer-refuses}
 use Rattle.fault.proofs.BuffersLaws.{filled-refused, is-filled}

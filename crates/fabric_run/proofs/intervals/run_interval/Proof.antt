@@ -1,15 +1,14 @@
 -- `fabric_run::intervals::run_interval` meets its contract: the row is run, its outputs are written, and the last of them are held. Assumes nothing.
 use native.Mathlib.Omega.{arith}
-use mathlib.Core.Path.{_≡_, sym, ap, subst, _∙_}
+use mathlib.Core.Path.{_≡_, sym, ap, _∙_}
 use mathlib.Core.List.{List, _++_}
 use Prim.Native.Nat.{ℕ, _+_, _-_}
 use borrow.Author.Needs.{needs}
-use lib.ListN.{length, take, drop}
+use lib.ListN.{take, drop}
 use lib.Seq.{sets, length-take-le}
 use Rattle.series.proofs.CopyingLaws.{last-stored}
 use Rattle.fabric_sizes.specs.Layout.{outputsIn}
 use Rattle.fabric_run.specs.Running.{runOutputs}
-use Rattle.fabric_run.specs.RunRows.{ResultRoom}
 use Rattle.fabric_run.proofs.RunCallsLaws.{outputs-read}
 use Rattle.fabric_run.proofs.RunSeriesLaws.{length-runOutputs}
 use Rattle.fabric_run.proofs.intervals.run_interval.Statement.{statement}

@@ -9,12 +9,12 @@ use borrow.Author.Needs.{needs}
 use lib.ListN.{length, take, drop}
 use lib.Seq.{sets, take-all}
 use Rattle.fault.specs.Buffers.{over}
-use Rattle.series.specs.Series.{freshRow, intervalRow, ofLast, lastOf}
+use Rattle.series.specs.Series.{intervalRow, ofLast, lastOf}
 use Rattle.series.proofs.SeriesLaws.{ContactSeries, row-ends, SeriesStands, state-lent, series-first, series-more, series-last}
 use Rattle.elements.specs.Elements.{maxWires}
 use Rattle.plan_series_checks.specs.SeriesChecks.{maxIntervals}
 use Rattle.plan_series_checks.proofs.SeriesChecksLaws.{entries-few}
-use Rattle.fabric_sizes.specs.Layout.{inputsIn, outputsIn, wiresIn}
+use Rattle.fabric_sizes.specs.Layout.{inputsIn, outputsIn}
 use Rattle.fabric_run.specs.Running.{runWires, runOutputs}
 use Rattle.fabric_run.specs.RunRows.{Runnable}
 use Rattle.fabric_run.proofs.RunSeriesLaws.{run-contacts, interval-runnable, work-more}

@@ -1,8 +1,8 @@
 -- `fabric_run::running::start_wires` meets its contract: wire 0, the row's entries, then the state's. Assumes nothing.
-use mathlib.Core.Path.{_≡_, _∙_}
+use mathlib.Core.Path.{_∙_}
 use native.Mathlib.Omega.{arith}
 use borrow.Author.Needs.{needs}
-use lib.ListN.{length-append, length-set}
+use lib.ListN.{length-set}
 use Rattle.fabric_run.proofs.WorkLaws.{start-stored}
 use Rattle.fabric_run.proofs.running.start_wires.Statement.{statement}
 use Rattle.fabric_run.proofs.running.start_wires.Tie as tie

@@ -1,11 +1,9 @@
 -- `plan_evaluation::evaluation::evaluate_series` meets its contract: the checks decide, and where none fails the intervals are evaluated. Assumes
 -- nothing.
-use mathlib.Core.Path.{_≡_, sym}
+use mathlib.Core.Path.{sym}
 use borrow.Author.Needs.{needs}
-use lib.ListN.{length}
 use Rattle.fault.proofs.ChecksLaws.{answer-passes, and-then-zero}
 use Rattle.fault.proofs.BuffersLaws.{refuses-both, fills-both}
-use Rattle.plan_series_checks.specs.SeriesChecks.{planSeriesFault}
 use Rattle.plan_series_checks.proofs.SeriesChecksLaws.{series-faultless}
 use Rattle.plan_evaluation.proofs.evaluation.evaluate_series.Statement.{statement}
 use Rattle.plan_evaluation.proofs.evaluation.evaluate_series.Tie as tie

@@ -1,6 +1,6 @@
 -- `plan_evaluation::gates::put_gate` meets its contract: two bits are read, and the table's goes to the gate's own place. Assumes nothing.
 use native.Mathlib.Omega.{arith}
-use mathlib.Core.Path.{_≡_, ap, ap₂, _∙_}
+use mathlib.Core.Path.{ap, ap₂, _∙_}
 use borrow.Author.Needs.{needs}
 use lib.ListN.{getD, set}
 use Rattle.plan_evaluation.specs.Evaluation.{tableBit}

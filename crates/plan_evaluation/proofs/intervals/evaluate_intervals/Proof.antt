@@ -6,8 +6,8 @@ use mathlib.Core.List.{List, _++_}
 use Prim.Native.Nat.{ℕ, _+_, _-_, _*_, _≤_, _<_}
 use mir.Facts.{fits-below}
 use borrow.Author.Needs.{needs}
-use lib.ListN.{length, getD, set, take, drop, length-set, length-append}
-use lib.Seq.{sets, length-sets, take-all}
+use lib.ListN.{length, getD, take, drop, length-set, length-append}
+use lib.Seq.{sets, take-all}
 use Rattle.lists.specs.Lists.{listOf}
 use Rattle.fault.specs.Buffers.{over}
 use Rattle.fault.proofs.PartsLaws.{length-over, over-again}
@@ -25,7 +25,7 @@ use Rattle.plan_series_checks.proofs.SeriesChecksLaws.{entries-few}
 use Rattle.plan_evaluation.specs.Evaluation.{valueOn, planWires, namedBy, planOutputs, gateBit}
 use Rattle.plan_evaluation.specs.GateStands.{maxPlanWires}
 use Rattle.plan_evaluation.proofs.EvaluationLaws.{length-planOutputs}
-use Rattle.plan_evaluation.proofs.GatesLaws.{gate-stands, gate-put, outputs-held}
+use Rattle.plan_evaluation.proofs.GatesLaws.{gate-stands, gate-on-wires, outputs-on-wires}
 use Rattle.plan_evaluation.proofs.PlanSeriesLaws.{plan-contacts, interval-evaluable}
 use Rattle.plan_evaluation.proofs.intervals.evaluate_intervals.Statement.{statement}
 use Rattle.plan_evaluation.proofs.intervals.evaluate_intervals.Tie as tie
@@ -191,7 +191,7 @@ gate-again c =
     let l = c .before .before .before .before .loop2-test .taken in
     let e =
     c .before .put-gate .ensures
-    ∙ gate-put (p i) (row i) (evaluable i) _ (omega (arith, wires-long (at .before .before))) (at .loop2 .i) (at .loop2 .wires) (at .loop2 .inv .2) l in
+    ∙ gate-on-wires (p i) (row i) (evaluable i) _ (omega (arith, wires-long (at .before .before))) (at .loop2 .i) (at .loop2 .wires) (at .loop2 .inv .2) l in
     (omega arith, c .before .put-gate .kept .1 .1 .0 ∙ at .loop2 .inv .1, e)
 
 -- ---- the outputs
@@ -205,7 +205,7 @@ module _ (c : tie.After-loop2 Inv-loop2 μ-loop2 Inv-loop3 μ-loop3 Inv-loop μ-
   outputs-named =
       let all : c .before .loop2 .i ≡ p turn .«gate_count» = omega arith in
       let begun = c .before .before .before .copy-part3 .last .1 .1 .1 .0 in
-      outputs-held (p turn) (row turn) (evaluable turn) begun (omega (arith, wires-long (c .before .before .before))) (c .before .loop2 .wires)
+      outputs-on-wires (p turn) (row turn) (evaluable turn) begun (omega (arith, wires-long (c .before .before .before))) (c .before .loop2 .wires)
       (c .before .loop2 .inv .2 ∙ ap (λ i. over (planWires 0 gateBit (p turn) (row turn) i) begun) all)
       ∙ ap (planOutputs 0 gateBit (p turn)) (row-is turn)
 
