@@ -33,18 +33,20 @@ outputs-read table program row work w contacts e =
     ap (λ b. getD b (outputWireAt table j) 0) e ∙ List·getD-append (runWires table program row) _ 0 (outputWireAt table j) (omega (arith, w .output j h)))
 
 -- what the checks of a series give where none fails
-pub record RunSeriesPasses (table : List ℕ) (h n : ℕ) (fresh start : List ℕ) (work results end : ℕ) : Type 0 where
+pub record RunSeriesPasses (table program : List ℕ) (h n : ℕ) (fresh start : List ℕ) (work results end : ℕ) : Type 0 where
+  pub given : givenFault table program ≡ 0
   pub wellFormed : WellFormed table
   pub within : SeriesWithin (inputsIn table) (outputsIn table) h n fresh start results end
   pub wires : wiresIn table ≤ work
 
 pub run-series-passes : {table : List ℕ} (program : List ℕ) {h n : ℕ} {fresh start : List ℕ} {work results end : ℕ}
-    → runSeriesFault table program h n fresh start work results end ≡ 0 → RunSeriesPasses table h n fresh start work results end
+    → runSeriesFault table program h n fresh start work results end ≡ 0 → RunSeriesPasses table program h n fresh start work results end
 unfolding runSeriesFault roomFault
 run-series-passes {table} program {work = work} e =
     let given = and-then-zero (givenFault table program) _ .0 e in
     let series = and-then-zero _ _ .0 (given .1) in
     record {
+      given = given .0;
       wellFormed = given-well-formed table program (given .0);
       within = series-faultless _ _ _ _ _ _ _ _ .0 (series .0);
       wires = leb-true (wiresIn table) work (unless-zero (leb (wiresIn table) work) Fault.Short .0 (series .1));

@@ -1,19 +1,23 @@
 -- The theorems of a fabric's series.
 use mathlib.Core.Path.{_≡_, sym, ap, _∙_}
 use mathlib.Core.List.{List, [], _++_}
-use Prim.Native.Nat.{ℕ, _+_, _-_}
+use Prim.Native.Nat.{ℕ, _+_, _-_, _*_, _≤_}
 use native.Mathlib.Omega.{arith}
+use borrow.Author.Tests.{le-leb}
 use lib.ListN.{length, take}
 use lib.Seq.{take-at}
 use Rattle.fault.specs.Buffers.{filled}
+use Rattle.fault.specs.Checks.{roomFault}
 use Rattle.fault.proofs.BuffersLaws.{filled-same, filled-none}
 use Rattle.series.specs.Series.{stateAfter}
-use Rattle.series.proofs.SeriesLaws.{ContactSeries, state-contacts, composed, single-row, single-state, single-last}
+use Rattle.series.proofs.SeriesLaws.{ContactSeries, state-contacts, first-part, next-part, composed, single-row, single-state, single-last}
 use Rattle.plan_evaluation_checks.proofs.EvaluationChecksLaws.{row-length}
-use Rattle.fabric_sizes.specs.Layout.{inputsIn, outputsIn}
-use Rattle.fabric_run_checks.specs.RunFault.{runFault, runSeriesFault}
+use Rattle.plan_series_checks.specs.SeriesChecks.{HoldWithin}
+use Rattle.plan_series_checks.proofs.SeriesChecksLaws.{hold-fewer, series-passes}
+use Rattle.fabric_sizes.specs.Layout.{inputsIn, outputsIn, wiresIn}
+use Rattle.fabric_run_checks.specs.RunFault.{givenFault, runFault, runSeriesFault}
 use Rattle.fabric_run.specs.Running.{runWires, runOutputs}
-use Rattle.fabric_run.specs.RunSeriesTheorems.{RunSeriesComposes, RunSeriesSingle}
+use Rattle.fabric_run.specs.RunSeriesTheorems.{RunSeriesComposes, RunSeriesSplits, RunSeriesSingle}
 use Rattle.fabric_run.proofs.RunCallsLaws.{run-series-passes, run-single}
 use Rattle.fabric_run.proofs.RunSeriesLaws.{run-contacts}
 
@@ -30,6 +34,27 @@ run-series-composes table program h n m first next start w₁ r₁ e₁ w₂ r�
     let state = stateAfter (runOutputs table program) (inputsIn table - h) h first start n in
     let is-left = is ∙ ap (λ z. take h (filled z state e₁)) z₁ ∙ take-at state _ h (state-contacts one n (omega arith) .size) in
     rw (z₁, z₂, z₃) (composed one two both is-left r₁ r₂ e₂ r₃ e₃)
+
+-- a series of contacts in buffers that have room is not refused where table and program pass
+unrefused : (table program : List ℕ) {h n : ℕ} {fresh start : List ℕ} (work results end : ℕ) → givenFault table program ≡ 0
+    → HoldWithin (inputsIn table) (outputsIn table) h n → ContactSeries (runOutputs table program) (inputsIn table - h) h (outputsIn table) n fresh start
+    → wiresIn table ≤ work → n * outputsIn table ≤ results → h ≤ end → runSeriesFault table program h n fresh start work results end ≡ 0
+unfolding runSeriesFault roomFault
+unrefused table program work results end given hold series wires rows state =
+    rw (given, series-passes results end hold (series .rows) (series .state) rows state, le-leb (wiresIn table) work wires)
+
+pub run-series-splits : RunSeriesSplits
+run-series-splits table program h n m first next start w₁ r₁ e₁ w₂ r₂ e₂ w₃ r₃ e₃ size wires₁ room₁ place₁ wires₂ room₂ place₂ z =
+    let passes = run-series-passes program {end = e₃} z in
+    let hold = passes .within .hold in
+    let both = series-of table program h (n + m) (first ++ next) start w₃ r₃ e₃ z in
+    let one = first-part n m first next start both size in
+    let two = next-part n m first next start both size in
+    let state = stateAfter (runOutputs table program) (inputsIn table - h) h first start n in
+    let z₁ = unrefused table program (length w₁) (length r₁) (length e₁) (passes .given) (hold-fewer n hold (omega arith)) one wires₁ room₁ place₁ in
+    let left = ap (λ k. take h (filled k state e₁)) z₁ ∙ take-at state _ h (state-contacts one n (omega arith) .size) in
+    let z₂ = unrefused table program w₂ r₂ e₂ (passes .given) (hold-fewer m hold (omega arith)) two wires₂ room₂ place₂ in
+    (z₁, ap (λ s. runSeriesFault table program h m next s w₂ r₂ e₂) left ∙ z₂)
 
 module _ (table program row work result end : List ℕ) where
   abbrev fault : ℕ

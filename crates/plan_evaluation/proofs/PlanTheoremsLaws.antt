@@ -10,15 +10,15 @@ use Rattle.fault.specs.Checks.{andThen}
 use Rattle.fault.proofs.BuffersLaws.{filled-same, filled-none}
 use Rattle.fault.proofs.ChecksLaws.{and-then-zero}
 use Rattle.series.specs.Series.{stateAfter}
-use Rattle.series.proofs.SeriesLaws.{ContactSeries, state-contacts, composed, single-row, single-state}
+use Rattle.series.proofs.SeriesLaws.{ContactSeries, state-contacts, first-part, next-part, composed, single-row, single-state}
 use Rattle.plan.specs.declared.record.Plan.{Plan}
 use Rattle.plan.specs.Faults.{planFault}
 use Rattle.plan_evaluation_checks.specs.EvaluationChecks.{evaluateFault}
 use Rattle.plan_evaluation_checks.proofs.EvaluationChecksLaws.{row-length, evaluation-passes}
 use Rattle.plan_series_checks.specs.SeriesChecks.{planSeriesFault}
-use Rattle.plan_series_checks.proofs.SeriesChecksLaws.{series-faultless, single-fault}
+use Rattle.plan_series_checks.proofs.SeriesChecksLaws.{hold-fewer, series-faultless, series-passes, single-fault}
 use Rattle.plan_evaluation.specs.Evaluation.{planOutputs, gateBit}
-use Rattle.plan_evaluation.specs.PlanSeriesTheorems.{PlanSeriesComposes, PlanSeriesSingle}
+use Rattle.plan_evaluation.specs.PlanSeriesTheorems.{PlanSeriesComposes, PlanSeriesSplits, PlanSeriesSingle}
 use Rattle.plan_evaluation.proofs.PlanSeriesLaws.{plan-contacts}
 
 -- a series that is not refused is one of contacts
@@ -33,6 +33,21 @@ plan-series-composes p h n m first next start r₁ e₁ r₂ e₂ r₃ e₃ left
     let state = stateAfter (planOutputs 0 gateBit p) (p .inputs - h) h first start n in
     let is-left = is ∙ ap (λ z. take h (filled z state e₁)) z₁ ∙ take-at state _ h (state-contacts one n (omega arith) .size) in
     rw (z₁, z₂, z₃) (composed one two (series-of p h (n + m) (first ++ next) start (length r₃) (length e₃) z₃) is-left r₁ r₂ e₂ r₃ e₃)
+
+pub plan-series-splits : PlanSeriesSplits
+plan-series-splits p h n m first next start r₁ e₁ r₂ e₂ r₃ e₃ size room₁ place₁ room₂ place₂ z =
+    let passes = and-then-zero (planFault p) _ .0 z in
+    let hold = series-faultless _ _ _ _ _ _ _ _ .0 (passes .1) .hold in
+    let both = series-of p h (n + m) (first ++ next) start r₃ e₃ z in
+    let one = first-part n m first next start both size in
+    let two = next-part n m first next start both size in
+    let state = stateAfter (planOutputs 0 gateBit p) (p .inputs - h) h first start n in
+    let z₁ : planSeriesFault p h n first start (length r₁) (length e₁) ≡ 0 =
+    rw (passes .0) (series-passes (length r₁) (length e₁) (hold-fewer n hold (omega arith)) (one .rows) (one .state) room₁ place₁) in
+    let left = ap (λ k. take h (filled k state e₁)) z₁ ∙ take-at state _ h (state-contacts one n (omega arith) .size) in
+    let z₂ : planSeriesFault p h m next state r₂ e₂ ≡ 0 =
+    rw (passes .0) (series-passes r₂ e₂ (hold-fewer m hold (omega arith)) (two .rows) (two .state) room₂ place₂) in
+    (z₁, ap (λ s. planSeriesFault p h m next s r₂ e₂) left ∙ z₂)
 
 pub plan-series-single : (p : Plan) (row result end : List ℕ) → PlanSeriesSingle p row result end
 plan-series-single p row result end =

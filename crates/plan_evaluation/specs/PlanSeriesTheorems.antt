@@ -1,5 +1,5 @@
 -- Document 02, W6: what holds of a plan's series, over the answer and the lent buffers that the call's contract equates.
-use Prim.Native.Nat.{ℕ, _+_}
+use Prim.Native.Nat.{ℕ, _+_, _-_, _*_, _≤_}
 use mathlib.Core.Path.{_≡_}
 use mathlib.Core.List.{List, [], _++_}
 use lib.ListN.{length, take}
@@ -21,6 +21,14 @@ PlanSeriesComposes = (p : Plan) (h n m : ℕ) (first next start results₁ end�
     → Composes (p .«output_count») h n m (planSeriesResults p h n first start results₁ end₁)
     (planSeriesResults p h m next left results₂ end₂) (planSeriesEnd p h m next left results₂ end₂)
     (planSeriesResults p h (n + m) (first ++ next) start results₃ end₃) (planSeriesEnd p h (n + m) (first ++ next) start results₃ end₃)
+
+-- where the whole is not refused and both parts have room, neither part is
+abbrev pub PlanSeriesSplits : Type 0
+PlanSeriesSplits = (p : Plan) (h n m : ℕ) (first next start results₁ end₁ : List ℕ) (results₂ end₂ results₃ end₃ : ℕ)
+    → length first ≡ n * (p .inputs - h) → n * p .«output_count» ≤ length results₁ → h ≤ length end₁ → m * p .«output_count» ≤ results₂ → h ≤ end₂
+    → planSeriesFault p h (n + m) (first ++ next) start results₃ end₃ ≡ 0
+    → (planSeriesFault p h n first start (length results₁) (length end₁) ≡ 0)
+    × (planSeriesFault p h m next (take h (planSeriesEnd p h n first start results₁ end₁)) results₂ end₂ ≡ 0)
 
 -- one interval with nothing held is evaluation, refused or not, and leaves the end state's buffer as it was
 pub record PlanSeriesSingle (p : Plan) (row result end : List ℕ) : Type 0 where

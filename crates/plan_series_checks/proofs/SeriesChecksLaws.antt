@@ -34,6 +34,10 @@ hold-faultless u v h n = simp (and-then-zero, unless-zero, leb-iff) (
   λ w. (w .inputs, (w .outputs, w .intervals)),
 )
 
+-- nor with fewer intervals
+pub hold-fewer : {u v h k : ℕ} (n : ℕ) → HoldWithin u v h k → n ≤ k → HoldWithin u v h n
+hold-fewer n w l = record { inputs = w .inputs; outputs = w .outputs; intervals = (let m = w .intervals in omega arith) }
+
 -- nor 12, nor 11
 pub series-faultless : (u v h n : ℕ) (fresh start : List ℕ) (results end : ℕ)
     → (seriesFault u v h n fresh start results end ≡ 0) ↔ SeriesWithin u v h n fresh start results end
@@ -50,6 +54,17 @@ contact-faultless u row = (
   λ e. record { size = row-length u row e; bit = row-bit u row e },
   λ c. simp (and-then-zero, first-of-zero, unless-zero) (eq-eqb (length row) u (c .size), λ i l. le-leb (getD row i 0) 1 (c .bit i)),
 )
+
+-- fresh rows and a start state of contacts pass where the hold count, the intervals and the buffers do
+pub series-passes : {u v h n : ℕ} {fresh start : List ℕ} (results end : ℕ) → HoldWithin u v h n → Contacts (n * (u - h)) fresh → Contacts h start
+    → n * v ≤ results → h ≤ end → seriesFault u v h n fresh start results end ≡ 0
+series-passes {u} {v} {h} {n} {fresh} {start} results end hold rows state r e = series-faultless u v h n fresh start results end .1 (record {
+  hold = hold;
+  freshRows = contact-faultless (n * (u - h)) fresh .1 rows;
+  startState = contact-faultless h start .1 state;
+  rowsRoom = r;
+  stateRoom = e;
+})
 
 -- a check that never fails leaves the answer as it is
 then-none : (a : ℕ) → andThen a 0 ≡ a

@@ -1,5 +1,5 @@
 -- Laws of a series over any step: composition, equal steps, how long states and output rows are, and an interval more on lent buffers.
-use mathlib.Core.Path.{_≡_, refl, sym, ap, ap₂, _∙_}
+use mathlib.Core.Path.{_≡_, refl, sym, ap, ap₂, subst, _∙_}
 use mathlib.Core.List.{List, [], _++_, append-assoc, append-nil}
 use Prim.Native.Nat.{ℕ, zero, suc, _+_, _-_, _*_, _≤_, _<_}
 use native.Mathlib.Nat.{add-zero, add-suc}
@@ -7,7 +7,7 @@ use native.Mathlib.Numerals.{add-one}
 use native.Mathlib.Omega.{arith}
 use native.Mathlib.Decide.{decLt}
 use lib.ListN.{length, getD, take, drop, length-append, length-take, length-drop, drop-of-length-le, List·getD-append, List·getD-eq-default}
-use lib.Seq.{sets, take-append-le, drop-append-le, drop-append-add, take-all, take-at, getD-append-add, getD-take, getD-drop, length-take-le}
+use lib.Seq.{sets, take-append-le, drop-append-le, drop-append-add, take-all, take-at, drop-at, getD-append-add, getD-take, getD-drop, length-take-le}
 use Rattle.fault.specs.Buffers.{over}
 use Rattle.fault.proofs.PartsLaws.{length-over, over-again}
 use Rattle.series.specs.Series.{lastOf, freshRow, stateAfter, intervalRow, seriesRows, ofLast}
@@ -227,6 +227,30 @@ module _ {step : List ℕ → List ℕ} {f h v n : ℕ} {fresh start end₀ : Li
   series-last now =
       now .state ∙ ap (over (stateAfter step f h fresh start n)) started
       ∙ over-again (stateAfter step f h fresh start n) start older (state-contacts series n (omega arith) .size ∙ sym (series .state .size))
+
+-- ---- a series in two parts: both are series of contacts, the second from the state that the first leaves
+
+module _ {step : List ℕ → List ℕ} {f h v : ℕ} (n m : ℕ) (first next start : List ℕ) (both : ContactSeries step f h v (n + m) (first ++ next) start)
+    (size : length first ≡ n * f) where
+  long : length next ≡ m * f
+  long = let all = both .rows .size in omega (arith, length-append first next)
+
+  pub first-part : ContactSeries step f h v n first start
+  first-part = record {
+    gives = both .gives;
+    held = both .held;
+    rows = subst (Contacts (n * f)) (take-at first next (n * f) size) (contacts-part 0 (n * f) (both .rows) (omega arith));
+    state = both .state;
+  }
+
+  pub next-part : ContactSeries step f h v m next (stateAfter step f h first start n)
+  next-part = record {
+    gives = both .gives;
+    held = both .held;
+    rows = subst (Contacts (m * f)) (ap (take (m * f)) (drop-at first next (n * f) size) ∙ take-all (m * f) next (omega (arith, long)))
+        (contacts-part (n * f) (m * f) (both .rows) (omega arith));
+    state = state-contacts first-part n (omega arith);
+  }
 
 -- ---- composition on lent buffers: the first call's end state is the second's start state
 
