@@ -10,7 +10,7 @@ use mathlib.Core.List.{List}
 use borrow.Author.Tests.{eqb-true, eq-eqb, le-leb, lt-leb, leb-true}
 use lib.ListN.{length}
 use Rattle.fault.specs.declared.Fault.{Fault}
-use Rattle.fault.specs.declared.Fault.the-variants.{Stub, Inputs, Gates, Outputs, Cut, Map, Operand, Table, Source, Tail, Short, Contact, Fabric, Program, Ring, Hold}
+use Rattle.fault.specs.declared.Fault.the-variants.{Stub, Inputs, Gates, Outputs, Cut, Map, Operand, Table, Source, Tail, Short, Contact, Fabric, Program, Ring, Hold, Tally, Place}
 use Rattle.fault.specs.declared.Answer.{Answer}
 use Rattle.fault.specs.Number.{faultNumber, answerNumber}
 use Rattle.fault.specs.Checks.{unless, andThen, firstOf, roomFault, listFault}
@@ -34,6 +34,8 @@ number-positive = elim [
   | Program ↦ lit≤ tt
   | Ring ↦ lit≤ tt
   | Hold ↦ lit≤ tt
+  | Tally ↦ lit≤ tt
+  | Place ↦ lit≤ tt
 ]
 
 -- tests as orders

@@ -1,7 +1,7 @@
 -- The numbers of the refusal table.
 use Prim.Native.Nat.{ℕ}
 use Rattle.fault.specs.declared.Fault.{Fault}
-use Rattle.fault.specs.declared.Fault.the-variants.{Stub, Inputs, Gates, Outputs, Cut, Map, Operand, Table, Source, Tail, Short, Contact, Fabric, Program, Ring, Hold}
+use Rattle.fault.specs.declared.Fault.the-variants.{Stub, Inputs, Gates, Outputs, Cut, Map, Operand, Table, Source, Tail, Short, Contact, Fabric, Program, Ring, Hold, Tally, Place}
 use Rattle.fault.specs.declared.Answer.{Answer}
 
 -- the number of a word
@@ -22,6 +22,8 @@ faultNumber Fabric = 13
 faultNumber Program = 14
 faultNumber Ring = 15
 faultNumber Hold = 16
+faultNumber Tally = 17
+faultNumber Place = 18
 
 -- 0 is no number of the table: the call was done
 abbrev pub answerNumber : Answer → ℕ

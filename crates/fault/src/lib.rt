@@ -38,6 +38,10 @@ pub enum Fault {
     Ring,
     // A hold count above the inputs or the outputs, or too many intervals.
     Hold,
+    // K, or the uses of a wire, that a plan holds and that are not the counted ones.
+    Tally,
+    // A gate or an output that a plan lacks and an edit names.
+    Place,
 }
 
 // A fault of a file, and the byte offset where the faulty field begins or would begin.
@@ -74,6 +78,8 @@ impl Fault {
             Fault::Program => 14,
             Fault::Ring => 15,
             Fault::Hold => 16,
+            Fault::Tally => 17,
+            Fault::Place => 18,
         }
     }
 }

@@ -1,4 +1,4 @@
--- Counting the numbers that pass a test, and finding the n-th of them.
+-- Counting the numbers that pass a test, finding the n-th of them, and sums.
 use Prim.Native.Nat.{ℕ, zero, suc, _+_}
 use mathlib.Core.Bool.{Bool, cond, _&&_}
 use lib.Dec.{eqb}
@@ -16,3 +16,8 @@ countOf test (suc n) = countOf test n + oneIf (test n)
 unfoldable pub nthOf : (ℕ → Bool) → ℕ → ℕ → ℕ
 nthOf test zero r = 0
 nthOf test (suc n) r = cond (test n && eqb (countOf test n) r) n (nthOf test n r)
+
+-- f 0 to f (n - 1), added up
+unfoldable pub sumOf : (ℕ → ℕ) → ℕ → ℕ
+sumOf f zero = 0
+sumOf f (suc n) = sumOf f n + f n

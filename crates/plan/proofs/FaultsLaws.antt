@@ -1,16 +1,32 @@
--- A plan is accepted exactly if its counts, each of its gates and each of its outputs are allowed: each check of the plan's faults is
--- replaced by what it tests. Then that as bounds, both ways.
-use mathlib.Core.Path.{_≡_}
+-- A plan is accepted exactly if its counts, each of its gates and each of its outputs are allowed and its figures are the counted ones: each check of the
+-- plan's faults is replaced by what it tests. Then that as bounds, both ways.
+use mathlib.Core.Path.{_≡_, refl, sym, ap, ap₂, _∙_}
 use mathlib.Core.Logic.{_↔_}
-use mathlib.Core.Bool.{true}
-use Prim.Native.Nat.{ℕ, _<_}
+use mathlib.Core.Bool.{Bool, true, not}
+use Prim.Native.Nat.{ℕ, zero, suc, _+_, _<_, _≤_}
 use native.Mathlib.Omega.{arith}
-use Rattle.fault.proofs.ChecksLaws.{unless-zero, and-then-zero, first-of-zero}
+use mathlib.Core.List.{List}
+use lib.ListN.{getD}
+use lib.Dec.{eqb}
+use native.Mathlib.Decide.{ℕ-discrete}
+use mathlib.Core.Logic.{inl, inr}
+use borrow.Author.Tests.{eq-eqb, ne-eqb}
+use Rattle.lists.specs.Counting.{oneIf, countOf}
+use Rattle.lists.proofs.CountingLaws.{passed}
+use Rattle.fault.specs.declared.Fault.{Fault}
+use Rattle.fault.specs.Number.{faultNumber}
+use Rattle.fault.specs.Checks.{unless, andThen, firstOf}
+use Rattle.fault.proofs.ChecksLaws.{number-positive, eqb-iff, unless-zero, and-then-zero, first-of-zero, fails, stop}
+use Rattle.lists.proofs.ListsLaws.{getD-listOf}
+use Rattle.powers.specs.Powers.{ceilPower}
 use Rattle.plan.specs.declared.record.Gate.{Gate}
 use Rattle.plan.specs.declared.record.Plan.{Plan}
-use Rattle.plan.specs.Record.{maxInputs, maxGates, maxOutputs, gateAt, outputAt, gateWire}
+use Rattle.plan.specs.declared.record.PlanWire.{PlanWire}
+use Rattle.plan.specs.Record.{maxInputs, maxGates, maxOutputs, maxWires, wire, zeroGate, gateAt, outputAt, gateWire, usesOf, countedUses, planOf}
 use Rattle.plan.specs.Rules.{countAllowed, operandAllowed, tableAllowed, sourceAllowed}
-use Rattle.plan.specs.Faults.{countsFault, gateFault, outputFault, planFault, Accepted, CountsWithin, GateWithin, OutputWithin, PlanWithin}
+use Rattle.plan.specs.Faults.{countsFault, gateFault, outputFault, figuresFault, tallyFault, planFault, Accepted, CountsWithin, GateWithin, OutputWithin, PlanWithin, Tallied}
+use Rattle.plan.proofs.RecordLaws.{getD-places}
+use Rattle.plan.proofs.UsesLaws.{uses-same}
 use Rattle.plan.proofs.RulesLaws.{count-bounds, operand-bounds, table-bound, source-bounds}
 
 -- the gate whose own wire is `own` has allowed operands and an allowed table
@@ -26,6 +42,7 @@ pub record AllowedPlan (p : Plan) : Type 0 where
   pub outputs : countAllowed maxOutputs (p .«output_count») ≡ true
   pub gate : (i : ℕ) → i < p .«gate_count» → AllowedGate (gateWire (p .inputs) i) (gateAt p i)
   pub output : (j : ℕ) → j < p .«output_count» → sourceAllowed (p .inputs) (p .«gate_count») (outputAt p j .0) ≡ true
+  pub tallied : Tallied p
 
 -- a gate gives no fault exactly if it is allowed
 gate-faultless : (own : ℕ) (g : Gate) → (gateFault own g ≡ 0) ↔ AllowedGate own g
@@ -34,14 +51,74 @@ gate-faultless own g =
     simp (and-then-zero, unless-zero)
     (λ h. record { first = h .0; second = h .1 .0; table = h .1 .1 }, λ a. (a .first, (a .second, a .table)))
 
+-- figures give no fault exactly if they are the counted ones
+figures-faultless : (u k stored : ℕ) (uses : List ℕ) (counted : ℕ → ℕ)
+    → (figuresFault u k stored uses counted ≡ 0) ↔ ((stored ≡ ceilPower k) × ((i : ℕ) → i < u + k → getD uses i 0 ≡ counted i))
+unfolding figuresFault
+figures-faultless u k stored uses counted = simp (and-then-zero, unless-zero, first-of-zero, eqb-iff) (λ h. h, λ h. h)
+
+-- equal checks have an equal first failing one
+pub firstOf-same : (f g : ℕ → ℕ) (n : ℕ) → ((i : ℕ) → i < n → f i ≡ g i) → firstOf f n ≡ firstOf g n
+unfolding firstOf
+firstOf-same f g zero h = refl
+firstOf-same f g (suc n) h = ap₂ andThen (firstOf-same f g n (λ i l. h i (omega arith))) (h n (omega arith))
+
+-- tests that are made in order and give one fault give it where one of them fails
+first-counted : (test : ℕ → Bool) (f : Fault) (n : ℕ) → firstOf (λ i. unless (test i) f) n ≡ unless (eqb (countOf (λ i. not (test i)) n) 0) f
+unfolding firstOf countOf
+first-counted test f zero = refl
+first-counted test f (suc n) =
+    ap (λ a. andThen a (unless (test n) f)) (first-counted test f n) ∙ elim (ℕ-discrete (countOf (λ i. not (test i)) n) 0) [
+      | yes e ↦ rw e (elim (passed (test n)) [ inl t ↦ rw t | inr t ↦ rw t ])
+      | no d ↦
+          let here = ne-eqb (countOf (λ i. not (test i)) n) 0 d in
+          let more = ne-eqb (countOf (λ i. not (test i)) n + oneIf (not (test n))) 0 (λ e. absurd (d (omega arith))) in
+          rw (here, more) (fails (faultNumber f) (unless (test n) f) (number-positive f))
+    ]
+
+-- K is not the counted one; K is, and so many uses are not
+pub places-fault : (u k stored : ℕ) (uses : List ℕ) (counted : ℕ → ℕ) → (ceilPower k ≡ stored → ⊥)
+    → faultNumber Fault.Tally ≡ figuresFault u k stored uses counted
+unfolding figuresFault
+places-fault u k stored uses counted d = stop {a = unless (eqb stored (ceilPower k)) Fault.Tally} Fault.Tally _ (rw (ne-eqb stored (ceilPower k) (λ e. d (sym e))))
+
+pub uses-fault : (u k stored : ℕ) (uses : List ℕ) (counted : ℕ → ℕ) → ceilPower k ≡ stored
+    → unless (eqb (countOf (λ i. not (eqb (getD uses i 0) (counted i))) (u + k)) 0) Fault.Tally ≡ figuresFault u k stored uses counted
+unfolding figuresFault
+uses-fault u k stored uses counted e =
+    rw (eq-eqb stored (ceilPower k) (sym e)) (sym (first-counted (λ i. eqb (getD uses i 0) (counted i)) Fault.Tally (u + k)))
+
+-- uses that are counted otherwise, and alike
+pub figures-same : (u k stored : ℕ) (uses : List ℕ) (counted others : ℕ → ℕ) → ((i : ℕ) → i < u + k → counted i ≡ others i)
+    → figuresFault u k stored uses counted ≡ figuresFault u k stored uses others
+unfolding figuresFault
+figures-same u k stored uses counted others e =
+    ap (andThen (unless (eqb stored (ceilPower k)) Fault.Tally))
+    (firstOf-same _ _ (u + k) (λ i l. ap (λ n. unless (eqb (getD uses i 0) n) Fault.Tally) (e i l)))
+
+pub tally-faultless : (p : Plan) → (tallyFault p ≡ 0) ↔ Tallied p
+tally-faultless p = (
+  λ e. let h = figures-faultless _ _ _ (p .uses) (countedUses p) .0 e in record { places = h .0; uses = h .1 },
+  λ t. figures-faultless _ _ _ (p .uses) (countedUses p) .1 (t .places, t .uses),
+)
+
 -- a plan is accepted exactly if every part of it is allowed
 pub accepted-allowed : (p : Plan) → Accepted p ↔ AllowedPlan p
 unfolding planFault countsFault outputFault
 accepted-allowed p =
-    simp (and-then-zero, unless-zero, first-of-zero, gate-faultless) (
-      λ h. record { inputs = h .0 .0; gates = h .0 .1 .0; outputs = h .0 .1 .1; gate = h .1 .0; output = h .1 .1 },
-      λ a. ((a .inputs, (a .gates, a .outputs)), (a .gate, a .output)),
+    simp (and-then-zero, unless-zero, first-of-zero, gate-faultless, tally-faultless) (
+      λ h. record { inputs = h .0 .0; gates = h .0 .1 .0; outputs = h .0 .1 .1; gate = h .1 .0; output = h .1 .1 .0; tallied = h .1 .1 .1 },
+      λ a. ((a .inputs, (a .gates, a .outputs)), (a .gate, (a .output, a .tallied))),
     )
+
+-- the record of counts, gates and outputs holds its figures
+pub tallied-of : (u k v : ℕ) (gs : List Gate) (os : List PlanWire) → u + k ≤ maxWires → Tallied (planOf u k v gs os)
+tallied-of u k v gs os few = record {
+  places = refl;
+  uses = λ i l.
+      getD-listOf maxWires (λ i. usesOf k v gs os (suc i)) i 0 (omega arith)
+      ∙ sym (uses-same k v _ gs _ os (suc i) (λ j _. getD-places maxGates zeroGate gs j) (λ j _. getD-places maxOutputs (wire 0) os j));
+}
 
 -- allowed counts are within their limits
 pub counts-in : (u k v : ℕ) → countAllowed maxInputs u ≡ true → countAllowed maxGates k ≡ true → countAllowed maxOutputs v ≡ true
@@ -79,6 +156,10 @@ module _ (p : Plan) (accepted : Accepted p) where
       let (low, high) = source-bounds _ _ _ .0 (allowed .output j h) in
       record { above = omega arith; upTo = high }
 
+  -- its figures
+  pub accepted-tallied : Tallied p
+  accepted-tallied = allowed .tallied
+
 -- a gate within its bounds is allowed
 gate-allowed : (own : ℕ) (g : Gate) → GateWithin own g → AllowedGate own g
 gate-allowed own g w = record {
@@ -87,15 +168,16 @@ gate-allowed own g w = record {
   table = table-bound (g .table) .1 (w .table);
 }
 
--- a plan is accepted exactly if it is within its bounds
-pub accepted-bounds : (p : Plan) → Accepted p ↔ PlanWithin p
+-- a plan is accepted exactly if it is within its bounds and its figures are the counted ones
+pub accepted-bounds : (p : Plan) → Accepted p ↔ (PlanWithin p × Tallied p)
 accepted-bounds p = (
-  λ a. record { counts = accepted-counts p a; gate = accepted-gate p a; output = accepted-output p a },
-  λ w. let c = w .counts in accepted-allowed p .1 (record {
+  λ a. (record { counts = accepted-counts p a; gate = accepted-gate p a; output = accepted-output p a }, accepted-tallied p a),
+  λ (w, t). let c = w .counts in accepted-allowed p .1 (record {
     inputs = count-bounds maxInputs (p .inputs) .1 (c .someInputs, c .inputs);
     gates = count-bounds maxGates (p .«gate_count») .1 (c .someGates, c .gates);
     outputs = count-bounds maxOutputs (p .«output_count») .1 (c .someOutputs, c .outputs);
     gate = λ i h. gate-allowed (gateWire (p .inputs) i) (gateAt p i) (w .gate i h);
     output = λ j h. source-bounds (p .inputs) (p .«gate_count») (outputAt p j .0) .1 (omega (arith, w .output j h .above), w .output j h .upTo);
+    tallied = t;
   }),
 )

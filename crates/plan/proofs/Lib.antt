@@ -3,7 +3,11 @@
 pub mod RecordLaws
 -- the rules as orders between numbers
 pub mod RulesLaws
--- a plan is accepted exactly if each of its parts is allowed
+-- uses: one gate or output more, equal gates and outputs; counting them in an array
+pub mod UsesLaws
+-- a plan is accepted exactly if each of its parts is allowed and its figures are the counted ones
 pub mod FaultsLaws
 -- unused places never matter
 pub mod AgreeLaws
+-- 17 exactly, and that the uses add up
+pub mod TallyLaws

@@ -1,12 +1,13 @@
 -- The rules as orders between numbers.
 use mathlib.Core.Path.{_≡_}
-use mathlib.Core.Logic.{_↔_}
+use mathlib.Core.Logic.{_↔_, inl, inr}
 use mathlib.Core.Bool.{Bool, true, false, _&&_, and-eq-true-iff}
 use Prim.Native.Nat.{ℕ, _+_, _-_, _<_, _≤_}
 use native.Mathlib.Omega.{arith}
 use native.Mathlib.Decide.{decLe}
 use borrow.Author.Tests.{le-leb, lt-leb, lt-ltb, leb-true, ltb-true}
 use lib.Dec.{leb, ltb}
+use Rattle.lists.proofs.CountingLaws.{passed}
 use Rattle.plan.specs.Rules.{countAllowed, maxMap, mapAllowed, operandAllowed, maxTable, tableAllowed, sourceAllowed}
 
 -- two tests that both pass
@@ -24,6 +25,13 @@ below a b = (ltb-true a b, lt-ltb a b)
 pub count-bounds : (limit n : ℕ) → (countAllowed limit n ≡ true) ↔ ((1 ≤ n) × (n ≤ limit))
 unfolding countAllowed
 count-bounds limit n = both-bounds (at-most 1 n) (at-most n limit)
+
+-- a count that is not within its limit
+pub count-out : (limit n : ℕ) → (1 ≤ n → n ≤ limit → ⊥) → countAllowed limit n ≡ false
+count-out limit n out = elim (passed (countAllowed limit n)) [
+  | inl t ↦ let (some, few) = count-bounds limit n .0 t in absurd (out some few)
+  | inr f ↦ f
+]
 
 pub map-bound : (m : ℕ) → (mapAllowed m ≡ true) ↔ (m ≤ maxMap)
 unfolding mapAllowed

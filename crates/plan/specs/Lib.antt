@@ -5,3 +5,7 @@ pub mod Record
 pub mod Rules
 -- the faults of a plan in memory, and when it is accepted
 pub mod Faults
+-- what is proved of its figures
+pub mod TallyTheorems
+-- counting uses in an array
+pub mod Counting

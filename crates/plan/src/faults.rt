@@ -1,11 +1,7 @@
 // Plan faults: for any record in memory `plan_fault` says, with proof, whether it is an accepted plan. Unused places are not looked at.
 ghost use mathlib.Core.Path.{_≡_};
-ghost use Prim.Native.Nat.{_≤_};
-ghost use lib.ListN.{getD};
 ghost use Rattle.fault.specs.Number.{answerNumber};
-ghost use Rattle.fault.specs.Checks.{firstOf};
-ghost use Rattle.plan.specs.Record.{maxOutputs, wire};
-ghost use Rattle.plan.specs.Faults.{countsFault, gateFault, outputFault, gatesFault, planFault, CountsWithin};
+ghost use Rattle.plan.specs.Faults.{countsFault, gateFault, planFault};
 use crate::record::Gate;
 use crate::record::Plan;
 use crate::record::PlanWire;
@@ -14,10 +10,14 @@ use crate::rules::count_allowed;
 use crate::rules::operand_allowed;
 use crate::rules::source_allowed;
 use crate::rules::table_allowed;
+use crate::uses::count_operands;
+use crate::uses::count_use;
+use crate::uses::tally_fault;
 use fault::Answer;
 use fault::Fault;
 
-// The first plan fault: the counts, then gate by gate, then output by output.
+// The first plan fault: the counts, then gate by gate, then output by output, whose uses are counted on the way, then the figures. One function, because each
+// call that hands a record or its gates on copies them.
 pub fn plan_fault(plan: Plan) -> Answer
     ensures { λ r. ⌜ answerNumber r ≡ planFault plan ⌝ }
 {
@@ -27,13 +27,35 @@ pub fn plan_fault(plan: Plan) -> Answer
         plan.output_count as u32,
     ) {
         Answer::Refused(f) => Answer::Refused(f),
-        Answer::Done => match gates_fault(plan) {
-            Answer::Refused(f) => Answer::Refused(f),
-            Answer::Done => {
-                let outputs = plan.outputs;
-                outputs_fault(plan.inputs, plan.gate_count, plan.output_count, outputs)
+        Answer::Done => {
+            let inputs = plan.inputs;
+            let gates = plan.gate_count;
+            let gate_count = gates as usize;
+            let output_count = plan.output_count as usize;
+            let mut counted = [0u16; Plan::MAX_WIRES];
+            let mut i: usize = 0;
+            while i < gate_count {
+                let gate = plan.gates[i];
+                match gate_fault(gate_wire(inputs, i), gate) {
+                    Answer::Refused(f) => {
+                        return Answer::Refused(f);
+                    }
+                    Answer::Done => {}
+                }
+                count_operands(gate, &mut counted);
+                i += 1;
             }
-        },
+            let mut j: usize = 0;
+            while j < output_count {
+                let wire = plan.outputs[j];
+                if !source_allowed(inputs, gates, wire) {
+                    return Answer::Refused(Fault::Source);
+                }
+                count_use(wire, &mut counted);
+                j += 1;
+            }
+            tally_fault(inputs, gates, plan.gate_places, &plan.uses, &counted)
+        }
     }
 }
 
@@ -53,27 +75,6 @@ pub fn counts_fault(inputs: u32, gates: u32, outputs: u32) -> Answer
     Answer::Done
 }
 
-// The first fault of the gates.
-fn gates_fault(plan: Plan) -> Answer
-    requires { ⌜ CountsWithin (plan .inputs) (plan .«gate_count») (plan .«output_count») ⌝ }
-    ensures { λ r. ⌜ answerNumber r ≡ gatesFault plan (plan .«gate_count») ⌝ }
-{
-    let inputs = plan.inputs;
-    let count = plan.gate_count as usize;
-    let mut i: usize = 0;
-    while i < count {
-        let gate = plan.gates[i];
-        match gate_fault(gate_wire(inputs, i), gate) {
-            Answer::Refused(f) => {
-                return Answer::Refused(f);
-            }
-            Answer::Done => {}
-        }
-        i += 1;
-    }
-    Answer::Done
-}
-
 // The fault of a gate whose own wire is own.
 fn gate_fault(own: PlanWire, gate: Gate) -> Answer
     ensures { λ r. ⌜ answerNumber r ≡ gateFault (own .0) gate ⌝ }
@@ -86,29 +87,6 @@ fn gate_fault(own: PlanWire, gate: Gate) -> Answer
     }
     if !table_allowed(gate.table) {
         return Answer::Refused(Fault::Table);
-    }
-    Answer::Done
-}
-
-// The first fault of the first count outputs of a plan with these numbers of inputs and gates. It takes the outputs alone: they are a small
-// part of the record.
-fn outputs_fault(
-    inputs: u16,
-    gates: u16,
-    count: u16,
-    outputs: [PlanWire; Plan::MAX_OUTPUTS],
-) -> Answer
-    requires { ⌜ count ≤ maxOutputs ⌝ }
-    ensures { λ r. ⌜ answerNumber r ≡ firstOf (λ j. outputFault inputs gates (getD outputs j (wire 0) .0)) count ⌝ }
-{
-    let end = count as usize;
-    let mut i: usize = 0;
-    while i < end {
-        let wire = outputs[i];
-        if !source_allowed(inputs, gates, wire) {
-            return Answer::Refused(Fault::Source);
-        }
-        i += 1;
     }
     Answer::Done
 }

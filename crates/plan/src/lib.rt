@@ -3,6 +3,7 @@
 mod faults;
 mod record;
 mod rules;
+mod uses;
 
 pub use faults::counts_fault;
 pub use faults::plan_fault;
@@ -14,3 +15,5 @@ pub use rules::count_allowed;
 pub use rules::map_allowed;
 pub use rules::operand_allowed;
 pub use rules::source_allowed;
+pub use uses::count_operands;
+pub use uses::count_use;

@@ -19,7 +19,8 @@ pub struct Gate {
     pub table: u16,
 }
 
-// A plan with places for every gate and output it may have; those past its counts are unused.
+// A plan with places for every gate and output it may have, and its figures: K, and for each wire, wire w at place w - 1, how many operand places and
+// outputs name it. Places past its counts, and past its wires, are unused.
 #[repr(C)]
 pub struct Plan {
     pub inputs: u16,
@@ -27,6 +28,8 @@ pub struct Plan {
     pub output_count: u16,
     pub gates: [Gate; Plan::MAX_GATES],
     pub outputs: [PlanWire; Plan::MAX_OUTPUTS],
+    pub gate_places: u16,
+    pub uses: [u16; Plan::MAX_WIRES],
 }
 
 impl Gate {
@@ -44,7 +47,10 @@ impl Plan {
     // The most outputs that a plan may have: its record has a place for each.
     pub const MAX_OUTPUTS: usize = 64;
 
-    // The record with every count and every place zero.
+    // The most wires that a plan may have: its record has a place for the uses of each.
+    pub const MAX_WIRES: usize = Plan::MAX_INPUTS + Plan::MAX_GATES;
+
+    // The record with every count, every place and every figure zero.
     pub fn zero() -> Self
         ensures { λ r. ⌜ r ≡ zeroPlan ⌝ }
     {
@@ -60,6 +66,8 @@ impl Plan {
             output_count: 0,
             gates: [gate; Plan::MAX_GATES],
             outputs: [none; Plan::MAX_OUTPUTS],
+            gate_places: 0,
+            uses: [0; Plan::MAX_WIRES],
         }
     }
 }

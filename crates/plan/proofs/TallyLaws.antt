@@ -1,0 +1,1 @@
+-- The theorems of a plan's figures.

@@ -1,0 +1,146 @@
+-- Laws of uses: one gate or one output more; equal gates and outputs; a wire that nothing names; and counting them in an array.
+use mathlib.Core.Path.{_≡_, refl, sym, ap, ap₂, _∙_}
+use mathlib.Core.Logic.{inl, inr}
+use mathlib.Core.Bool.{Bool, false}
+use mathlib.Core.List.{List}
+use Prim.Native.Nat.{ℕ, zero, suc, _+_, _-_, _*_, _%_, _<_, _≤_}
+use native.Mathlib.Nat.{mod-eq-of-lt}
+use native.Mathlib.Omega.{arith}
+use native.Mathlib.Decide.{ℕ-discrete}
+use borrow.Author.Tests.{eq-eqb, ne-eqb}
+use lib.Dec.{eqb}
+use lib.ListN.{length, getD, set, replicate, length-set, length-replicate, getD-replicate}
+use lib.Seq.{getD-set-same, getD-set-other, ext-getD}
+use Rattle.lists.specs.Lists.{listOf}
+use Rattle.lists.specs.Counting.{oneIf, countOf}
+use Rattle.lists.proofs.ListsLaws.{length-listOf, getD-listOf}
+use Rattle.lists.proofs.CountingLaws.{passed, both-ways, count-le, count-ext, one-lt}
+use Rattle.plan.specs.declared.record.Gate.{Gate}
+use Rattle.plan.specs.declared.record.PlanWire.{PlanWire}
+use Rattle.plan.specs.Record.{wordNumbers, maxGates, maxOutputs, maxWires, wire, zeroGate, usesOf}
+use Rattle.plan.specs.Rules.{countAllowed}
+use Rattle.plan.specs.Counting.{withUse, withGate, UsesCounted}
+use Rattle.plan.proofs.RulesLaws.{count-bounds}
+
+-- whether a gate's operand, or an output, names wire w
+abbrev first-names : List Gate → ℕ → ℕ → Bool
+first-names gs w i = eqb (getD gs i zeroGate .first .0) w
+
+abbrev second-names : List Gate → ℕ → ℕ → Bool
+second-names gs w i = eqb (getD gs i zeroGate .second .0) w
+
+abbrev output-names : List PlanWire → ℕ → ℕ → Bool
+output-names os w j = eqb (getD os j (wire 0) .0) w
+
+-- ---- uses
+
+module _ (gs : List Gate) (os : List PlanWire) (w : ℕ) where
+  -- by one gate more, by one output more
+  pub uses-gate : (k v : ℕ) → usesOf (suc k) v gs os w ≡ usesOf k v gs os w + oneIf (first-names gs w k) + oneIf (second-names gs w k)
+  unfolding usesOf countOf
+  uses-gate k v = omega arith
+
+  pub uses-output : (k v : ℕ) → usesOf k (suc v) gs os w ≡ usesOf k v gs os w + oneIf (output-names os w v)
+  unfolding usesOf countOf
+  uses-output k v = omega arith
+
+  -- no more than there are operand places and outputs
+  pub uses-le : (k v : ℕ) → usesOf k v gs os w ≤ 2 * k + v
+  unfolding usesOf
+  uses-le k v = omega (arith, count-le (first-names gs w) k, count-le (second-names gs w) k, count-le (output-names os w) v)
+
+-- gates and outputs that are equal up to their counts
+pub uses-same : (k v : ℕ) (gs hs : List Gate) (os ps : List PlanWire) (w : ℕ) → ((i : ℕ) → i < k → getD gs i zeroGate ≡ getD hs i zeroGate)
+    → ((j : ℕ) → j < v → getD os j (wire 0) ≡ getD ps j (wire 0)) → usesOf k v gs os w ≡ usesOf k v hs ps w
+unfolding usesOf
+uses-same k v gs hs os ps w gates outputs =
+    let a = count-ext (first-names gs w) (first-names hs w) k (λ i l. ap (λ g. eqb (g .first .0) w) (gates i l)) in
+    let b = count-ext (second-names gs w) (second-names hs w) k (λ i l. ap (λ g. eqb (g .second .0) w) (gates i l)) in
+    let c = count-ext (output-names os w) (output-names ps w) v (λ j l. ap (λ o. eqb (o .0) w) (outputs j l)) in
+    omega (arith, a, b, c)
+
+-- ---- counting in an array
+
+-- a wire that has a place, and one that has none
+pub use-placed : (w : ℕ) (uses : List ℕ) → 1 ≤ w → w ≤ maxWires → withUse w uses ≡ set uses (w - 1) ((getD uses (w - 1) 0 + 1) % wordNumbers)
+unfolding withUse
+use-placed w uses some few = rw (count-bounds maxWires w .1 (some, few))
+
+pub use-none : (w : ℕ) (uses : List ℕ) → countAllowed maxWires w ≡ false → withUse w uses ≡ uses
+unfolding withUse
+use-none w uses e = rw e
+
+pub length-use : (w : ℕ) (uses : List ℕ) → length (withUse w uses) ≡ length uses
+unfolding withUse
+length-use w uses = elim (passed (countAllowed maxWires w)) [
+  | inl t ↦ rw t (length-set uses (w - 1) _)
+  | inr f ↦ rw f
+]
+
+-- one use more of wire w, as far as numbers go
+pub use-at : (w : ℕ) (uses : List ℕ) (i : ℕ) → length uses ≡ maxWires → i < maxWires → getD uses i 0 + 1 < wordNumbers
+    → getD (withUse w uses) i 0 ≡ getD uses i 0 + oneIf (eqb w (suc i))
+use-at w uses i size l small = elim (passed (countAllowed maxWires w)) [
+  | inl t ↦
+      let (some, few) = count-bounds maxWires w .0 t in
+      ap (λ (m : List ℕ). getD m i 0) (use-placed w uses some few) ∙ elim (ℕ-discrete i (w - 1)) [
+        | yes e ↦
+            rw (← e, eq-eqb w (suc i) (omega arith))
+            (getD-set-same uses i ((getD uses i 0 + 1) % wordNumbers) 0 (omega arith) ∙ mod-eq-of-lt small)
+        | no f ↦
+            rw (ne-eqb w (suc i) (λ e. absurd (f (omega arith))))
+            (getD-set-other uses (w - 1) i ((getD uses (w - 1) 0 + 1) % wordNumbers) 0 f ∙ omega arith)
+      ]
+  | inr n ↦
+      rw (use-none w uses n, ne-eqb w (suc i) (λ e. both-ways (count-bounds maxWires w .1 (omega arith, omega arith)) n)) (omega arith)
+]
+
+-- nothing is counted
+pub none-counted : (gs : List Gate) (os : List PlanWire) → UsesCounted 0 0 gs os (replicate maxWires 0)
+unfolding usesOf countOf
+none-counted gs os = record { all = length-replicate {A = ℕ} maxWires 0; each = λ i l. getD-replicate maxWires i 0 0 l }
+
+module _ {k v : ℕ} {gs : List Gate} {os : List PlanWire} {uses : List ℕ} (counted : UsesCounted k v gs os uses) where
+  -- the same gates and outputs up to the counts
+  pub counted-same : {hs : List Gate} {ps : List PlanWire} → ((i : ℕ) → i < k → getD gs i zeroGate ≡ getD hs i zeroGate)
+      → ((j : ℕ) → j < v → getD os j (wire 0) ≡ getD ps j (wire 0)) → UsesCounted k v hs ps uses
+  counted-same {hs} {ps} gates outputs = record {
+    all = counted .all;
+    each = λ i l. counted .each i l ∙ uses-same k v gs hs os ps (suc i) gates outputs;
+  }
+
+  module _ (few : k ≤ maxGates) (fewer : v ≤ maxOutputs) where
+    small : (i : ℕ) → i < maxWires → getD uses i 0 + 2 < wordNumbers
+    small i l = omega (arith, counted .each i l, uses-le gs os (suc i) k v)
+
+    -- a gate more
+    pub gate-counted : {g : Gate} → getD gs k zeroGate ≡ g → UsesCounted (suc k) v gs os (withGate g uses)
+    unfolding withGate
+    gate-counted {g} e = record {
+      all = length-use (g .second .0) (withUse (g .first .0) uses) ∙ length-use (g .first .0) uses ∙ counted .all;
+      each = λ i l.
+          let once : getD (withUse (g .first .0) uses) i 0 ≡ getD uses i 0 + oneIf (eqb (g .first .0) (suc i)) =
+          use-at (g .first .0) uses i (counted .all) l (omega (arith, small i l)) in
+          let one = one-lt (eqb (g .first .0) (suc i)) in
+          let twice = use-at (g .second .0) (withUse (g .first .0) uses) i (length-use (g .first .0) uses ∙ counted .all) l
+          (omega (arith, small i l, once, one)) in
+          let more = rw e at (uses-gate gs os (suc i) k v) in
+          omega (arith, once, twice, more, counted .each i l);
+    }
+
+    -- an output more
+    pub output-counted : {o : PlanWire} → getD os v (wire 0) ≡ o → UsesCounted k (suc v) gs os (withUse (o .0) uses)
+    output-counted {o} e = record {
+      all = length-use (o .0) uses ∙ counted .all;
+      each = λ i l.
+          let once = use-at (o .0) uses i (counted .all) l (omega (arith, small i l)) in
+          let more = rw e at (uses-output gs os (suc i) k v) in
+          omega (arith, once, more, counted .each i l);
+    }
+
+  -- the array is the list of all uses
+  pub counted-list : uses ≡ listOf maxWires (λ i. usesOf k v gs os (suc i))
+  counted-list =
+      ext-getD 0 uses _ (counted .all ∙ sym (length-listOf maxWires _)) λ i l.
+      let h : i < maxWires = omega (arith, counted .all) in
+      counted .each i h ∙ sym (getD-listOf maxWires (λ i. usesOf k v gs os (suc i)) i 0 h)
