@@ -7,7 +7,7 @@ use native.Mathlib.Nat.{le-refl, le-step, eq-or-lt-of-le, le-of-suc-le-suc, not-
 use native.Mathlib.Omega.{arith}
 use native.Mathlib.Decide.{decLt}
 use lib.ListN.{length, getD, set, length-append, List·getD-append, List·getD-eq-default}
-use lib.Seq.{getD-at, getD-append-add, ext-getD, sets}
+use lib.Seq.{getD-at, getD-append-add, ext-getD, getD-set-same, getD-set-other, sets, lt-length-sets}
 use Rattle.lists.specs.Lists.{listOf, Below, Every, every-none, every-more}
 
 -- an element of a list does not depend on the default
@@ -69,6 +69,35 @@ module _ {A : Type 0} where
 pub sets-append : {A : Type 0} (u v l : List A) (i : ℕ) → sets l i (u ++ v) ≡ sets (sets l i u) (i + length u) v
 sets-append [] v l i = rw add-zero
 sets-append (a ∷ u) v l i = rw (add-suc i (length u), ← suc-add i (length u)) (sets-append u v (set l i a) (suc i))
+
+-- stores of f 0 to f (n - 1) from the front on: what stands where
+module _ {A : Type 0} (l : List A) (f : ℕ → A) where
+  sets-listOf : (n : ℕ) → sets l 0 (listOf (suc n) f) ≡ set (sets l 0 (listOf n f)) n (f n)
+  unfolding listOf
+  sets-listOf n =
+      sets-append (listOf n f) (f n ∷ []) l 0 ∙ ap (λ (m : ℕ). set (sets l 0 (listOf n f)) m (f n)) (omega (arith, length-listOf n f))
+
+  pub getD-sets-past : (n i : ℕ) (d : A) → n ≤ i → getD (sets l 0 (listOf n f)) i d ≡ getD l i d
+  unfolding listOf
+  getD-sets-past zero i d h = refl
+  getD-sets-past (suc n) i d h =
+      let rec = getD-sets-past n i d (omega arith) in
+      ap (λ (m : List A). getD m i d) (sets-listOf n) ∙ getD-set-other (sets l 0 (listOf n f)) n i (f n) d (λ e. absurd (omega arith)) ∙ rec
+
+  pub getD-sets : (n i : ℕ) (d : A) → i < n → i < length l → getD (sets l 0 (listOf n f)) i d ≡ f i
+  unfolding listOf
+  getD-sets zero i d h room = absurd (not-suc-le-zero h)
+  getD-sets (suc n) i d h room = go (getD-sets n i d) (eq-or-lt-of-le (le-of-suc-le-suc h))
+    where
+      S : List A
+      S = sets l 0 (listOf n f)
+
+      go : (i < n → i < length l → getD S i d ≡ f i) → (i ≡ n) ⊎ (i < n) → getD (sets l 0 (listOf (suc n) f)) i d ≡ f i
+      go rec (inl e) =
+          ap (λ (m : List A). getD m i d) (sets-listOf n)
+          ∙ rw (← e) (getD-set-same (sets l 0 (listOf i f)) i (f i) d (lt-length-sets l 0 (listOf i f) room))
+      go rec (inr m) =
+          ap (λ (k : List A). getD k i d) (sets-listOf n) ∙ getD-set-other S n i (f n) d (λ e. absurd (omega arith)) ∙ rec m room
 
 -- ---- lists whose elements are all of a kind
 

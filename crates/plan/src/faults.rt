@@ -76,7 +76,7 @@ pub fn counts_fault(inputs: u32, gates: u32, outputs: u32) -> Answer
 }
 
 // The fault of a gate whose own wire is own.
-fn gate_fault(own: PlanWire, gate: Gate) -> Answer
+pub fn gate_fault(own: PlanWire, gate: Gate) -> Answer
     ensures { λ r. ⌜ answerNumber r ≡ gateFault (own .0) gate ⌝ }
 {
     if !operand_allowed(own, gate.first) {

@@ -6,6 +6,7 @@ mod rules;
 mod uses;
 
 pub use faults::counts_fault;
+pub use faults::gate_fault;
 pub use faults::plan_fault;
 pub use record::Gate;
 pub use record::Plan;

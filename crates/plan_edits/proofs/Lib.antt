@@ -1,0 +1,1 @@
+-- The laws of the edits, in the order in which they build on each other.
