@@ -15,6 +15,8 @@ use Rattle.lists.specs.Lists.{listOf}
 use Rattle.lists.specs.Counting.{oneIf, countOf}
 use Rattle.lists.proofs.ListsLaws.{length-listOf, getD-listOf}
 use Rattle.lists.proofs.CountingLaws.{passed, both-ways, count-le, count-ext, one-lt}
+use Rattle.powers.specs.Powers.{ceilPower}
+use Rattle.powers.proofs.PowersLaws.{smallest}
 use Rattle.plan.specs.declared.record.Gate.{Gate}
 use Rattle.plan.specs.declared.record.PlanWire.{PlanWire}
 use Rattle.plan.specs.Record.{wordNumbers, maxGates, maxOutputs, maxWires, wire, zeroGate, usesOf}
@@ -58,6 +60,10 @@ uses-same k v gs hs os ps w gates outputs =
     let b = count-ext (second-names gs w) (second-names hs w) k (λ i l. ap (λ g. eqb (g .second .0) w) (gates i l)) in
     let c = count-ext (output-names os w) (output-names ps w) v (λ j l. ap (λ o. eqb (o .0) w) (outputs j l)) in
     omega (arith, a, b, c)
+
+-- K of a plan's gates has 16 bits
+pub places-le : {k places : ℕ} → places ≡ ceilPower k → k ≤ maxGates → places ≤ maxGates
+places-le {k} e few = omega (arith, smallest k 8 few)
 
 -- ---- counting in an array
 
@@ -144,3 +150,15 @@ module _ {k v : ℕ} {gs : List Gate} {os : List PlanWire} {uses : List ℕ} (co
       ext-getD 0 uses _ (counted .all ∙ sym (length-listOf maxWires _)) λ i l.
       let h : i < maxWires = omega (arith, counted .all) in
       counted .each i h ∙ sym (getD-listOf maxWires (λ i. usesOf k v gs os (suc i)) i 0 h)
+
+-- a gate more that is stored at its place, and an output
+module _ {k v : ℕ} {gs : List Gate} {os : List PlanWire} {uses : List ℕ} (counted : UsesCounted k v gs os uses) (few : k ≤ maxGates) (fewer : v ≤ maxOutputs) where
+  pub gate-stored : (g : Gate) → k < length gs → UsesCounted (suc k) v (set gs k g) os (withGate g uses)
+  gate-stored g room =
+      gate-counted (counted-same counted {hs = set gs k g} {ps = os} (λ i l. sym (getD-set-other gs k i g zeroGate (λ e. absurd (omega arith)))) (λ j _. refl))
+      few fewer (getD-set-same gs k g zeroGate room)
+
+  pub output-stored : (o : PlanWire) → v < length os → UsesCounted k (suc v) gs (set os v o) (withUse (o .0) uses)
+  output-stored o room =
+      output-counted (counted-same counted {hs = gs} {ps = set os v o} (λ i _. refl) (λ j l. sym (getD-set-other os v j o (wire 0) (λ e. absurd (omega arith)))))
+      few fewer (getD-set-same os v o (wire 0) room)

@@ -4,16 +4,21 @@ use mathlib.Core.Path.{_≡_, refl, sym, ap, _∙_}
 use mathlib.Core.Bool.{Bool}
 use mathlib.Core.List.{List, [], _∷_, _++_}
 use Prim.Native.Nat.{ℕ, suc, _+_, _<_, _≤_}
+use native.Mathlib.Omega.{arith}
 use borrow.Author.Tests.{lt-ltb, le-ltb}
 use native.Mathlib.Numerals.{add-one}
-use lib.ListN.{length, set, length-append}
+use lib.ListN.{length, getD, set, length-append}
+use Rattle.lists.specs.Lists.{listOf}
+use Rattle.powers.specs.Powers.{ceilPower}
 use Rattle.fault.specs.declared.Fault.{Fault}
 use Rattle.fault.specs.declared.Refusal.{Refusal}
 use Rattle.plan.specs.declared.record.Gate.{Gate}
 use Rattle.plan.specs.declared.record.Plan.{Plan}
 use Rattle.plan.specs.declared.record.PlanWire.{PlanWire}
-use Rattle.plan.specs.Record.{maxGates, maxOutputs, wire, zeroGate, places, planOf, zeroPlan}
-use Rattle.plan.proofs.RecordLaws.{places-more}
+use Rattle.plan.specs.Record.{maxGates, maxOutputs, maxWires, wire, zeroGate, places, usesOf, planOf, zeroPlan}
+use Rattle.plan.specs.Counting.{UsesCounted}
+use Rattle.plan.proofs.RecordLaws.{places-more, length-places, getD-places}
+use Rattle.plan.proofs.UsesLaws.{counted-same, counted-list}
 use Rattle.plan.specs.Rules.{countAllowed}
 use Rattle.plan.proofs.RulesLaws.{count-bounds}
 use Rattle.plan_fields.specs.Parsing.{Parsed, got, refused, refuse, Step, followed, _>>=_, wordAt, inOrder}
@@ -59,22 +64,35 @@ module _ {A : Type 0} {item : ℕ → Step A} {s : List ℕ} {start n : ℕ} {no
     pub all-read : {k : ℕ} → i ≡ k → got (r .items) at ≡ inOrder item k s start
     all-read e = rw (← e) (sym (r .parsed))
 
--- the counts of a record
+-- the places are all there
+pub held-places : {A : Type 0} {item : ℕ → Step A} {s : List ℕ} {start n : ℕ} {none : A} {i : ℕ} {held : List A} {at : ℕ}
+    → ReadSoFar item s start n none i held at → i ≤ n → length held ≡ n
+held-places {n = n} {none} r h = ap length (r .placed) ∙ length-places n none (r .items) (omega (arith, r .count))
+
+-- the counts of a record, and its K
 pub record HasCounts (u k v : ℕ) (p : Plan) : Type 0 where
   pub inputs : p .inputs ≡ u
   pub gates : p .«gate_count» ≡ k
   pub outputs : p .«output_count» ≡ v
+  pub places : p .«gate_places» ≡ ceilPower k
 
--- a record is made of its counts, gates and outputs
+-- a record is made of its counts, gates and outputs, and of the uses that were counted
 pub plan-held : {u k v : ℕ} (gs : List Gate) (os : List PlanWire) {p : Plan} → HasCounts u k v p → p .gates ≡ places maxGates zeroGate gs
-    → p .outputs ≡ places maxOutputs (wire 0) os → p ≡ planOf u k v gs os
-plan-held gs os c e o = λ i. record {
-  inputs = c .inputs i;
-  «gate_count» = c .gates i;
-  «output_count» = c .outputs i;
-  gates = e i;
-  outputs = o i;
-}
+    → p .outputs ≡ places maxOutputs (wire 0) os → UsesCounted k v (p .gates) (p .outputs) (p .uses) → p ≡ planOf u k v gs os
+plan-held {u} {k} {v} gs os {p} c e o counted =
+    let uses : p .uses ≡ listOf maxWires (λ i. usesOf k v gs os (suc i)) =
+    counted-list (counted-same counted
+    (λ i _. ap (λ (l : List Gate). getD l i zeroGate) e ∙ getD-places maxGates zeroGate gs i)
+    (λ j _. ap (λ (l : List PlanWire). getD l j (wire 0)) o ∙ getD-places maxOutputs (wire 0) os j)) in
+    λ i. record {
+      inputs = c .inputs i;
+      «gate_count» = c .gates i;
+      «output_count» = c .outputs i;
+      gates = e i;
+      outputs = o i;
+      «gate_places» = c .places i;
+      uses = uses i;
+    }
 
 -- a count that was read is within its limit
 pub count-within : (limit : ℕ) (f : Fault) (s : List ℕ) (at : ℕ) {n next : ℕ} → got n next ≡ countField limit f s at → n ≤ limit

@@ -9,12 +9,15 @@ use fault::Fault;
 use fault::Refusal;
 use plan::Plan;
 use plan::PlanWire;
+use plan::count_operands;
+use plan::count_use;
 use plan::gate_wire;
 use plan_fields::CountStep;
 use plan_fields::Cursor;
 use plan_fields::GateStep;
 use plan_fields::OutputStep;
 use plan_fields::read_gate;
+use powers::ceil_power;
 
 // The bytes of the three counts.
 pub const HEADER_BYTES: usize = 6;
@@ -114,9 +117,9 @@ fn operand_bound(drawn: bool, after_last: PlanWire, own: PlanWire) -> PlanWire
     own
 }
 
-// The plan, or the drawing, that a file holds: the counts; the gates and the outputs, each to its place in a copy of the record, which is made zero once,
-// before the header is looked at; and the end of the file, where no byte may stand. A refusal hands the zero record back. One function, because each call
-// that hands a record on copies it.
+// The plan, or the drawing, that a file holds: the counts and K; the gates and the outputs, each to its place in a copy of the record, which is made zero
+// once, before the header is looked at, and their uses counted in it; and the end of the file, where no byte may stand. A refusal hands the zero record back.
+// One function, because each call that hands a record on copies it.
 fn read_whole(file: &[u8], drawn: bool) -> PlanRead
     ensures { λ r. ⌜ readOutcome r ≡ parsedOutcome (wholeFile drawn (now (file .entry)) 0) ⌝ }
 {
@@ -133,6 +136,7 @@ fn read_whole(file: &[u8], drawn: bool) -> PlanRead
             plan.inputs = inputs;
             plan.gate_count = gates;
             plan.output_count = outputs;
+            plan.gate_places = ceil_power(gates as u32) as u16;
             let after_last = gate_wire(inputs, gate_count);
             let mut at = c;
             let mut i: usize = 0;
@@ -144,6 +148,7 @@ fn read_whole(file: &[u8], drawn: bool) -> PlanRead
                     }
                     GateStep::Gate(gate, next) => {
                         plan.gates[i] = gate;
+                        count_operands(gate, &mut plan.uses);
                         at = next;
                     }
                 }
@@ -157,6 +162,7 @@ fn read_whole(file: &[u8], drawn: bool) -> PlanRead
                     }
                     OutputStep::Output(wire, next) => {
                         plan.outputs[j] = wire;
+                        count_use(wire, &mut plan.uses);
                         at = next;
                     }
                 }
