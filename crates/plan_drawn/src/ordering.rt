@@ -1,15 +1,20 @@
 // The lists over which gates are taken, and the plan that the order of taking makes of a drawing.
 ghost use mathlib.Core.Path.{_≡_};
+ghost use mathlib.Core.List.{[]};
 ghost use Prim.Native.Nat.{suc, _<_, _≤_};
 ghost use lib.ListN.{length, getD};
 ghost use Rattle.lists.specs.Lists.{listOf};
 ghost use Rattle.fault.specs.Buffers.{over};
 ghost use Rattle.plan.specs.Record.{maxGates, maxOutputs, wire, places};
+ghost use Rattle.plan.specs.Counting.{UsesCounted};
 ghost use Rattle.plan_order.specs.Drawing.{drawnFirst, drawnSecond, drawnOrder, orderedPlan, drawnNumbers, Orderable};
 ghost use Rattle.plan_drawn.specs.Taking.{Numbered, OutputsHeld};
 use plan::Gate;
 use plan::Plan;
 use plan::PlanWire;
+use plan::count_operands;
+use plan::count_use;
+use powers::ceil_power;
 
 // The operands of the drawing's gates, each at its gate's place.
 pub(crate) fn load_operands(drawing: Plan, firsts: &mut [u16], seconds: &mut [u16])
@@ -68,7 +73,24 @@ fn renumber_outputs(
     renumbered
 }
 
-// The plan of a drawing all of whose gates are taken: the gates in the order of the drawn numbers, their operands and the outputs renumbered.
+// The uses of wires by the first count outputs, where none is counted yet.
+fn count_outputs(
+    outputs: [PlanWire; Plan::MAX_OUTPUTS],
+    count: u16,
+    uses: &mut [u16; Plan::MAX_WIRES],
+)
+    requires { ⌜ (count ≤ maxOutputs) × UsesCounted 0 0 [] outputs (now uses) ⌝ }
+    ensures { λ _. ⌜ UsesCounted 0 count [] outputs (now (uses .exit)) ⌝ }
+{
+    let end = count as usize;
+    let mut j: usize = 0;
+    while j < end {
+        count_use(outputs[j], uses);
+        j += 1;
+    }
+}
+
+// The plan of a drawing all of whose gates are taken: the gates in the order of the drawn numbers, their operands and the outputs renumbered, and its figures.
 pub(crate) fn order_gates(drawing: Plan, numbers: &[u16], drawn: &[u16]) -> Plan
     requires { ⌜ Orderable drawing ⌝ }
     requires { ⌜ Numbered (drawing .inputs) (drawing .«gate_count») (drawnOrder drawing) (now numbers) ⌝ }
@@ -81,15 +103,20 @@ pub(crate) fn order_gates(drawing: Plan, numbers: &[u16], drawn: &[u16]) -> Plan
     plan.inputs = drawing.inputs;
     plan.gate_count = drawing.gate_count;
     plan.output_count = drawing.output_count;
-    plan.outputs = renumber_outputs(outputs, drawing.output_count, numbers);
+    plan.gate_places = ceil_power(drawing.gate_count as u32) as u16;
+    let renumbered = renumber_outputs(outputs, drawing.output_count, numbers);
+    plan.outputs = renumbered;
+    count_outputs(renumbered, drawing.output_count, &mut plan.uses);
     let mut p: usize = 0;
     while p < count {
         let gate = drawing.gates[drawn[p] as usize - 1];
-        plan.gates[p] = Gate {
+        let ordered = Gate {
             first: renumber(numbers, gate.first),
             second: renumber(numbers, gate.second),
             table: gate.table,
         };
+        plan.gates[p] = ordered;
+        count_operands(ordered, &mut plan.uses);
         p += 1;
     }
     plan

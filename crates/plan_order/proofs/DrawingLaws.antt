@@ -17,7 +17,7 @@ use Rattle.plan.specs.declared.record.Plan.{Plan}
 use Rattle.plan.specs.Record.{maxGates, maxOutputs, wire, zeroGate, gateAt, outputAt, gateWire}
 use Rattle.plan.proofs.RecordLaws.{getD-places}
 use Rattle.plan.specs.Faults.{GateWithin}
-use Rattle.plan.proofs.FaultsLaws.{accepted-bounds}
+use Rattle.plan.proofs.FaultsLaws.{tallied-of, accepted-bounds}
 use Rattle.plan_evaluation_checks.specs.EvaluationChecks.{contactFault}
 use Rattle.plan_evaluation_checks.proofs.EvaluationChecksLaws.{row-length, row-bit}
 use Rattle.plan_evaluation.specs.Evaluation.{planWires, gateBit, wireBit}
@@ -137,7 +137,7 @@ module _ (d : Plan) (orderable : Orderable d) where
           let w = orderable .within .output j l in
           let s = stands (outputAt d j .0 - suc u) (omega (arith, w .above, w .upTo)) in
           rw (output-at j l, gate-number (outputAt d j .0) (w .above)) (record { above = omega arith; upTo = omega (arith, s .low) });
-    });
+    }, let c = orderable .within .counts in tallied-of u k v _ _ (omega (arith, c .inputs, c .gates)));
     gate = gate-at;
     output = output-at;
   }
