@@ -1,6 +1,6 @@
 -- A plan is accepted exactly if its counts, each of its gates and each of its outputs are allowed and its figures are the counted ones: each check of the
 -- plan's faults is replaced by what it tests. Then that as bounds, both ways.
-use mathlib.Core.Path.{_≡_, refl, sym, ap, ap₂, _∙_}
+use mathlib.Core.Path.{_≡_, refl, sym, ap, ap₂, subst, _∙_}
 use mathlib.Core.Logic.{_↔_}
 use mathlib.Core.Bool.{Bool, true, not}
 use Prim.Native.Nat.{ℕ, zero, suc, _+_, _<_, _≤_}
@@ -133,6 +133,11 @@ counts-in u k v a b c =
 pub counts-within : (u k v : ℕ) → countsFault u k v ≡ 0 → CountsWithin u k v
 unfolding countsFault
 counts-within u k v e = let h = simp (and-then-zero, unless-zero) at e in counts-in u k v (h .0) (h .1 .0) (h .1 .1)
+
+-- and so does one that is equal to such a record
+pub held-tallied : {p : Plan} (gs : List Gate) (os : List PlanWire) → p ≡ planOf (p .inputs) (p .«gate_count») (p .«output_count») gs os
+    → CountsWithin (p .inputs) (p .«gate_count») (p .«output_count») → Tallied p
+held-tallied {p} gs os e c = subst Tallied (sym e) (tallied-of (p .inputs) (p .«gate_count») (p .«output_count») gs os (omega (arith, c .inputs, c .gates)))
 
 module _ (p : Plan) (accepted : Accepted p) where
   allowed : AllowedPlan p

@@ -17,7 +17,7 @@ use Rattle.plan.proofs.RecordLaws.{getD-places}
 use Rattle.plan.specs.Rules.{countAllowed, maxMap, mapAllowed, operandAllowed, maxTable, tableAllowed, sourceAllowed}
 use Rattle.plan.specs.Faults.{Accepted}
 use Rattle.plan.proofs.RulesLaws.{count-bounds, table-bound, default-allowed}
-use Rattle.plan.proofs.FaultsLaws.{AllowedGate, AllowedPlan, accepted-allowed}
+use Rattle.plan.proofs.FaultsLaws.{AllowedGate, AllowedPlan, counts-in, accepted-allowed, tallied-of}
 use Rattle.plan_fields.specs.Parsing.{Parsed, got, standing}
 use Rattle.plan_fields.proofs.ParsingLaws.{gives, refuses, gives-then}
 use Rattle.plan_fields.specs.Fields.{firstPlace, secondPlace, tablePlace, absentTable, tableLimit, tableOfByte, tableField, mapBit, gateStepWithin}
@@ -137,6 +137,7 @@ encoded s u k v gs os a b c d e inputs gates outputs each-gate each-output end =
     outputs = outputs .0;
     gate = λ i l. rw getD-places (each-gate .each i l .1);
     output = λ j l. rw getD-places (each-output .each j l);
+    tallied = let c = counts-in u k v (inputs .0) (gates .0) (outputs .0) in tallied-of u k v gs os (omega (arith, c .inputs, c .gates));
   });
   zeroed = ap₂ (planOf u k v) (used-places maxGates zeroGate gs k (each-gate .count)) (used-places maxOutputs (wire 0) os v (each-output .count));
   maps = λ i. getD (each-gate .choices) i 0;
@@ -309,6 +310,7 @@ largest-accepted = accepted-allowed largest .1 (record {
     table = refl;
   });
   output = λ j l. rw (getD-places, getD-replicate);
+  tallied = tallied-of 2 maxGates maxOutputs _ _ (lit≤ tt);
 })
 
 -- "Longest plan: 1,670 bytes": the bound is met by that plan's file in which every field stands

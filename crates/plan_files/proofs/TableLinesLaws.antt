@@ -15,7 +15,7 @@ use Rattle.plan.specs.Record.{wire, gateAt}
 use Rattle.plan.specs.Rules.{mapAllowed, maxTable}
 use Rattle.plan.specs.Faults.{Accepted}
 use Rattle.plan.proofs.RulesLaws.{table-bound}
-use Rattle.plan.proofs.FaultsLaws.{accepted-bounds}
+use Rattle.plan.proofs.FaultsLaws.{accepted-bounds, held-tallied}
 use Rattle.plan_evaluation_checks.proofs.EvaluationChecksLaws.{row-bit}
 use Rattle.plan_evaluation.specs.Evaluation.{wireBit, tableBit}
 use Rattle.plan_evaluation.proofs.EvaluationLaws.{wire-bit, gate-bit}
@@ -160,7 +160,8 @@ pub plain-lines : PlainLinesTheorem
 unfolding planRead
 plain-lines s e g low =
     let file = file-held false s (plan-got s e .1) in
-    let accepted = accepted-bounds (planRead s .plan) .1 (record { counts = file .counts; gate = λ i l. file .gate i l .within; output = file .output }) in
+    let accepted = accepted-bounds (planRead s .plan) .1
+    (record { counts = file .counts; gate = λ i l. file .gate i l .within; output = file .output }, held-tallied (file .gates) (file .outputs) (file .held) (file .counts)) in
     lines-followed false s (planRead s .plan) g g file low accepted low refl (λ h. h)
 
 pub drawn-lines : DrawnLinesTheorem

@@ -48,10 +48,10 @@ less-room : (p : Plan) (n : ℕ) → Accepted p → n < length (savedFile p) →
 less-room p n ok h = ap (λ a. andThen a (roomFault (length (savedFile p)) n)) ok ∙ sym (room-refuses refl h)
 
 -- a byte list that is read as the plan is one of its files, so it is no shorter
-read-longer : (p : Plan) (s : List ℕ) → OfBytes s → planRead s ≡ readAs p → length (savedFile p) ≤ length s
-read-longer p s small e =
+read-longer : (p : Plan) → Accepted p → (s : List ℕ) → OfBytes s → planRead s ≡ readAs p → length (savedFile p) ≤ length s
+read-longer p ok s small e =
     let x = reads-exactly s (used p) small .0 e in
-    omega (arith, ap length (same-file (used p) p (used-agrees p)), file-shortest (x .maps) (used p) (x .choice), ap length (x .file))
+    omega (arith, ap length (same-file (used p) p (used-agrees p ok)), file-shortest (x .maps) (used p) (x .choice), ap length (x .file))
 
 -- where the call does not refuse: what it says and leaves, and what follows for the file
 module _ (p : Plan) (buffer : List ℕ) (none : saveFault p (length buffer) ≡ 0) where
@@ -80,7 +80,7 @@ module _ (p : Plan) (buffer : List ℕ) (none : saveFault p (length buffer) ≡ 
             subst (λ s. LeftOut (gateWire (p .inputs) i) (byteAt s (gateOffset false s i)) (gateAt p i)) (sym file-left)
             (subst (λ m. LeftOut (gateWire (p .inputs) i) m (gateAt p i)) (sym (map-byte-stands maps p ok choice i l))
             (left-out (gateWire (p .inputs) i) (gateAt p i)));
-        shortest = λ s small e. omega (arith, length-said, read-longer p s small e);
+        shortest = λ s small e. omega (arith, length-said, read-longer p ok s small e);
         most = omega (arith, length-said, longest maps p ok);
       }
 

@@ -93,5 +93,5 @@ every-field i l = rw (largest-gate i l, ne-eqb 1 (gateWire 2 i - 1) (λ e. omega
 pub largest-saved : length (savedFile largest) ≡ longestFile
 unfolding largest
 largest-saved =
-    let itself : Agree largest largest = record { inputs = refl; gates = refl; outputs = refl; gate = λ i l. refl; output = λ j l. refl } in
+    let itself : Agree largest largest = record { inputs = refl; gates = refl; outputs = refl; gate = λ i l. refl; output = λ j l. refl; places = refl; uses = λ i l. refl } in
     ap length (encode-same (shortestMap largest) (λ _. maxMap) largest largest itself every-field) ∙ full-length largest
