@@ -2,9 +2,11 @@
 use Rattle.elements.specs.Elements.{CountOutcome, SheetOutcome}
 use Rattle.plan_reading.specs.PlanFile.{ReadOutcome}
 use Rattle.plan_drawn.specs.DrawnFile.{DrawnOutcome}
+use Rattle.plan_edits.specs.Edits.{EditOutcome}
 use Rattle.plan_saving.specs.Saving.{SaveOutcome}
 use Rattle.capi.specs.declared.Counted.{Counted}
 use Rattle.capi.specs.declared.Drawn.{Drawn}
+use Rattle.capi.specs.declared.Edit.{Edit}
 use Rattle.capi.specs.declared.FabricSheet.{FabricSheet}
 use Rattle.capi.specs.declared.Read.{Read}
 use Rattle.capi.specs.declared.Saved.{Saved}
@@ -15,6 +17,10 @@ exportOutcome r = record { number = r .number; at = r .at; plan = r .plan }
 -- what the header's struct mkd_drawn says
 abbrev pub exportDrawn : Drawn → DrawnOutcome
 exportDrawn r = record { number = r .number; at = r .at; plan = r .plan; drawn = r .drawn }
+
+-- what the header's struct mkd_edit says
+abbrev pub exportEdit : Edit → EditOutcome
+exportEdit r = record { number = r .number; plan = r .plan }
 
 -- what the header's struct mkd_saved says
 abbrev pub exportSaved : Saved → SaveOutcome

@@ -10,17 +10,22 @@ ghost use Rattle.plan_evaluation_checks.specs.EvaluationChecks.{evaluateFault};
 ghost use Rattle.plan_series_checks.specs.SeriesChecks.{planSeriesFault};
 ghost use Rattle.plan_evaluation.specs.Evaluation.{evaluateResult};
 ghost use Rattle.plan_evaluation.specs.PlanSeries.{planSeriesResults, planSeriesEnd};
+ghost use Rattle.plan_edits.specs.Edits.{gateReplaced, gateAppended, outputReplaced};
+ghost use Rattle.plan_edits.specs.Answers.{editedOutcome};
 ghost use Rattle.plan_reading.specs.PlanFile.{planRead};
 ghost use Rattle.plan_drawn.specs.DrawnFile.{drawnRead};
 ghost use Rattle.plan_saving.specs.Saving.{planSave, saveResult};
 ghost use Rattle.fabric.specs.Fabrics.{counting, kindCounting, fabricResult, fabricFault, planProgramFault, planProgramResult, runFault, runWork, runResult};
 ghost use Rattle.fabric.specs.Fabrics.{runSeriesFault, runSeriesWork, runSeriesResults, runSeriesEnd};
-ghost use Rattle.capi.specs.Exports.{exportOutcome, exportDrawn, exportSaved, countsOf, exportSheet};
+ghost use Rattle.capi.specs.Exports.{exportOutcome, exportDrawn, exportEdit, exportSaved, countsOf, exportSheet};
 use elements::CountAnswer;
 use elements::FabricWire;
 use elements::KindCounts;
 use elements::SheetAnswer;
+use plan::Gate;
 use plan::Plan;
+use plan::PlanWire;
+use plan_edits::Edited;
 use plan_reading::ReadAnswer;
 use plan_saving::SaveAnswer;
 
@@ -100,6 +105,49 @@ pub extern "C" fn mkd_plan_fault(plan: Plan) -> u32
     ensures { λ r. ⌜ r ≡ planFault plan ⌝ }
 {
     plan::plan_fault(plan).number()
+}
+
+// The header's struct mkd_edit: number 0 with the edited plan, or a refusal with the plan as it went in.
+#[repr(C)]
+pub struct Edit {
+    pub number: u32,
+    pub plan: Plan,
+}
+
+// The answer of an edit as the header's struct.
+fn export_edit(edited: Edited) -> Edit
+    ensures { λ r. ⌜ exportEdit r ≡ editedOutcome edited ⌝ }
+{
+    let answer = edited.answer;
+    let record = edited.plan;
+    Edit {
+        number: answer.number(),
+        plan: record,
+    }
+}
+
+// Replaces a gate of a plan.
+#[no_mangle]
+pub extern "C" fn mkd_plan_replace_gate(plan: Plan, gate: u32, new_gate: Gate) -> Edit
+    ensures { λ r. ⌜ exportEdit r ≡ gateReplaced plan gate «new_gate» ⌝ }
+{
+    export_edit(plan_edits::replace_gate(plan, gate, new_gate))
+}
+
+// Appends a gate to a plan.
+#[no_mangle]
+pub extern "C" fn mkd_plan_append_gate(plan: Plan, new_gate: Gate) -> Edit
+    ensures { λ r. ⌜ exportEdit r ≡ gateAppended plan «new_gate» ⌝ }
+{
+    export_edit(plan_edits::append_gate(plan, new_gate))
+}
+
+// Replaces an output of a plan.
+#[no_mangle]
+pub extern "C" fn mkd_plan_replace_output(plan: Plan, output: u32, wire: u16) -> Edit
+    ensures { λ r. ⌜ exportEdit r ≡ outputReplaced plan output (record { 0 = wire }) ⌝ }
+{
+    export_edit(plan_edits::replace_output(plan, output, PlanWire(wire)))
 }
 
 // The plan's outputs on a row of inputs.
