@@ -1,16 +1,17 @@
 /*
  * A worked example of mukdalis.h: a unit for plans of two inputs, two gates and one output. It
  * reads a plan file, makes the fabric's table and the plan's program, runs every input row, and
- * compares each with plan evaluation. Then it saves the plan, which gives the file back, and shows
- * how a file that was cut short is refused. Last, a plan that holds: a latch that sheds until it is
- * reset, over a series of intervals by the plan and by the fabric of its counts.
+ * compares each with plan evaluation. Then it saves the plan, which gives the file back, edits it,
+ * and shows how a file that was cut short is refused. Last, a plan that holds: a latch that sheds
+ * until it is reset, over a series of intervals by the plan and by the fabric of its counts.
  *
  *     rt staticlib capi
  *     cc -std=c11 include/example.c target/staticlib/libcapi.a -o example
  *
  * It prints the counts, and a line for each row: the inputs, the plan's output, the fabric's; then
- * the length of the saved file, and the refusal; then a line for each interval of the latch: fault
- * and reset, whether the plan sheds, whether the fabric does; and what each holds at the end.
+ * the length of the saved file; the uses of the inputs before and after the edit, and the refusals
+ * of another edit and of the cut file; then a line for each interval of the latch: fault and reset,
+ * whether the plan sheds, whether the fabric does; and what each holds at the end.
  */
 #include "mukdalis.h"
 
@@ -96,6 +97,21 @@ static int save(struct mkd_plan plan)
     return answer.length != sizeof file || memcmp(saved, file, sizeof file) != 0;
 }
 
+/* Gate 2 gets input 2 in place of input 1, which one operand place less then names. No gate 3. */
+static int edit(struct mkd_plan plan)
+{
+    const struct mkd_gate new_gate = {3, 2, 6};
+    const struct mkd_edit done = mkd_plan_replace_gate(plan, 2, new_gate);
+    const struct mkd_edit refused_edit = mkd_plan_replace_gate(plan, 3, new_gate);
+
+    if (done.number != 0)
+        return refused(done.number);
+    printf("uses %u %u, edited %u %u\n", plan.uses[0], plan.uses[1], done.plan.uses[0],
+           done.plan.uses[1]);
+    printf("gate 3: refused %u\n", (unsigned)refused_edit.number);
+    return refused_edit.number != MKD_PLACE;
+}
+
 /* The latch over all intervals, with nothing shed before: by the plan and by its fabric. */
 static int show_latch(void)
 {
@@ -164,7 +180,7 @@ int main(void)
         if (show_row(read.plan, row) != 0)
             return 1;
     }
-    if (save(read.plan) != 0)
+    if (save(read.plan) != 0 || edit(read.plan) != 0)
         return 1;
 
     /* The last byte is missing: the field that it belongs to begins one byte before it. */

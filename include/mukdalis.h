@@ -1,11 +1,12 @@
 /*
  * Mukdalis, the contact fabric library: plans and drawn plans, their faults, their evaluation, once
- * or over a series of intervals, and their saving; the permutation network P and the selection
- * network S of the block library, their rows and their programs; the fabric of three counts, its
- * rows by kind, a plan's program for it, and the run of a fabric table, once or over a series.
+ * or over a series of intervals, their saving and their edits; the permutation network P and the
+ * selection network S of the block library, their rows and their programs; the fabric of three
+ * counts, its rows by kind, a plan's program for it, and the run of a fabric table, once or over a
+ * series.
  *
- * example.c beside this file shows the whole path, from a plan file to a run, and a plan that
- * holds. A program is linked with libcapi.a, which `rt staticlib capi` writes.
+ * example.c beside this file shows the whole path, from a plan file to a run, an edit, and a plan
+ * that holds. A program is linked with libcapi.a, which `rt staticlib capi` writes.
  *
  * Every call takes all inputs and refuses bad ones. It answers a number: 0 for done, any other
  * the row of the refusal table below whose check failed first. A refusal writes through no
@@ -33,10 +34,11 @@
 extern "C" {
 #endif
 
-/* The limits of u, k and v, and the bytes of the longest plan file. */
+/* The limits of u, k and v, the most wires of a plan, and the bytes of the longest plan file. */
 #define MKD_MAX_INPUTS 64
 #define MKD_MAX_GATES 256
 #define MKD_MAX_OUTPUTS 64
+#define MKD_MAX_WIRES 320
 #define MKD_MAX_FILE_LEN 1670
 
 /* The block library: the largest n of P, m of S and n of S. */
@@ -115,7 +117,7 @@ extern "C" {
 
 /*
  * The refusal table. The block library reads 2, 4, 9, 12 and 13 otherwise, drawn reading 7, both
- * readings 8, and the series 12: their calls say how. No other number is given.
+ * readings 8, the series 12, and appending a gate 3: their calls say how. No other number is given.
  */
 enum mkd_fault {
     MKD_STUB = 1,     /* file below 6 bytes */
@@ -133,7 +135,9 @@ enum mkd_fault {
     MKD_FABRIC = 13,  /* fabric table malformed: mkd_run says when */
     MKD_PROGRAM = 14, /* program not of its exact length, or a spare bit set */
     MKD_RING = 15,    /* drawn gates that each draw from one of them */
-    MKD_HOLD = 16     /* hold count above u or v, or more than 4,096 intervals */
+    MKD_HOLD = 16,    /* hold count above u or v, or more than 4,096 intervals */
+    MKD_TALLY = 17,   /* a figure of a plan's record, K or a wire's uses, is not the counted one */
+    MKD_PLACE = 18    /* an edit names a gate or output that the plan lacks */
 };
 
 /*
@@ -147,8 +151,14 @@ struct mkd_gate {
 };
 
 /*
- * A plan in memory. The first gate_count gates and output_count outputs are used. Reading zeroes
- * the other places; no call looks at them.
+ * A plan in memory. The first gate_count gates and output_count outputs are used, and the first
+ * u + k entries of uses. Reading zeroes the other places; no call looks at them.
+ *
+ * The last two fields are figures, counted from the others. uses[w - 1] is how many operand places
+ * of the gates and how many outputs name wire w; a gate whose operands are equal names their wire
+ * twice, so that the first u + k entries add up to 2k + v. Reading and the edits settle the
+ * figures; every call that takes a plan checks them, see mkd_plan_fault. A program that makes or
+ * changes a record by hand has to count them itself.
  */
 struct mkd_plan {
     uint16_t inputs;       /* u */
@@ -156,6 +166,8 @@ struct mkd_plan {
     uint16_t output_count; /* v */
     struct mkd_gate gates[MKD_MAX_GATES];
     uint16_t outputs[MKD_MAX_OUTPUTS]; /* gate wires, u + 1 to u + k */
+    uint16_t gate_places;              /* K, the smallest power of two not below k */
+    uint16_t uses[MKD_MAX_WIRES];      /* of each wire, wire w at w - 1 */
 };
 
 /* The answer of a read. */
@@ -186,7 +198,8 @@ struct mkd_read {
  * operand is absent; per output 5, then 9; 10 at the first byte after the last output. The offset
  * of 5 to 9 is that of the field's first byte, also where the file ends there or inside the field.
  *
- * Done: number and at are 0, and the plan has no plan fault. Refused: the plan is all zero.
+ * Done: number and at are 0, and the plan has no plan fault: its figures are settled. Refused: the
+ * plan is all zero.
  */
 struct mkd_read mkd_plan_read(const uint8_t *file, size_t len);
 
@@ -208,10 +221,11 @@ struct mkd_drawn {
  *
  * The plan has the drawn gates in the order in which they are taken: again and again the
  * lowest-numbered one whose operands are inputs or gates already taken; after each taking the
- * search begins at the lowest gate again. Operands and outputs are renumbered to match;
- * drawn[p - 1] is the drawn number of the gate at place p, its wire in the plan being u + p. The
- * plan's outputs are those of the drawing, whose wire bits are the one choice that fits every drawn
- * gate. A file that mkd_plan_read reads gives the same plan here, with the drawn numbers 1 to k.
+ * search begins at the lowest gate again. Operands and outputs are renumbered to match, and the
+ * figures are those of the renumbered plan; drawn[p - 1] is the drawn number of the gate at place
+ * p, its wire in the plan being u + p. The plan's outputs are those of the drawing, whose wire bits
+ * are the one choice that fits every drawn gate. A file that mkd_plan_read reads gives the same
+ * plan here, with the drawn numbers 1 to k.
  *
  * Buffer: file as in mkd_plan_read.
  *
@@ -230,7 +244,8 @@ struct mkd_drawn mkd_plan_read_drawn(const uint8_t *file, size_t len);
  * The first plan fault of a plan in memory, or 0 where it has none: the plan is then accepted.
  *
  * The plan faults, in this order: 2, 3, 4; per gate 7 for both operands, then 8; then 9 over the
- * outputs. No buffer is written.
+ * outputs; then 17 if gate_places or one of the first u + k entries of uses is not the counted
+ * figure. No buffer is written.
  */
 uint32_t mkd_plan_fault(struct mkd_plan plan);
 
@@ -299,6 +314,32 @@ struct mkd_saved {
  * length is 0, and file is as it was.
  */
 struct mkd_saved mkd_plan_save(struct mkd_plan plan, uint8_t *file, size_t len);
+
+/* The answer of an edit. */
+struct mkd_edit {
+    uint32_t number; /* 0, or the refusal */
+    struct mkd_plan plan;
+};
+
+/*
+ * Edits a plan. mkd_plan_replace_gate puts new_gate in place of gate number gate, from 1.
+ * mkd_plan_append_gate puts it behind the last gate; its own wire is u + k + 1, and no other wire's
+ * number changes. mkd_plan_replace_output makes output number output, from 1, name wire.
+ *
+ * Refusals, in this order: the plan faults; 18 if gate is 0 or above k, or output 0 or above v; 3
+ * if a gate is appended to MKD_MAX_GATES; then for what the edit brings, as in a plan in memory, 7
+ * for the new gate's first and second operand, that is, wire 0 or not below the gate's own, and 8;
+ * or 9 for the new output's wire. No buffer is written.
+ *
+ * Done: number is 0, and the plan is the edited one. The gate, with the count where it is appended,
+ * or the output has changed, and the figures are settled: where a gate is appended K doubles if k
+ * was a power of two, and nothing uses the new wire. All other places are as they were, the unused
+ * ones too. Refused: the plan is as it went in, every unused place too.
+ */
+struct mkd_edit mkd_plan_replace_gate(struct mkd_plan plan, uint32_t gate,
+                                      struct mkd_gate new_gate);
+struct mkd_edit mkd_plan_append_gate(struct mkd_plan plan, struct mkd_gate new_gate);
+struct mkd_edit mkd_plan_replace_output(struct mkd_plan plan, uint32_t output, uint16_t wire);
 
 /* The answer of a counting: of P(n), of S(m, n), or of the fabric of u, k and v. */
 struct mkd_counts {
@@ -479,12 +520,13 @@ uint32_t mkd_fabric(uint32_t u, uint32_t k, uint32_t v, uint16_t *table, size_t 
  * Programs the fabric of a plan's counts: run with this program, its outputs on every input row
  * are the plan's.
  *
- * Let K be as in mkd_fabric. Pins 2g - 1 and 2g are gate g's first and second operand. S(u, 2K) is
- * programmed so that each pin wants the operand if that is an input, otherwise input 1. Gates past
- * k have table 0, and both pins want input 1. In U(K), if K is above 1, pin j of the lower U(K / 2)
- * wants the operand of pin K + j from S(K / 2, K), and its row of kind 2 has bit 1, if that is one
- * of the upper's gates; otherwise it wants the first of these, with bit 0. For the upper and the
- * lower U(K / 2) likewise. S(K, v) is programmed so that each output wants the gate that it names.
+ * Let K be gate_places, as in mkd_fabric. Pins 2g - 1 and 2g are gate g's first and second operand.
+ * S(u, 2K) is programmed so that each pin wants the operand if that is an input, otherwise input 1.
+ * Gates past k have table 0, and both pins want input 1. In U(K), if K is above 1, pin j of the
+ * lower U(K / 2) wants the operand of pin K + j from S(K / 2, K), and its row of kind 2 has bit 1,
+ * if that is one of the upper's gates; otherwise it wants the first of these, with bit 0. For the
+ * upper and the lower U(K / 2) likewise. S(K, v) is programmed so that each output wants the gate
+ * that it names.
  *
  * Program bits follow the rows and lie in bytes as P's do; spare bits of the last byte are 0.
  *

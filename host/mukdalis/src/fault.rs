@@ -20,7 +20,7 @@ pub enum Fault {
     /// u is not 1 to 64. Block library: P's n is not a power of two from 1 to 512, or S's m is not
     /// 1 to 512.
     Inputs = 2,
-    /// k is not 1 to 256.
+    /// k is not 1 to 256; in an edit a 257th gate is appended.
     Gates = 3,
     /// v is not 1 to 64. Block library: S's n is not 1 to 512.
     Outputs = 4,
@@ -51,11 +51,15 @@ pub enum Fault {
     Ring = 15,
     /// A hold count is above u or v, or a series has more than 4,096 intervals.
     Hold = 16,
+    /// A figure of a plan's record, K or a wire's uses, is not the counted one.
+    Tally = 17,
+    /// An edit names a gate or an output that the plan lacks: 0, or above its count.
+    Place = 18,
 }
 
 impl Fault {
     /// Every word, in the order of the numbers.
-    pub const TABLE: [(Fault, &'static str); 16] = [
+    pub const TABLE: [(Fault, &'static str); 18] = [
         (Fault::Stub, "stub"),
         (Fault::Inputs, "inputs"),
         (Fault::Gates, "gates"),
@@ -72,6 +76,8 @@ impl Fault {
         (Fault::Program, "program"),
         (Fault::Ring, "ring"),
         (Fault::Hold, "hold"),
+        (Fault::Tally, "tally"),
+        (Fault::Place, "place"),
     ];
 
     /// The fault's number in the table.
@@ -150,6 +156,6 @@ mod tests {
             assert_eq!(fault.word(), word);
         }
         assert_eq!(Fault::from_number(0), None);
-        assert_eq!(Fault::from_number(17), None);
+        assert_eq!(Fault::from_number(19), None);
     }
 }

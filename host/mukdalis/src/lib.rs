@@ -31,8 +31,9 @@
 //! ```
 //!
 //! [`save`] gives a plan's shortest file, and [`read_drawn`] reads a plan whose gates stand as they
-//! were drawn. [`evaluate_series`] and [`run_series`] go over a series of intervals, in which the
-//! last outputs of one are the last inputs of the next.
+//! were drawn. [`Plan::replace_gate`], [`Plan::append_gate`] and [`Plan::replace_output`] edit a plan,
+//! and [`Plan::uses_of`] says how often a wire is used. [`evaluate_series`] and [`run_series`] go over
+//! a series of intervals, in which the last outputs of one are the last inputs of the next.
 //!
 //! The library itself is the archive `libcapi.a`, which `rt staticlib capi` writes. The package
 //! takes it from `target/staticlib` of the repository, or from the folder that MUKDALIS_LIB_DIR
@@ -41,6 +42,7 @@
 //! [`raw`] has the records of the header and the calls that hand one back.
 
 mod blocks;
+mod edits;
 mod fabric;
 mod fault;
 mod plan;

@@ -19,17 +19,26 @@ pub struct Gate {
 
 /// A plan in memory. Wires 1 to u are its inputs, wire u + g is gate g.
 ///
-/// Gates and outputs count from 1 and lie in the arrays from 0. The first k gates and v outputs are
-/// used. Reading zeroes the other places; no call looks at them.
+/// Gates, outputs and wires count from 1 and lie in the arrays from 0. The first k gates, v outputs
+/// and u + k uses are used. Reading zeroes the other places; no call looks at them.
+///
+/// The last two fields are figures, counted from the others: every call that takes a plan checks
+/// them. Reading and the edits, [`Plan::replace_gate`], [`Plan::append_gate`] and
+/// [`Plan::replace_output`], settle them; for a record that is made or changed by hand
+/// [`Plan::settle_figures`] does.
 ///
 /// ```
-/// use mukdalis::{check, Gate, Plan};
+/// use mukdalis::{check, Fault, Gate, Plan};
 ///
 /// // Input 1 XOR input 2.
 /// let mut plan = Plan { inputs: 2, gate_count: 1, output_count: 1, ..Plan::ZERO };
 /// plan.gates[0] = Gate { first: 1, second: 2, table: 6 };
 /// plan.outputs[0] = 3;
+/// assert_eq!(check(&plan), Err(Fault::Tally));
+///
+/// plan.settle_figures();
 /// assert_eq!(check(&plan), Ok(()));
+/// assert_eq!((plan.gate_places, &plan.uses[..4]), (1, &[1, 1, 1, 0][..]));
 /// ```
 #[repr(C)]
 #[derive(Clone, Copy, Debug, PartialEq, Eq)]
@@ -44,6 +53,11 @@ pub struct Plan {
     pub gates: [Gate; Plan::MAX_GATES],
     /// The gate wires, u + 1 to u + k, that the outputs name.
     pub outputs: [u16; Plan::MAX_OUTPUTS],
+    /// K, the smallest power of two not below k: the gates of the plan's fabric.
+    pub gate_places: u16,
+    /// How many operand places and outputs name each wire, wire w at w - 1; a gate of equal operands
+    /// counts twice. Those of the wires 1 to u + k add up to 2k + v.
+    pub uses: [u16; Plan::MAX_WIRES],
 }
 
 /// A plan that was read from a drawing.
@@ -78,6 +92,8 @@ impl Plan {
     pub const MAX_GATES: usize = 256;
     /// The most outputs.
     pub const MAX_OUTPUTS: usize = 64;
+    /// The most wires: inputs and gates.
+    pub const MAX_WIRES: usize = Plan::MAX_INPUTS + Plan::MAX_GATES;
     /// Bytes of the longest plan file.
     pub const MAX_FILE_LEN: usize = 1670;
 
@@ -88,6 +104,8 @@ impl Plan {
         output_count: 0,
         gates: [Gate::ZERO; Plan::MAX_GATES],
         outputs: [0; Plan::MAX_OUTPUTS],
+        gate_places: 0,
+        uses: [0; Plan::MAX_WIRES],
     };
 
     /// u, k and v, as the fabric's calls take them.
@@ -101,9 +119,50 @@ impl Plan {
     pub fn counts(&self) -> [u32; 3] {
         [self.inputs, self.gate_count, self.output_count].map(u32::from)
     }
+
+    /// How many operand places and outputs name a wire, by the record's figures: `None` for a number
+    /// that is no wire of the plan, which has 1 to u + k.
+    ///
+    /// ```
+    /// // Input 1 AND input 2, then that XOR input 1, which is the output.
+    /// let plan = mukdalis::read(&[2, 0, 2, 0, 1, 0, 3, 1, 0, 2, 0, 6, 1, 0, 6, 4, 0])?;
+    /// assert_eq!([1, 2, 3, 4].map(|wire| plan.uses_of(wire)), [2, 1, 1, 1].map(Some));
+    /// assert_eq!([0, 5].map(|wire| plan.uses_of(wire)), [None; 2]);
+    /// # Ok::<(), mukdalis::Refusal>(())
+    /// ```
+    pub fn uses_of(&self, wire: u16) -> Option<u16> {
+        let place = usize::from(wire).checked_sub(1)?;
+        self.uses[..self.wires()].get(place).copied()
+    }
+
+    /// Counts K and the uses of the wires 1 to u + k, for a record that was made or changed by hand.
+    /// All other places stay as they were.
+    pub fn settle_figures(&mut self) {
+        let [_, k, v] = self.counts().map(|count| count as usize);
+        let gates = &self.gates[..k.min(Plan::MAX_GATES)];
+        let outputs = &self.outputs[..v.min(Plan::MAX_OUTPUTS)];
+        let operands = gates.iter().flat_map(|gate| [gate.first, gate.second]);
+        let mut uses = [0; Plan::MAX_WIRES];
+        for wire in operands.chain(outputs.iter().copied()) {
+            let place = usize::from(wire).wrapping_sub(1);
+            if let Some(count) = uses.get_mut(place) {
+                *count += 1;
+            }
+        }
+        let wires = self.wires();
+        self.uses[..wires].copy_from_slice(&uses[..wires]);
+        self.gate_places = self.gate_count.checked_next_power_of_two().unwrap_or(0);
+    }
+
+    /// u + k, or the most.
+    fn wires(&self) -> usize {
+        let [u, k, _] = self.counts().map(|count| count as usize);
+        (u + k).min(Plan::MAX_WIRES)
+    }
 }
 
-/// Reads a plan file. The plan has no plan fault, and its unused places are zero.
+/// Reads a plan file. The plan has no plan fault, its figures are settled, and its unused places are
+/// zero.
 ///
 /// The file: u, k, v, two bytes each, low byte first, as all numbers of two bytes. Per gate a map
 /// byte, then the fields whose map bit stands: bit 0 first operand (two bytes; absent: the wire
@@ -150,8 +209,9 @@ pub fn read(file: &[u8]) -> Result<Plan, Refusal> {
 ///
 /// The bytes are those of [`read`]; absent fields mean what they mean there, in drawn numbers. The
 /// plan is made by taking again and again the lowest-numbered gate whose operands are inputs or
-/// gates already taken; operands and outputs are renumbered to match. It gives what the drawing
-/// gives. A file that [`read`] reads gives the same plan, with the drawn numbers 1 to k.
+/// gates already taken; operands and outputs are renumbered to match, and the figures are those of
+/// the renumbered plan. It gives what the drawing gives. A file that [`read`] reads gives the same
+/// plan, with the drawn numbers 1 to k.
 ///
 /// # Errors
 ///
@@ -194,13 +254,16 @@ pub fn read_drawn(file: &[u8]) -> Result<DrawnPlan, Refusal> {
 /// # Errors
 ///
 /// The first plan fault: inputs, gates, outputs; per gate operand for both operands, then table;
-/// then source over the outputs.
+/// then source over the outputs; then tally if K or the uses of one of the wires 1 to u + k are not
+/// the counted ones.
 ///
 /// ```
 /// use mukdalis::{check, read, Fault};
 ///
 /// let mut plan = read(&[1, 0, 1, 0, 1, 0, 4, 1, 2, 0])?;
 /// assert_eq!(check(&plan), Ok(()));
+/// plan.uses[0] += 1;
+/// assert_eq!(check(&plan), Err(Fault::Tally));
 /// plan.gates[0].table = 16;
 /// assert_eq!(check(&plan), Err(Fault::Table));
 /// # Ok::<(), mukdalis::Refusal>(())

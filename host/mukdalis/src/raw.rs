@@ -4,7 +4,7 @@
 //! can compare their layout with the header's.
 
 use crate::fabric::Kinds;
-use crate::plan::Plan;
+use crate::plan::{Gate, Plan};
 
 /// `struct mkd_read`: number and offset 0 with the plan, or a refusal with the all-zero record.
 #[repr(C)]
@@ -32,6 +32,14 @@ pub struct Drawn {
 pub struct Saved {
     pub number: u32,
     pub length: u64,
+}
+
+/// `struct mkd_edit`: number 0 with the edited plan, or a refusal with the plan as it went in.
+#[repr(C)]
+#[derive(Clone, Copy, Debug, PartialEq, Eq)]
+pub struct Edit {
+    pub number: u32,
+    pub plan: Plan,
 }
 
 /// `struct mkd_counts`: number 0 with a block's or a fabric's counts, or a refusal with counts 0.
@@ -80,6 +88,9 @@ extern "C" {
         end_len: usize,
     ) -> u32;
     fn mkd_plan_save(plan: Plan, file: *mut u8, len: usize) -> Saved;
+    fn mkd_plan_replace_gate(plan: Plan, gate: u32, new_gate: Gate) -> Edit;
+    fn mkd_plan_append_gate(plan: Plan, new_gate: Gate) -> Edit;
+    fn mkd_plan_replace_output(plan: Plan, output: u32, wire: u16) -> Edit;
     fn mkd_permutation_count(n: u32) -> Counts;
     pub(crate) fn mkd_permutation_write(
         n: u32,
@@ -172,6 +183,24 @@ pub fn plan_save(plan: &Plan, file: &mut [u8]) -> Saved {
     // length are a slice's, which is borrowed for writing; the call stays within it and keeps no
     // pointer.
     unsafe { mkd_plan_save(*plan, file.as_mut_ptr(), file.len()) }
+}
+
+/// `mkd_plan_replace_gate` of a plan.
+pub fn plan_replace_gate(plan: &Plan, gate: u32, new_gate: Gate) -> Edit {
+    // SAFETY: all goes by value, and every value is allowed.
+    unsafe { mkd_plan_replace_gate(*plan, gate, new_gate) }
+}
+
+/// `mkd_plan_append_gate` of a plan.
+pub fn plan_append_gate(plan: &Plan, new_gate: Gate) -> Edit {
+    // SAFETY: all goes by value, and every value is allowed.
+    unsafe { mkd_plan_append_gate(*plan, new_gate) }
+}
+
+/// `mkd_plan_replace_output` of a plan.
+pub fn plan_replace_output(plan: &Plan, output: u32, wire: u16) -> Edit {
+    // SAFETY: all goes by value, and every value is allowed.
+    unsafe { mkd_plan_replace_output(*plan, output, wire) }
 }
 
 /// `mkd_permutation_count` of a size.

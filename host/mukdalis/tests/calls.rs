@@ -14,15 +14,22 @@ fn refused_plans_have_their_words() {
     assert_eq!(evaluate(&plan, &[0], &mut []), Err(Fault::Short));
     assert_eq!(evaluate(&plan, &[2], &mut []), Err(Fault::Contact));
     assert_eq!(program_plan(&plan, &mut []), Err(Fault::Short));
-    plan.gates[0].first = 2;
-    for answer in [
-        check(&plan),
-        evaluate(&plan, &[2], &mut []),
-        save(&plan).map(drop),
-        program_plan(&plan, &mut []),
-    ] {
-        assert_eq!(answer, Err(Fault::Operand));
-    }
+    let mut refused = |change: fn(&mut Plan), fault| {
+        change(&mut plan);
+        for answer in [
+            check(&plan),
+            evaluate(&plan, &[2], &mut []),
+            save(&plan).map(drop),
+            program_plan(&plan, &mut []),
+            plan.replace_gate(0, Gate::ZERO).map(drop),
+            plan.append_gate(Gate::ZERO).map(drop),
+            plan.replace_output(0, 0).map(drop),
+        ] {
+            assert_eq!(answer, Err(fault));
+        }
+    };
+    refused(|plan| plan.gate_places = 2, Fault::Tally);
+    refused(|plan| plan.gates[0].first = 2, Fault::Operand);
     assert_eq!(check(&Plan::ZERO), Err(Fault::Inputs));
 }
 
@@ -50,6 +57,7 @@ fn plan_of_every_map() -> Plan {
         gate(2, 9, 14),
     ]);
     plan.outputs[..2].copy_from_slice(&[11, 4]);
+    plan.settle_figures();
     plan
 }
 
@@ -77,6 +85,7 @@ fn a_plan_is_saved_without_needless_fields() {
     // No call looks at an unused place.
     plan.gates[8].table = 99;
     plan.outputs[2] = 99;
+    plan.uses[11] = 99;
     assert_eq!(save(&plan), Ok(EVERY_MAP.to_vec()));
 }
 
@@ -130,12 +139,133 @@ fn refused_savings_have_their_words() {
             assert_eq!(file, [9; 38]);
         }
     };
+    refused(&|plan| plan.uses[10] = 0, Fault::Tally);
     refused(&|plan| plan.outputs[1] = 3, Fault::Source);
     refused(&|plan| plan.gates[7].table = 16, Fault::Table);
     refused(&|plan| plan.gates[7].second = 11, Fault::Operand);
     refused(&|plan| plan.output_count = 65, Fault::Outputs);
     refused(&|plan| plan.gate_count = 257, Fault::Gates);
     refused(&|plan| plan.inputs = 0, Fault::Inputs);
+}
+
+/// The uses of that plan's wires by hand: of eight gates with two operands each, and two outputs.
+#[test]
+fn figures_are_counted() {
+    let uses = [4, 4, 2, 1, 1, 0, 2, 0, 3, 0, 1];
+    let plan = read(&EVERY_MAP).expect("the file is a plan");
+    assert_eq!((plan.gate_places, &plan.uses[..11]), (8, &uses[..]));
+    assert_eq!(plan.uses[11..], [0; Plan::MAX_WIRES - 11]);
+    assert_eq!(plan, plan_of_every_map());
+    for (wire, uses) in (1..).zip(uses) {
+        assert_eq!(plan.uses_of(wire), Some(uses), "wire {wire}");
+    }
+    for wire in [0, 12, 320, 321, u16::MAX] {
+        assert_eq!(plan.uses_of(wire), None, "wire {wire}");
+    }
+}
+
+/// Records of any counts and wires: the counted figures and no other place changes.
+#[test]
+fn any_record_can_be_settled() {
+    let gate = Gate {
+        first: 0,
+        second: u16::MAX,
+        table: 99,
+    };
+    for count in [0, 1, 300, u16::MAX] {
+        let mut plan = Plan {
+            inputs: count,
+            gate_count: count,
+            output_count: count,
+            gates: [gate; Plan::MAX_GATES],
+            outputs: [321; Plan::MAX_OUTPUTS],
+            gate_places: 9,
+            uses: [9; Plan::MAX_WIRES],
+        };
+        plan.settle_figures();
+        let wires = Plan::MAX_WIRES.min(2 * usize::from(count));
+        assert_eq!(plan.uses[..wires], vec![0; wires]);
+        assert!(plan.uses[wires..].iter().all(|&uses| uses == 9));
+        assert_ne!(plan.gate_places, 9);
+    }
+}
+
+/// A plan with 99 in unused places. Putting back what was replaced gives the plan again.
+#[test]
+fn an_edit_changes_its_place_and_figures_alone() {
+    let mut plan = plan_of_every_map();
+    plan.gates[9].table = 99;
+    plan.outputs[2] = 99;
+    (plan.uses[11], plan.uses[12]) = (99, 99);
+    let old = plan.gates[5];
+    let new = Gate {
+        first: 8,
+        second: 3,
+        table: 6,
+    };
+
+    let edited = plan.replace_gate(6, new).expect("gate 6 is there");
+    let mut due = plan;
+    due.gates[5] = new;
+    due.uses[..11].copy_from_slice(&[4, 2, 3, 1, 1, 0, 2, 1, 3, 0, 1]);
+    assert_eq!(edited, due);
+    assert_eq!(edited.replace_gate(6, old), Ok(plan));
+
+    let edited = plan.replace_output(2, 11).expect("output 2 is there");
+    let mut due = plan;
+    due.outputs[1] = 11;
+    (due.uses[3], due.uses[10]) = (0, 2);
+    assert_eq!(edited, due);
+    assert_eq!(edited.replace_output(2, 4), Ok(plan));
+
+    let edited = plan.append_gate(new).expect("there is room");
+    let mut due = plan;
+    due.gate_count = 9;
+    due.gates[8] = new;
+    due.gate_places = 16;
+    (due.uses[2], due.uses[7], due.uses[11]) = (3, 1, 0);
+    assert_eq!(edited, due);
+}
+
+/// Every word of an edit behind the plan faults, and that the record comes back.
+#[test]
+fn refused_edits_have_their_words() {
+    let mut plan = plan_of_every_map();
+    plan.uses[11] = 99;
+    let gate = |first, second, table| Gate {
+        first,
+        second,
+        table,
+    };
+    let refused = |edit: raw::Edit, fault: Fault| {
+        assert_eq!((edit.number, edit.plan), (fault.number(), plan));
+    };
+    for number in [0, 9, 265, 1 << 16 | 1, u32::MAX] {
+        let edit = raw::plan_replace_gate(&plan, number, gate(0, 0, 16));
+        refused(edit, Fault::Place);
+    }
+    for number in [0, 3, 258, 1 << 16 | 1, u32::MAX] {
+        refused(raw::plan_replace_output(&plan, number, 0), Fault::Place);
+    }
+    for (first, second) in [(0, 1), (1, 0), (9, 1), (1, 9), (u16::MAX, 1)] {
+        let edit = raw::plan_replace_gate(&plan, 6, gate(first, second, 16));
+        refused(edit, Fault::Operand);
+    }
+    for (first, second) in [(0, 1), (1, 0), (12, 1), (1, 12), (u16::MAX, 1)] {
+        let edit = raw::plan_append_gate(&plan, gate(first, second, 16));
+        refused(edit, Fault::Operand);
+    }
+    refused(
+        raw::plan_replace_gate(&plan, 6, gate(8, 8, 16)),
+        Fault::Table,
+    );
+    refused(
+        raw::plan_append_gate(&plan, gate(11, 11, 264)),
+        Fault::Table,
+    );
+    for wire in [0, 3, 12, u16::MAX] {
+        refused(raw::plan_replace_output(&plan, 1, wire), Fault::Source);
+    }
 }
 
 /// Four gates: 1 draws from 3 and is the output, 2 is input 1, 3 draws from 2, 4 from the one before.
@@ -149,6 +279,7 @@ fn a_drawn_plan_is_read_with_its_drawn_numbers() {
     let operands = plan.gates.map(|gate| (gate.first, gate.second));
     assert_eq!(operands[..5], [(1, 1), (2, 2), (3, 3), (3, 3), (0, 0)]);
     assert_eq!(plan.outputs[..2], [4, 0]);
+    assert_eq!(plan.uses[..6], [2, 2, 4, 1, 0, 0]);
 }
 
 #[test]
@@ -323,6 +454,7 @@ fn delay() -> Plan {
         };
     }
     plan.outputs[..3].copy_from_slice(&[6, 4, 5]);
+    plan.settle_figures();
     plan
 }
 

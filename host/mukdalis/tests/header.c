@@ -88,6 +88,53 @@ static int savings_fail(void)
     return 0;
 }
 
+static int has_uses(struct mkd_plan plan, uint16_t input, uint16_t first, uint16_t second)
+{
+    return plan.uses[0] == input && plan.uses[1] == first && plan.uses[2] == second;
+}
+
+/* A gate behind NOT is appended, becomes the output, and is replaced; refusals of each edit. */
+static int edits_fail(void)
+{
+    const struct mkd_gate on_gate = {2, 2, 1}, on_both = {1, 2, 6}, on_itself = {1, 3, 16};
+    struct mkd_plan plan = mkd_plan_read(not_plan, sizeof not_plan).plan;
+    struct mkd_edit edit;
+
+    plan.uses[2] = plan.uses[3] = 9;
+    if (plan.gate_places != 1 || !has_uses(plan, 2, 1, 9))
+        return fails("the figures of a plan");
+    edit = mkd_plan_append_gate(plan, on_itself);
+    if (edit.number != MKD_OPERAND || edit.plan.gate_count != 1 || !has_uses(edit.plan, 2, 1, 9))
+        return fails("a gate appended on itself");
+    edit = mkd_plan_append_gate(plan, on_gate);
+    if (edit.number != 0 || edit.plan.gate_count != 2 || edit.plan.gates[1].first != 2 ||
+        edit.plan.gate_places != 2 || !has_uses(edit.plan, 2, 3, 0) || edit.plan.uses[3] != 9)
+        return fails("an appended gate");
+    plan = edit.plan;
+    edit = mkd_plan_replace_output(plan, 1, 1);
+    if (edit.number != MKD_SOURCE || edit.plan.outputs[0] != 2)
+        return fails("an input as output");
+    edit = mkd_plan_replace_output(plan, 2, 3);
+    if (edit.number != MKD_PLACE || edit.plan.outputs[1] != 0)
+        return fails("a second output");
+    edit = mkd_plan_replace_output(plan, 1, 3);
+    if (edit.number != 0 || edit.plan.outputs[0] != 3 || !has_uses(edit.plan, 2, 2, 1))
+        return fails("a replaced output");
+    plan = edit.plan;
+    edit = mkd_plan_replace_gate(plan, 0, on_both);
+    if (edit.number != MKD_PLACE || edit.plan.gates[1].first != 2)
+        return fails("gate number 0");
+    edit = mkd_plan_replace_gate(plan, 2, on_both);
+    if (edit.number != 0 || edit.plan.gates[1].first != 1 || !has_uses(edit.plan, 3, 1, 1))
+        return fails("a replaced gate");
+    plan = edit.plan;
+    plan.uses[0] = 2;
+    edit = mkd_plan_replace_gate(plan, 0, on_itself);
+    if (edit.number != MKD_TALLY || mkd_plan_fault(plan) != MKD_TALLY || edit.plan.uses[0] != 2)
+        return fails("a figure that is not the counted one");
+    return 0;
+}
+
 static int permutations_fail(void)
 {
     const uint16_t pair[2] = {2, 1};
@@ -307,11 +354,13 @@ static void print_layout(void)
            offsetof(struct mkd_gate, table));
     printf(" %zu %zu %zu", sizeof(struct mkd_plan), offsetof(struct mkd_plan, gates),
            offsetof(struct mkd_plan, outputs));
+    printf(" %zu %zu", offsetof(struct mkd_plan, gate_places), offsetof(struct mkd_plan, uses));
     printf(" %zu %zu %zu", sizeof(struct mkd_read), offsetof(struct mkd_read, at),
            offsetof(struct mkd_read, plan));
     printf(" %zu %zu %zu %zu", sizeof(struct mkd_drawn), offsetof(struct mkd_drawn, at),
            offsetof(struct mkd_drawn, plan), offsetof(struct mkd_drawn, drawn));
     printf(" %zu %zu", sizeof(struct mkd_saved), offsetof(struct mkd_saved, length));
+    printf(" %zu %zu", sizeof(struct mkd_edit), offsetof(struct mkd_edit, plan));
     printf(" %zu %zu %zu %zu", sizeof(struct mkd_counts), offsetof(struct mkd_counts, rows),
            offsetof(struct mkd_counts, wires), offsetof(struct mkd_counts, bits));
     printf(" %zu %zu %zu %zu", sizeof(struct mkd_kinds), offsetof(struct mkd_kinds, y),
@@ -328,12 +377,12 @@ static void print_faults(void)
     printf(" cut %d map %d operand %d table %d", MKD_CUT, MKD_MAP, MKD_OPERAND, MKD_TABLE);
     printf(" source %d tail %d short %d", MKD_SOURCE, MKD_TAIL, MKD_SHORT);
     printf(" contact %d fabric %d program %d", MKD_CONTACT, MKD_FABRIC, MKD_PROGRAM);
-    printf(" ring %d hold %d\n", MKD_RING, MKD_HOLD);
+    printf(" ring %d hold %d tally %d place %d\n", MKD_RING, MKD_HOLD, MKD_TALLY, MKD_PLACE);
 }
 
 int main(void)
 {
-    if (plans_fail() || drawn_plans_fail() || savings_fail() || counts_fail() ||
+    if (plans_fail() || drawn_plans_fail() || savings_fail() || edits_fail() || counts_fail() ||
         permutations_fail() || selections_fail() || sheets_fail() || fabrics_fail() ||
         series_fail())
         return 1;

@@ -6,7 +6,7 @@ use std::mem::{offset_of, size_of};
 use std::path::{Path, PathBuf};
 use std::process::Command;
 
-use mukdalis::raw::{Counts, Drawn, FabricSheet, Read, Saved};
+use mukdalis::raw::{Counts, Drawn, Edit, FabricSheet, Read, Saved};
 use mukdalis::{Fault, Gate, Kinds, Plan, Size, MAX_INTERVALS, MAX_SIZE};
 
 const C11: &[&str] = &["cc", "-std=c11"];
@@ -60,6 +60,8 @@ fn records_and_refusals_are_the_packages() {
         size_of::<Plan>(),
         offset_of!(Plan, gates),
         offset_of!(Plan, outputs),
+        offset_of!(Plan, gate_places),
+        offset_of!(Plan, uses),
         size_of::<Read>(),
         offset_of!(Read, at),
         offset_of!(Read, plan),
@@ -69,6 +71,8 @@ fn records_and_refusals_are_the_packages() {
         offset_of!(Drawn, drawn),
         size_of::<Saved>(),
         offset_of!(Saved, length),
+        size_of::<Edit>(),
+        offset_of!(Edit, plan),
         size_of::<Counts>(),
         offset_of!(Counts, rows),
         offset_of!(Counts, wires),
@@ -96,6 +100,7 @@ fn limits_are_the_packages() {
         Plan::MAX_INPUTS,
         Plan::MAX_GATES,
         Plan::MAX_OUTPUTS,
+        Plan::MAX_WIRES,
         Plan::MAX_FILE_LEN,
         size,
         rows,
@@ -117,6 +122,8 @@ u 2 k 2 v 1 rows 23 wires 40 bits 29
 01 0 0
 11 0 0
 saved 17 bytes
+uses 2 1, edited 1 2
+gate 3: refused 18
 cut: refused 5 at 15
 latch 00 0 0
 latch 10 1 1

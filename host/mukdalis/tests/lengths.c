@@ -28,6 +28,24 @@ static int fails(const char *what)
     return 1;
 }
 
+/* Counts the figures of a plan in memory. */
+static void settle(struct mkd_plan *plan)
+{
+    size_t i;
+
+    plan->gate_places = 1;
+    while (plan->gate_places < plan->gate_count)
+        plan->gate_places *= 2;
+    for (i = 0; i < MKD_MAX_WIRES; i++)
+        plan->uses[i] = 0;
+    for (i = 0; i < plan->gate_count; i++) {
+        plan->uses[plan->gates[i].first - 1]++;
+        plan->uses[plan->gates[i].second - 1]++;
+    }
+    for (i = 0; i < plan->output_count; i++)
+        plan->uses[plan->outputs[i] - 1]++;
+}
+
 /* The longest plan, plain and drawn: every field of every gate stands. */
 static int longest_file_fails(void)
 {
@@ -78,6 +96,7 @@ static int longest_saved_file_fails(void)
     }
     for (i = 0; i < MKD_MAX_OUTPUTS; i++)
         plan.outputs[i] = 3;
+    settle(&plan);
     for (i = MKD_MAX_FILE_LEN; i <= sizeof file; i++) {
         saved = mkd_plan_save(plan, file, i);
         if (saved.number != 0 || saved.length != MKD_MAX_FILE_LEN)
@@ -256,6 +275,7 @@ static struct mkd_plan plan_of(uint8_t u, uint16_t k, uint8_t v)
     }
     for (i = 0; i < MKD_MAX_OUTPUTS; i++)
         plan.outputs[i] = (uint16_t)(u + 1);
+    settle(&plan);
     return plan;
 }
 
@@ -380,6 +400,22 @@ static int most_series_fails(struct mkd_plan plan)
     return 0;
 }
 
+/* The most gates of a plan, and one more; with the most inputs they are the most wires. */
+static int most_gates_fail(void)
+{
+    const struct mkd_gate gate = {MKD_MAX_WIRES - 1, 1, 8};
+    struct mkd_edit edit =
+        mkd_plan_append_gate(plan_of(MKD_MAX_INPUTS, MKD_MAX_GATES - 1, MKD_MAX_OUTPUTS), gate);
+
+    if (edit.number != 0 || edit.plan.uses[MKD_MAX_WIRES - 2] != 1 ||
+        edit.plan.uses[MKD_MAX_WIRES - 1] != 0)
+        return fails("the last gate");
+    edit = mkd_plan_append_gate(edit.plan, gate);
+    if (edit.number != MKD_GATES || edit.plan.gate_count != MKD_MAX_GATES)
+        return fails("a gate more than the most");
+    return 0;
+}
+
 /* A plan's evaluation, the fabric of its counts, its program, their run, and series of both. */
 static int fabric_fails(uint8_t u, uint16_t k, uint8_t v)
 {
@@ -423,9 +459,10 @@ static int plans_fail(void)
 int main(void)
 {
     if (longest_file_fails() || longest_saved_file_fails() || blocks_fail() || counts_fail() ||
-        constants_fail() || plans_fail())
+        constants_fail() || plans_fail() || most_gates_fail())
         return 1;
-    printf("%d %d %d %d", MKD_MAX_INPUTS, MKD_MAX_GATES, MKD_MAX_OUTPUTS, MKD_MAX_FILE_LEN);
+    printf("%d %d %d %d", MKD_MAX_INPUTS, MKD_MAX_GATES, MKD_MAX_OUTPUTS, MKD_MAX_WIRES);
+    printf(" %d", MKD_MAX_FILE_LEN);
     printf(" %d %d %d %d %d\n", MKD_MAX_SIZE, MKD_MAX_FABRIC_ROWS, MKD_MAX_FABRIC_WIRES,
            MKD_MAX_FABRIC_BITS, MKD_MAX_INTERVALS);
     return 0;

@@ -94,13 +94,16 @@ fn plan_of(inputs: u16, gate_count: u16, output_count: u16) -> Plan {
         second: 1,
         table: 8,
     };
-    Plan {
+    let mut plan = Plan {
         inputs,
         gate_count,
         output_count,
         gates: [gate; Plan::MAX_GATES],
         outputs: [inputs + 1; Plan::MAX_OUTPUTS],
-    }
+        ..Plan::ZERO
+    };
+    plan.settle_figures();
+    plan
 }
 
 /// u, k and v of small plans, of the largest, and between.
@@ -144,10 +147,11 @@ fn the_longest_saved_plan() {
         second: 2,
         table: 6,
     };
-    let plan = Plan {
+    let mut plan = Plan {
         gates: [gate; Plan::MAX_GATES],
         ..plan_of(2, 256, 64)
     };
+    plan.settle_figures();
     check_saved_length(&plan, Plan::MAX_FILE_LEN);
 }
 
@@ -178,6 +182,20 @@ fn lengths_of_fabrics() {
         assert_eq!(run(work_len - 1, result_len), Err(Fault::Short));
         assert_eq!(run(work_len, result_len - 1), Err(Fault::Short));
     }
+}
+
+/// One gate more than the most is refused; with the most inputs they are the most wires.
+#[test]
+fn the_most_gates_of_a_plan() {
+    let gate = Gate {
+        first: Plan::MAX_WIRES as u16 - 1,
+        second: 1,
+        table: 8,
+    };
+    let plan = plan_of(64, 255, 64).append_gate(gate);
+    let plan = plan.expect("there is room for a gate");
+    assert_eq!(plan.uses_of(Plan::MAX_WIRES as u16), Some(0));
+    assert_eq!(plan.append_gate(gate), Err(Fault::Gates));
 }
 
 type Answer = Result<(), Fault>;
