@@ -13,6 +13,7 @@ pub mod samples;
 
 mod blocks;
 mod drawn;
+mod edits;
 mod fabric;
 mod files;
 mod memory;
@@ -68,16 +69,20 @@ enum Call {
     SeriesParts,
     SingleCalls,
     SeriesInFabric,
+    GateReplacement,
+    GateAppending,
+    OutputReplacement,
+    EditedPlan,
 }
 
 /// Each call's name, and the numbers that it must have given at least once.
-const CALLS: [(&str, &[usize]); 28] = [
+const CALLS: [(&str, &[usize]); 32] = [
     ("reading", &[0, 1, 2, 3, 4, 5, 6, 7, 8, 9, 10]),
-    ("plan faults", &[0, 2, 3, 4, 7, 8, 9]),
-    ("evaluation", &[0, 2, 3, 4, 7, 8, 9, 11, 12]),
+    ("plan faults", &[0, 2, 3, 4, 7, 8, 9, 17]),
+    ("evaluation", &[0, 2, 3, 4, 7, 8, 9, 11, 12, 17]),
     ("drawn reading", &[0, 1, 2, 3, 4, 5, 6, 7, 8, 9, 10, 15]),
     ("drawn outputs", &[0]),
-    ("saving", &[0, 2, 3, 4, 7, 8, 9, 11]),
+    ("saving", &[0, 2, 3, 4, 7, 8, 9, 11, 17]),
     ("reading back", &[0]),
     ("shortest", &[0]),
     ("files tried", &[0, 5, 6, 7, 8, 9, 10]),
@@ -92,14 +97,18 @@ const CALLS: [(&str, &[usize]); 28] = [
     ("fabric", &[0, 2, 3, 4, 11]),
     ("table's kinds", &[0]),
     ("run", &[0, 11, 12, 13, 14]),
-    ("program bits", &[0, 2, 3, 4, 7, 8, 9, 11]),
+    ("program bits", &[0, 2, 3, 4, 7, 8, 9, 11, 17]),
     ("plans", &[0]),
     ("plans' runs", &[0]),
-    ("plan series", &[0, 2, 3, 4, 7, 8, 9, 11, 12, 16]),
+    ("plan series", &[0, 2, 3, 4, 7, 8, 9, 11, 12, 16, 17]),
     ("fabric series", &[0, 11, 12, 13, 14, 16]),
     ("in two parts", &[0]),
     ("single calls", &[0]),
     ("in its fabric", &[0]),
+    ("replace gate", &[0, 2, 3, 4, 7, 8, 9, 17, 18]),
+    ("append gate", &[0, 2, 3, 4, 7, 8, 9, 17]),
+    ("new output", &[0, 2, 3, 4, 7, 8, 9, 17, 18]),
+    ("edited plans", &[0]),
 ];
 
 /// What ends a comparison: a case with both answers, or what it never met.
@@ -128,6 +137,7 @@ impl Comparison {
         fabric::compare(&mut comparison, &mut random)?;
         program::compare(&mut comparison, &mut random)?;
         series::compare(&mut comparison, &mut random)?;
+        edits::compare(&mut comparison, &mut random)?;
         comparison.check_seen()?;
         Ok(comparison)
     }

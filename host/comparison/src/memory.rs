@@ -1,11 +1,12 @@
-//! Plans in memory: accepted ones, every fault and every two of them, unused places filled with
-//! anything; input rows good and bad; result buffers short, exact and long.
+//! Plans in memory: accepted ones, every fault and every two of them, damaged figures, unused places
+//! filled with anything; input rows good and bad; result buffers short, exact and long.
 
 use mukdalis::Plan;
 
 use super::{Comparison, Outcome};
 use crate::random::Random;
 use crate::reference::plan::fault;
+use crate::samples::edits::damage_figures;
 use crate::samples::plans::every_plan;
 use crate::samples::{accepted_plan, fill_unused, Counts, LIMIT_COUNTS};
 
@@ -17,6 +18,7 @@ pub fn compare(comparison: &mut Comparison, random: &mut Random) -> Outcome {
     counts_at_limits(comparison, random)?;
     other_counts(comparison, random)?;
     two_faults(comparison, random)?;
+    damaged_figures(comparison, random)?;
     random_records(comparison, random)
 }
 
@@ -122,18 +124,22 @@ fn result_lengths(comparison: &mut Comparison, random: &mut Random) -> Outcome {
     Ok(())
 }
 
-/// Plans of every choice of counts, in range or not, over the places of one of the longest plans.
+/// Plans of every choice of counts, in range or not, over the places of one of the longest plans; each
+/// with the figures of these counts, and with those of the longest plan.
 pub fn plans_at_limits(random: &mut Random) -> Vec<Plan> {
     let mut plans = Vec::new();
     for u in LIMIT_COUNTS {
         for k in LIMIT_COUNTS {
             for v in LIMIT_COUNTS {
-                plans.push(Plan {
+                let mut plan = Plan {
                     inputs: u,
                     gate_count: k,
                     output_count: v,
                     ..accepted_plan(random, Counts::MOST)
-                });
+                };
+                plans.push(plan);
+                plan.settle_figures();
+                plans.push(plan);
             }
         }
     }
@@ -149,7 +155,7 @@ fn counts_at_limits(comparison: &mut Comparison, random: &mut Random) -> Outcome
 }
 
 /// Plans whose counts then change within their range, so that used places become unused or the
-/// other way round.
+/// other way round; their figures are those of the new counts or of the old.
 fn other_counts(comparison: &mut Comparison, random: &mut Random) -> Outcome {
     comparison.begin("other counts over the same places");
     for _ in 0..5_000 {
@@ -161,6 +167,9 @@ fn other_counts(comparison: &mut Comparison, random: &mut Random) -> Outcome {
             2 => plan.gate_count = k,
             3 => plan.output_count = v,
             _ => plan.gate_count = (plan.gate_count + 1).min(Plan::MAX_GATES as u16),
+        }
+        if random.one_in(2) {
+            plan.settle_figures();
         }
         all_orders(comparison, &plan, plan.inputs.into())?;
     }
@@ -177,6 +186,8 @@ enum Change {
     Second(usize, u16),
     Table(usize, u16),
     Output(usize, u16),
+    GatePlaces(u16),
+    Uses(usize, u16),
 }
 
 impl Change {
@@ -189,12 +200,15 @@ impl Change {
             Change::Second(g, wire) => plan.gates[g].second = wire,
             Change::Table(g, table) => plan.gates[g].table = table,
             Change::Output(j, wire) => plan.outputs[j] = wire,
+            Change::GatePlaces(places) => plan.gate_places = places,
+            Change::Uses(w, uses) => plan.uses[w] = uses,
         }
     }
 }
 
-/// Changes that each give a plan a fault: of the counts, and of the first, a middle and the last
-/// gate and output. Those of the place after the last one, which is unused, give none.
+/// Changes that each give a plan a fault: of the counts, of the first, a middle and the last gate and
+/// output, of K, and of the uses of the first, a middle and the last wire. Those of the place after
+/// the last one, which is unused, give none.
 fn faulty_changes(plan: &Plan) -> Vec<Change> {
     let (u, k, v) = (plan.inputs, plan.gate_count, plan.output_count);
     let Counts(most_inputs, most_gates, most_outputs) = Counts::MOST;
@@ -212,6 +226,14 @@ fn faulty_changes(plan: &Plan) -> Vec<Change> {
     for j in places(v, most_outputs) {
         let j = usize::from(j);
         changes.extend([0, u, u + k + 1, u16::MAX].map(|wire| Change::Output(j, wire)));
+    }
+    let near = plan.gate_places;
+    changes.extend([0, near.wrapping_sub(1), near + 1, 2 * near].map(Change::GatePlaces));
+    for w in places(u + k, most_inputs + most_gates) {
+        let w = usize::from(w);
+        let uses = plan.uses[w];
+        let others = [uses.wrapping_sub(1), uses.wrapping_add(1), uses ^ 1 << 8];
+        changes.extend(others.map(|uses| Change::Uses(w, uses)));
     }
     changes
 }
@@ -272,7 +294,19 @@ fn two_faults(comparison: &mut Comparison, random: &mut Random) -> Outcome {
     Ok(())
 }
 
-/// A record of random places, small or any, which is seldom accepted.
+/// Figures that are damaged in any way, of plans that have no other fault.
+fn damaged_figures(comparison: &mut Comparison, random: &mut Random) -> Outcome {
+    comparison.begin("damaged figures");
+    for _ in 0..5_000 {
+        let counts = Counts::random(random);
+        let mut plan = filled_plan(random, counts);
+        damage_figures(random, &mut plan);
+        all_orders(comparison, &plan, plan.inputs.into())?;
+    }
+    Ok(())
+}
+
+/// A record of random places, small or any, which is seldom accepted; its figures are counted or not.
 pub fn random_record(random: &mut Random) -> Plan {
     let mut plan = Plan::ZERO;
     let most = random.choose(&[2, 4, 16, u16::MAX]);
@@ -286,6 +320,13 @@ pub fn random_record(random: &mut Random) -> Plan {
     }
     for output in &mut plan.outputs {
         *output = random.between(0, most);
+    }
+    plan.gate_places = random.between(0, most.min(270));
+    for uses in &mut plan.uses {
+        *uses = random.between(0, most.min(8));
+    }
+    if random.one_in(2) {
+        plan.settle_figures();
     }
     plan
 }

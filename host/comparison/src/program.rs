@@ -32,7 +32,7 @@ pub fn compare(comparison: &mut Comparison, random: &mut Random) -> Outcome {
 
 /// Compares the program of a plan that is lent a buffer of `program_len` bytes, and gives what each
 /// wrote: nothing where both refuse.
-fn compare_program(
+pub fn compare_program(
     comparison: &mut Comparison,
     random: &mut Random,
     plan: &Plan,
@@ -60,7 +60,7 @@ fn compare_program(
 }
 
 /// Bytes of the program of a plan whose counts are in range.
-fn stated_length(plan: &Plan) -> usize {
+pub fn stated_length(plan: &Plan) -> usize {
     let [u, k, v] = plan.counts();
     let size = reference::fabric::count(u, k, v).expect("the counts are in range");
     size.bits.div_ceil(8) as usize

@@ -5,6 +5,9 @@ pub mod drawn;
 pub mod plan;
 pub mod saving;
 
+pub mod edits;
+pub mod incremental;
+
 pub mod elements;
 
 mod blocks;

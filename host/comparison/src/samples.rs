@@ -1,9 +1,10 @@
-//! Random accepted plans and their files, drawings, calls of the block library, fabric tables, and
-//! series of intervals, from which the comparisons make their cases.
+//! Random accepted plans and their files, drawings, edits, calls of the block library, fabric tables,
+//! and series of intervals, from which the comparisons make their cases.
 
 pub mod blocks;
 pub mod damage;
 pub mod drawings;
+pub mod edits;
 pub mod fabric;
 pub mod gates;
 pub mod permutation;
@@ -84,9 +85,11 @@ pub fn accepted_plan(random: &mut Random, Counts(u, k, v): Counts) -> Plan {
     for output in &mut plan.outputs[..usize::from(v)] {
         *output = random.between(u + 1, u + k);
     }
+    plan.settle_figures();
     plan
 }
 
+/// A random gate that is accepted with this wire.
 fn accepted_gate(random: &mut Random, own: u16) -> Gate {
     let first = random.between(1, own - 1);
     let first = random.choose(&[first, first, own - 1]);
@@ -117,6 +120,9 @@ pub fn fill_unused(random: &mut Random, plan: &mut Plan) {
     }
     for output in &mut plan.outputs[usize::from(plan.output_count)..] {
         *output = random.word() as u16;
+    }
+    for uses in &mut plan.uses[usize::from(plan.inputs + plan.gate_count)..] {
+        *uses = random.word() as u16;
     }
 }
 

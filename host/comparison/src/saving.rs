@@ -46,7 +46,7 @@ pub fn compare(comparison: &mut Comparison, random: &mut Random) -> Outcome {
 
 /// Compares the saving of a plan that is lent a buffer of `file_len` bytes, and the library's reading
 /// of what it wrote with the plan. Gives the file, or nothing where both refuse.
-fn compare_saving(
+pub fn compare_saving(
     comparison: &mut Comparison,
     random: &mut Random,
     plan: &Plan,
@@ -105,14 +105,17 @@ fn compare_reading_back(comparison: &mut Comparison, plan: &Plan, file: &[u8]) -
 /// The plan with its unused places zero.
 fn with_unused_zero(plan: &Plan) -> Plan {
     let (gates, outputs) = (used_gates(plan), used_outputs(plan));
+    let wires = usize::from(plan.inputs + plan.gate_count);
     let mut read = Plan {
         inputs: plan.inputs,
         gate_count: plan.gate_count,
         output_count: plan.output_count,
+        gate_places: plan.gate_places,
         ..Plan::ZERO
     };
     read.gates[..gates.len()].copy_from_slice(gates);
     read.outputs[..outputs.len()].copy_from_slice(outputs);
+    read.uses[..wires].copy_from_slice(&plan.uses[..wires]);
     read
 }
 

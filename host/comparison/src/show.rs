@@ -31,7 +31,11 @@ pub fn show_saved(saved: &raw::Saved) -> String {
     format!("{}, {} bytes", show_number(saved.number), saved.length)
 }
 
-/// All places of a plan up to the last that is not zero: counts in decimal, the rest in hex.
+pub fn show_edit(edit: &raw::Edit) -> String {
+    format!("{}, {}", show_number(edit.number), show_plan(&edit.plan))
+}
+
+/// All places of a plan up to the last that is not zero: counts and K in decimal, the rest in hex.
 pub fn show_plan(plan: &Plan) -> String {
     let (u, k, v) = (plan.inputs, plan.gate_count, plan.output_count);
     let mut text = format!("u {u} k {k} v {v} gates");
@@ -41,6 +45,10 @@ pub fn show_plan(plan: &Plan) -> String {
     text.push_str(" outputs");
     for output in up_to_last(&plan.outputs, &0) {
         let _ = write!(text, " {output:x}");
+    }
+    let _ = write!(text, " places {} uses", plan.gate_places);
+    for uses in up_to_last(&plan.uses, &0) {
+        let _ = write!(text, " {uses:x}");
     }
     text
 }
@@ -61,6 +69,12 @@ pub fn first_difference(expected: &Plan, found: &Plan) -> String {
     }
     if let Some(j) = (0..Plan::MAX_OUTPUTS).find(|&j| expected.outputs[j] != found.outputs[j]) {
         return format!("the plan's outputs[{j}]");
+    }
+    if expected.gate_places != found.gate_places {
+        return "the plan's gate_places".to_string();
+    }
+    if let Some(w) = (0..Plan::MAX_WIRES).find(|&w| expected.uses[w] != found.uses[w]) {
+        return format!("the plan's uses[{w}]");
     }
     "the number or the offset".to_string()
 }

@@ -7,7 +7,7 @@ use super::show::show_number;
 use super::{Call, Comparison, CALLS, NUMBERS};
 
 /// The calls that share a table.
-const SUBJECTS: [&[Call]; 8] = [
+const SUBJECTS: [&[Call]; 9] = [
     &[Call::Reading, Call::Faults, Call::Evaluation],
     &[Call::DrawnReading, Call::DrawnOutputs],
     &[
@@ -41,6 +41,12 @@ const SUBJECTS: [&[Call]; 8] = [
         Call::SingleCalls,
         Call::SeriesInFabric,
     ],
+    &[
+        Call::GateReplacement,
+        Call::GateAppending,
+        Call::OutputReplacement,
+        Call::EditedPlan,
+    ],
 ];
 
 impl fmt::Display for Comparison {
@@ -58,12 +64,14 @@ impl fmt::Display for Comparison {
         let plans = self.cases(Call::PlanInFabric);
         let series = self.cases(Call::PlanSeries) + self.cases(Call::FabricSeries);
         let parts = self.cases(Call::SeriesParts);
+        let replaced = self.cases(Call::GateReplacement) + self.cases(Call::OutputReplacement);
+        let edits = replaced + self.cases(Call::GateAppending);
         writeln!(
             out,
             "compared {total} cases, {files} of them files, {drawn} drawn files, {saved} saved \
              plans, {permutations} permutations, {selections} selections, {fabrics} fabrics, \
              {runs} runs, {plans} plans in their fabrics, {series} series, {parts} series in two \
-             parts, and tried {tried} files for shorter ones: no difference"
+             parts, {edits} edits, and tried {tried} files for shorter ones: no difference"
         )
     }
 }

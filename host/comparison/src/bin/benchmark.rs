@@ -12,6 +12,11 @@
 //! on both sides. Saving is lent room for the longest file, and both sides make the file in an array of
 //! their own and copy it. The reference has its work lists on the heap, a few for each block.
 //!
+//! An edit is of a random gate or output. Where a plan would get a 257th gate, the appended one is its
+//! 256th. The Rust beside the library's edits is not the reference, which counts all figures again,
+//! but written for speed: after the same checks it changes the figures that the edit touches. Both
+//! sides hand the record back by value.
+//!
 //! A series has 4,096 intervals, with half of the outputs held, rounded up: by one plan of each shape,
 //! and by the fabric of one plan, since that takes long. Both sides check plan, table and program once.
 //!
@@ -27,7 +32,10 @@
 //!
 //! A line below has the time of drawn reading over that of the plain reading of the same files, for
 //! either side, and another one that of the library's series over as many of its single calls,
-//! between which the caller carries the state; both measured by turns as the ratio is.
+//! between which the caller carries the state. Of the edits one line has the time of the library's
+//! plan faults alone, which are an edit's checks, over that of the edit, and one that of the Rust edits
+//! that count all figures again over those beside the library's. All are measured by turns as the
+//! ratio is.
 
 use std::hint::black_box;
 use std::path::Path;
@@ -40,13 +48,14 @@ use comparison::reference;
 use comparison::reference::series::Intervals;
 use comparison::samples::blocks::Block;
 use comparison::samples::drawings::backwards;
+use comparison::samples::edits::{sound_edits, Editing, PlanEdit};
 use comparison::samples::fabric::wires;
 use comparison::samples::permutation::random_permutation;
 use comparison::samples::plans::{shaped_plan, PlanShape};
 use comparison::samples::{Counts, PlanFile, Standing};
 use mukdalis::{
-    count_fabric, evaluate, evaluate_series, program_permutation, program_plan, raw, run_fabric,
-    run_series, write_fabric, DrawnPlan, Fault, Plan, Series, MAX_INTERVALS,
+    check, count_fabric, evaluate, evaluate_series, program_permutation, program_plan, raw,
+    run_fabric, run_series, write_fabric, DrawnPlan, Fault, Plan, Series, MAX_INTERVALS,
 };
 
 const SEED: u64 = 0x6265_6e63_686d_6172;
@@ -85,6 +94,13 @@ fn main() {
             println!("{line}");
         }
     }
+    for call in Call::OF_EDITS {
+        for counts in COUNTS {
+            let edits = Edits::new(counts, call);
+            let line = line(&arrays, call, &edits.size, edits.measure());
+            println!("{line}   Rust incremental");
+        }
+    }
     let drawings = Drawings::new(&mut random, &plans[COUNTS.len() - 1]);
     for call in Call::OF_DRAWINGS {
         let line = line(&arrays, call, &drawings.size, drawings.measure(call));
@@ -101,6 +117,7 @@ fn main() {
     }
     drawings.print_beside_plain();
     plans[COUNTS.len() - 1].print_beside_single_calls();
+    Edits::print_beside_checks();
 }
 
 /// The timed calls.
@@ -114,6 +131,9 @@ enum Call {
     ProgramPlan,
     Run,
     RunSeries,
+    ReplaceGate,
+    AppendGate,
+    ReplaceOutput,
     ReadInOrder,
     ReadBackwards,
     ProgramP,
@@ -131,6 +151,8 @@ impl Call {
         Call::RunSeries,
     ];
 
+    const OF_EDITS: [Call; 3] = [Call::ReplaceGate, Call::AppendGate, Call::ReplaceOutput];
+
     const OF_DRAWINGS: [Call; 2] = [Call::ReadInOrder, Call::ReadBackwards];
 
     fn name(self) -> &'static str {
@@ -143,6 +165,9 @@ impl Call {
             Call::ProgramPlan => "program bits",
             Call::Run => "run",
             Call::RunSeries => "fabric's series",
+            Call::ReplaceGate => "replace gate",
+            Call::AppendGate => "append gate",
+            Call::ReplaceOutput => "replace output",
             Call::ReadInOrder => "drawn in order",
             Call::ReadBackwards => "drawn backwards",
             Call::ProgramP => "P's program",
@@ -160,6 +185,9 @@ impl Call {
             Call::ProgramPlan => "mkd_program",
             Call::Run => "mkd_run",
             Call::RunSeries => "mkd_run_series",
+            Call::ReplaceGate => "mkd_plan_replace_gate",
+            Call::AppendGate => "mkd_plan_append_gate",
+            Call::ReplaceOutput => "mkd_plan_replace_output",
             Call::ReadInOrder | Call::ReadBackwards => "mkd_plan_read_drawn",
             Call::ProgramP => "mkd_permutation_program",
         }
@@ -319,9 +347,7 @@ impl Plans {
                 are_done,
             )
             .an_interval(),
-            Call::ReadInOrder | Call::ReadBackwards | Call::ProgramP => {
-                unreachable!("no call of plans")
-            }
+            _ => unreachable!("no call of plans"),
         }
     }
 
@@ -368,6 +394,88 @@ impl Plans {
             by_fabric.times.ratio
         );
     }
+}
+
+/// Edits of one kind, of plans of the same counts.
+struct Edits {
+    size: String,
+    samples: Vec<(Plan, PlanEdit)>,
+}
+
+impl Edits {
+    fn new(Counts(u, k, v): Counts, call: Call) -> Edits {
+        let (kind, k) = match call {
+            Call::ReplaceGate => (0, k),
+            Call::AppendGate => (1, k.min(Plan::MAX_GATES as u16 - 1)),
+            Call::ReplaceOutput => (2, k),
+            _ => unreachable!("no edit"),
+        };
+        let mut random = Random::new(SEED);
+        let shapes = PlanShape::ALL.into_iter().cycle();
+        let samples = shapes.take(SAMPLES).map(|shape| {
+            let plan = shaped_plan(&mut random, Counts(u, k, v), shape);
+            (plan, sound_edits(&mut random, &plan)[kind])
+        });
+        Edits {
+            size: format!("({u},{k},{v})"),
+            samples: samples.collect(),
+        }
+    }
+
+    fn measure(&self) -> Measured {
+        measure(
+            &self.samples,
+            (),
+            |(plan, edit), ()| Editing::LIBRARY.edit(plan, *edit),
+            |(plan, edit), ()| Editing::INCREMENTAL.edit(plan, *edit),
+            |edit, answer| edit.number == 0 && answer == Ok(edit.plan),
+        )
+    }
+
+    /// Of the largest plans: the library's checks over its edits, and the Rust edits that count all
+    /// figures again over those that do not.
+    fn print_beside_checks() {
+        let edits = Call::OF_EDITS.map(|call| Edits::new(Counts::MOST, call));
+        let checks = edits.each_ref().map(|edits| {
+            time(
+                &edits.samples,
+                &mut (),
+                &|(plan, _): &(Plan, PlanEdit), (): &mut ()| check(plan),
+                &|(plan, edit): &(Plan, PlanEdit), (): &mut ()| Editing::LIBRARY.edit(plan, *edit),
+            )
+        });
+        let recounting = edits.each_ref().map(|edits| {
+            time(
+                &edits.samples,
+                &mut (),
+                &|(plan, edit): &(Plan, PlanEdit), (): &mut ()| {
+                    Editing::REFERENCE.edit(plan, *edit)
+                },
+                &|(plan, edit): &(Plan, PlanEdit), (): &mut ()| {
+                    Editing::INCREMENTAL.edit(plan, *edit)
+                },
+            )
+        });
+        print_ratios(
+            "plan faults alone over an edit of the library",
+            &edits,
+            checks,
+        );
+        print_ratios(
+            "Rust edits, recounting over incremental",
+            &edits,
+            recounting,
+        );
+    }
+}
+
+/// Ratios of the three edits in a line.
+fn print_ratios(title: &str, edits: &[Edits; 3], times: [Times; 3]) {
+    let ratios = Call::OF_EDITS.iter().zip(edits).zip(times);
+    let ratios = ratios
+        .map(|((call, edits), times)| format!("{} {} {:.2}", call.name(), edits.size, times.ratio));
+    let ratios: Vec<String> = ratios.collect();
+    println!("{title}: {}", ratios.join(", "));
 }
 
 /// Files of drawings of the same counts: those of plans, and others drawn backwards.
@@ -683,6 +791,9 @@ mod tests {
         let mut measured = Vec::new();
         for call in Call::OF_PLANS {
             measured.push((call, plans.measure(call)));
+        }
+        for call in Call::OF_EDITS {
+            measured.push((call, Edits::new(Counts::MOST, call).measure()));
         }
         let drawings = Drawings::new(&mut random, &plans);
         for call in Call::OF_DRAWINGS {

@@ -4,10 +4,10 @@
 
 use mukdalis::{DrawnPlan, Fault, Gate, Plan, Refusal};
 
-use super::plan::{read_whole, refusal, used_outputs, HEADER, WIRES};
+use super::plan::{count_figures, read_whole, refusal, used_outputs, HEADER, WIRES};
 
-/// Reads a drawn plan: the drawing, then its gates in the order in which they can be evaluated.
-/// Unused places of the plan and of the drawn numbers are zero.
+/// Reads a drawn plan: the drawing, then its gates in the order in which they can be evaluated. The
+/// plan's figures are counted; its unused places and those of the drawn numbers are zero.
 pub fn read(file: &[u8]) -> Result<DrawnPlan, Refusal> {
     let drawing = read_whole(file, |counts, _| counts.inputs + counts.gate_count + 1)?;
     take_gates(&drawing).map_err(|left| refusal(Fault::Ring, map_offset(file, left)))
@@ -48,6 +48,7 @@ fn take_gates(drawing: &Plan) -> Result<DrawnPlan, usize> {
     for (output, &wire) in taken.plan.outputs.iter_mut().zip(used_outputs(drawing)) {
         *output = wires[usize::from(wire)];
     }
+    count_figures(&mut taken.plan);
     Ok(taken)
 }
 
@@ -127,6 +128,8 @@ mod tests {
         let operands: Vec<u16> = plan.gates[..5].iter().map(|gate| gate.first).collect();
         assert_eq!(operands, [1, 2, 4, 1, 0]);
         assert_eq!(plan.outputs[..2], [5, 0]);
+        assert_eq!(plan.uses[..7], [4, 2, 0, 2, 1, 0, 0]);
+        assert_eq!(plan.gate_places, 4);
     }
 
     #[test]

@@ -1,4 +1,4 @@
-//! Plans: reading a plan file, the faults of a plan in memory, evaluation.
+//! Plans: reading a plan file, the faults of a plan in memory, its figures, evaluation.
 //!
 //! Wires and gates are numbered from 1, as in document 01; a plan's arrays count from 0.
 
@@ -23,13 +23,15 @@ pub(super) const ABSENT_TABLE: u16 = 8;
 /// Places for the wires of the largest plan, and place 0.
 pub(super) const WIRES: usize = 1 + Plan::MAX_INPUTS + Plan::MAX_GATES;
 
-/// Reads a plan file. Unused places of the plan are zero.
+/// Reads a plan file. The plan's figures are counted, its unused places are zero.
 pub fn read(file: &[u8]) -> Result<Plan, Refusal> {
-    read_whole(file, |_, own| own)
+    let mut plan = read_whole(file, |_, own| own)?;
+    count_figures(&mut plan);
+    Ok(plan)
 }
 
 /// Reads a file whose operands are wires below `bound`, which is given the counts and the gate's
-/// own wire.
+/// own wire. The figures are not counted.
 pub(super) fn read_whole(file: &[u8], bound: impl Fn(&Plan, u16) -> u16) -> Result<Plan, Refusal> {
     if file.len() < HEADER {
         return Err(refusal(Fault::Stub, 0));
@@ -55,6 +57,7 @@ pub fn fault(plan: &Plan) -> Option<Fault> {
     count_fault(plan)
         .or_else(|| first_gate_fault(plan))
         .or_else(|| first_output_fault(plan))
+        .or_else(|| figure_fault(plan))
 }
 
 /// Plan evaluation: writes the bits of the v wires that the outputs name to `result`.
@@ -199,7 +202,7 @@ fn is_operand(wire: u16, bound: u16) -> bool {
 }
 
 /// An output names a gate wire, u + 1 to u + k.
-fn is_gate_wire(wire: u16, plan: &Plan) -> bool {
+pub(super) fn is_gate_wire(wire: u16, plan: &Plan) -> bool {
     (plan.inputs + 1..=plan.inputs + plan.gate_count).contains(&wire)
 }
 
@@ -228,7 +231,7 @@ fn first_gate_fault(plan: &Plan) -> Option<Fault> {
 }
 
 /// 7 for both operands, then 8.
-fn gate_fault(gate: &Gate, own: u16) -> Option<Fault> {
+pub(super) fn gate_fault(gate: &Gate, own: u16) -> Option<Fault> {
     if !is_operand(gate.first, own) || !is_operand(gate.second, own) {
         Some(Fault::Operand)
     } else if gate.table > LAST_TABLE {
@@ -244,6 +247,46 @@ fn first_output_fault(plan: &Plan) -> Option<Fault> {
         .iter()
         .find(|&&wire| !is_gate_wire(wire, plan))
         .map(|_| Fault::Source)
+}
+
+/// 17, of a plan without other faults.
+fn figure_fault(plan: &Plan) -> Option<Fault> {
+    let wires = wire_count(plan);
+    let are_counted =
+        plan.gate_places == gate_places(plan) && plan.uses[..wires] == uses(plan)[..wires];
+    (!are_counted).then_some(Fault::Tally)
+}
+
+/// Document 02, W7: stores K and the uses of the plan's wires as they are counted. The figures past
+/// them stay as they were.
+pub(super) fn count_figures(plan: &mut Plan) {
+    let (wires, uses) = (wire_count(plan), uses(plan));
+    plan.gate_places = gate_places(plan);
+    plan.uses[..wires].copy_from_slice(&uses[..wires]);
+}
+
+/// K, the smallest power of two not below k.
+fn gate_places(plan: &Plan) -> u16 {
+    plan.gate_count.next_power_of_two()
+}
+
+/// How many operand places and outputs name each wire, wire w at w - 1.
+fn uses(plan: &Plan) -> [u16; Plan::MAX_WIRES] {
+    let mut uses = [0; Plan::MAX_WIRES];
+    let mut name = |wire: u16| uses[usize::from(wire) - 1] += 1;
+    for gate in used_gates(plan) {
+        name(gate.first);
+        name(gate.second);
+    }
+    for &wire in used_outputs(plan) {
+        name(wire);
+    }
+    uses
+}
+
+/// The inputs and the gates: wires 1 to u + k.
+fn wire_count(plan: &Plan) -> usize {
+    usize::from(plan.inputs) + usize::from(plan.gate_count)
 }
 
 pub fn used_gates(plan: &Plan) -> &[Gate] {
@@ -469,6 +512,8 @@ mod tests {
         let good = read(&EXAMPLE).expect("the file is a plan");
         let mut plan = good;
         assert_eq!(fault(&plan), None);
+        plan.gate_places = 4;
+        assert_eq!(fault(&plan), Some(Fault::Tally));
         plan.outputs[0] = 2;
         assert_eq!(fault(&plan), Some(Fault::Source));
         plan.gates[1].second = 4;
@@ -501,7 +546,53 @@ mod tests {
         let mut plan = read(&EXAMPLE).expect("the file is a plan");
         plan.gates[2].table = 99;
         plan.outputs[1] = 0;
+        plan.uses[4] = 99;
         assert_eq!(fault(&plan), None);
+    }
+
+    /// Gate 1 of the example uses wires 1 and 2, gate 2 wires 3 and 1, the output wire 4. NOT uses its
+    /// input twice.
+    #[test]
+    fn figures_by_hand() {
+        let plan = read(&EXAMPLE).expect("the file is a plan");
+        assert_eq!((plan.gate_places, &plan.uses[..4]), (2, &[2, 1, 1, 1][..]));
+        assert_eq!(plan.uses[4..], [0; 316]);
+        let not = read(&NOT).expect("the file is a plan");
+        assert_eq!((not.gate_places, &not.uses[..3]), (1, &[2, 1, 0][..]));
+    }
+
+    #[test]
+    fn places_are_the_next_power_of_two() {
+        let mut plan = Plan::ZERO;
+        for (k, places) in [
+            (1, 1),
+            (2, 2),
+            (3, 4),
+            (4, 4),
+            (5, 8),
+            (129, 256),
+            (256, 256),
+        ] {
+            plan.gate_count = k;
+            assert_eq!(gate_places(&plan), places, "{k} gates");
+        }
+    }
+
+    #[test]
+    fn a_figure_that_is_not_the_counted_one_is_a_fault() {
+        let good = read(&EXAMPLE).expect("the file is a plan");
+        for places in [0, 1, 3, 4] {
+            let mut plan = good;
+            plan.gate_places = places;
+            assert_eq!(fault(&plan), Some(Fault::Tally), "{places} places");
+        }
+        for wire in 0..4 {
+            let mut plan = good;
+            plan.uses[wire] += 1;
+            assert_eq!(fault(&plan), Some(Fault::Tally));
+            plan.uses[wire] -= 2;
+            assert_eq!(fault(&plan), Some(Fault::Tally));
+        }
     }
 
     #[test]

@@ -116,6 +116,7 @@ mod tests {
             };
         }
         plan.outputs[0] = u + k;
+        plan.settle_figures();
         plan
     }
 
@@ -197,6 +198,7 @@ mod tests {
         let mut longest = plan(2, &[(1, 2, 6); 256]);
         longest.output_count = 64;
         longest.outputs = [3; 64];
+        longest.settle_figures();
         let file = saved(&longest);
         let header = [2, 0, 0, 1, 64, 0];
         let gate = [7, 1, 0, 2, 0, 6];
@@ -212,6 +214,7 @@ mod tests {
         let file = saved(&filled);
         filled.gates[1].table = 99;
         filled.outputs[1] = 99;
+        filled.uses[4] = 99;
         let mut found = [0; 9];
         assert_eq!(save(&filled, &mut found), Ok(9));
         assert_eq!(found[..], file);
@@ -245,6 +248,7 @@ mod tests {
                 assert_eq!(file, vec![7; len]);
             }
         };
+        refused(|plan| plan.uses[3] = 0, Fault::Tally);
         refused(|plan| plan.outputs[0] = 3, Fault::Source);
         refused(|plan| plan.gates[0].table = 16, Fault::Table);
         refused(|plan| plan.gates[0].second = 4, Fault::Operand);

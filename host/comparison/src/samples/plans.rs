@@ -67,6 +67,7 @@ pub fn shaped_plan(random: &mut Random, counts: Counts, shape: PlanShape) -> Pla
             _ => random.between(lowest, u + k),
         };
     }
+    plan.settle_figures();
     plan
 }
 
@@ -109,6 +110,7 @@ pub fn every_plan(u: u16, k: u16) -> Vec<Plan> {
     let with_output = |mut plan: Plan| {
         (u + 1..=u + k).map(move |output| {
             plan.outputs[0] = output;
+            plan.settle_figures();
             plan
         })
     };

@@ -201,6 +201,7 @@ fn parity() -> Plan {
         table: 6,
     };
     plan.outputs[0] = 3;
+    plan.settle_figures();
     plan
 }
 
