@@ -10,3 +10,5 @@ pub mod TableFiguresLaws
 pub mod SavingFiguresLaws
 -- the figures of series hold
 pub mod SeriesFiguresLaws
+-- the figures of settled plans and of edits hold
+pub mod EditFiguresLaws

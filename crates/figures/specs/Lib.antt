@@ -1,4 +1,4 @@
--- Document 01, "Bench sheet", and document 02, W1, W4, W5 and W6, on figures.
+-- Document 01, "Bench sheet", and document 02, W1, W4, W5, W6 and W7, on figures.
 -- a figure, and the claim that a table of them holds
 pub mod Figure
 -- the starred figures
@@ -11,3 +11,5 @@ pub mod TableFigures
 pub mod SavingFigures
 -- document 02, W6, on figures
 pub mod SeriesFigures
+-- document 02, W7, on figures
+pub mod EditFigures

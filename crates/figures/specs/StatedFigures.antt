@@ -35,7 +35,7 @@ use Rattle.fabric_bits.specs.ProgramCalls.{planProgramResult}
 use Rattle.fabric_rows.specs.FabricCalls.{fabricResult}
 use Rattle.figures.specs.Figure.{Figure}
 
--- a record as a row of numbers: the counts, every gate's place, every output's place
+-- a record as a row of numbers: the counts, every gate's place, every output's place, the figures
 gateNumbers : List Gate → List ℕ
 gateNumbers [] = []
 gateNumbers (g ∷ gs) = g .first .0 ∷ g .second .0 ∷ g .table ∷ gateNumbers gs
@@ -46,7 +46,7 @@ wireNumbers (w ∷ ws) = w .0 ∷ wireNumbers ws
 
 unfoldable pub planNumbers : Plan → List ℕ
 unfolding gateNumbers wireNumbers
-planNumbers p = p .inputs ∷ p .«gate_count» ∷ p .«output_count» ∷ (gateNumbers (p .gates) ++ wireNumbers (p .outputs))
+planNumbers p = p .inputs ∷ p .«gate_count» ∷ p .«output_count» ∷ (gateNumbers (p .gates) ++ wireNumbers (p .outputs) ++ p .«gate_places» ∷ p .uses)
 
 -- what reading says, as a row of numbers: number, offset, plan
 unfoldable pub outcomeNumbers : ReadOutcome → List ℕ

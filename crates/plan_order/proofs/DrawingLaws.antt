@@ -130,14 +130,17 @@ module _ (d : Plan) (orderable : Orderable d) where
 
   ordered-right : OrderedRight d
   ordered-right = record {
-    accepted = accepted-bounds P .1 (record {
-      counts = orderable .within .counts;
-      gate = gate-within;
-      output = λ j l.
-          let w = orderable .within .output j l in
-          let s = stands (outputAt d j .0 - suc u) (omega (arith, w .above, w .upTo)) in
-          rw (output-at j l, gate-number (outputAt d j .0) (w .above)) (record { above = omega arith; upTo = omega (arith, s .low) });
-    }, let c = orderable .within .counts in tallied-of u k v _ _ (omega (arith, c .inputs, c .gates)));
+    accepted = accepted-bounds P .1 (
+      record {
+        counts = orderable .within .counts;
+        gate = gate-within;
+        output = λ j l.
+            let w = orderable .within .output j l in
+            let s = stands (outputAt d j .0 - suc u) (omega (arith, w .above, w .upTo)) in
+            rw (output-at j l, gate-number (outputAt d j .0) (w .above)) (record { above = omega arith; upTo = omega (arith, s .low) });
+      },
+      let c = orderable .within .counts in tallied-of u k v _ _ (omega (arith, c .inputs, c .gates)),
+    );
     gate = gate-at;
     output = output-at;
   }
