@@ -66,6 +66,25 @@ first-of-zero check (suc n) =
       λ h. then (first (λ i l. h i (omega arith)), h n (omega arith)),
     )
 
+-- no check gives a number above n where the numbers of its words are not
+pub unless-le : {n : ℕ} (test : Bool) (f : Fault) → faultNumber f ≤ n → unless test f ≤ n
+unless-le true f h = omega arith
+unless-le false f h = h
+
+pub and-then-le : {n a b : ℕ} → a ≤ n → b ≤ n → andThen a b ≤ n
+and-then-le {a = zero} h l = l
+and-then-le {a = suc a} h l = h
+
+pub first-of-le : {n : ℕ} (check : ℕ → ℕ) → ((i : ℕ) → check i ≤ n) → (k : ℕ) → firstOf check k ≤ n
+unfolding firstOf
+first-of-le check h zero = omega arith
+first-of-le check h (suc k) = and-then-le (first-of-le check h k) (h k)
+
+-- a number that the first check never gives is the second's, where the first passes
+pub and-then-later : (a b n : ℕ) → a < n → (andThen a b ≡ n) ↔ ((a ≡ 0) × (b ≡ n))
+and-then-later zero b n l = (λ h. (refl, h), λ h. h .1)
+and-then-later (suc a) b n l = (λ h. absurd (omega arith), λ h. absurd (omega arith))
+
 -- a failing check decides
 pub fails : (a b : ℕ) → 1 ≤ a → andThen a b ≡ a
 fails zero b h = absurd (omega arith)

@@ -1,4 +1,5 @@
--- Counts grow with the limit, by one where a number passes; so a later number that passes has more before it, and the n-th is the only one.
+-- Counts grow with the limit, by one where a number passes; so a later number that passes has more before it, and the n-th is the only one. Sums grow
+-- likewise, by a term; so counts of classes, each of n in just one of them, add up to n.
 use mathlib.Core.Path.{_≡_, refl, sym, ap, _∙_}
 use mathlib.Core.Logic.{_⊎_, inl, inr}
 use mathlib.Core.Bool.{Bool, true, false, cond, not, _&&_, _||_}
@@ -7,8 +8,8 @@ use native.Mathlib.Nat.{le-refl, le-step, le-of-suc-le-suc, not-suc-le-zero, eq-
 use native.Mathlib.Decide.{ℕ-discrete, decLt}
 use native.Mathlib.Omega.{arith}
 use borrow.Author.Tests.{eq-eqb, ne-eqb, lt-ltb, le-ltb}
-use lib.Dec.{eqb, ltb}
-use Rattle.lists.specs.Counting.{oneIf, countOf, nthOf}
+use lib.Dec.{eqb, ltb, eqb·suc-suc}
+use Rattle.lists.specs.Counting.{oneIf, countOf, nthOf, sumOf}
 
 -- ---- tests
 
@@ -157,3 +158,44 @@ pub count-single : (v n : ℕ) → countOf (eqb v) n ≡ oneIf (ltb v n)
 unfolding countOf
 count-single v zero = rw (le-ltb v 0 (omega arith))
 count-single v (suc n) = rw (count-single v n) (sym (one-more v n))
+
+-- one number of 1 to m is v, where v is one of them
+pub count-named : (v m : ℕ) → 1 ≤ v → v ≤ m → countOf (λ w. eqb v (suc w)) m ≡ 1
+count-named zero m some few = absurd (omega arith)
+count-named (suc v) m some few =
+    count-ext (λ w. eqb (suc v) (suc w)) (eqb v) m (λ w l. eqb·suc-suc v w) ∙ count-single v m ∙ rw (lt-ltb v m few)
+
+-- ---- sums
+
+-- terms that are equal below n have equal sums
+pub sum-ext : (f g : ℕ → ℕ) (n : ℕ) → ((i : ℕ) → i < n → f i ≡ g i) → sumOf f n ≡ sumOf g n
+unfolding sumOf
+sum-ext f g zero e = refl
+sum-ext f g (suc n) e = rw (sum-ext f g n (λ i l. e i (le-step l)), e n (le-refl (suc n)))
+
+-- the sum of sums
+pub sum-add : (f g : ℕ → ℕ) (n : ℕ) → sumOf (λ i. f i + g i) n ≡ sumOf f n + sumOf g n
+unfolding sumOf
+sum-add f g zero = refl
+sum-add f g (suc n) = omega (arith, sum-add f g n)
+
+sum-none : (n : ℕ) → sumOf (λ i. 0) n ≡ 0
+unfolding sumOf
+sum-none zero = refl
+sum-none (suc n) = omega (arith, sum-none n)
+
+-- a count is a sum of ones
+sum-ones : (test : ℕ → Bool) (n : ℕ) → sumOf (λ i. oneIf (test i)) n ≡ countOf test n
+unfolding sumOf countOf
+sum-ones test zero = refl
+sum-ones test (suc n) = omega (arith, sum-ones test n)
+
+-- m classes, of which each of n numbers is in just one: their counts add up to n
+pub sum-classes : (in-class : ℕ → ℕ → Bool) (n m : ℕ) → ((i : ℕ) → i < n → countOf (in-class i) m ≡ 1)
+    → sumOf (λ w. countOf (λ i. in-class i w) n) m ≡ n
+unfolding countOf
+sum-classes in-class zero m one = sum-none m
+sum-classes in-class (suc n) m one =
+    let rest = sum-classes in-class n m (λ i l. one i (le-step l)) in
+    let last = sum-ones (in-class n) m ∙ one n (le-refl (suc n)) in
+    sum-add (λ w. countOf (λ i. in-class i w) n) (λ w. oneIf (in-class n w)) m ∙ omega (arith, rest, last)

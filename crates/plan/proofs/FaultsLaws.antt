@@ -24,7 +24,7 @@ use Rattle.plan.specs.declared.record.Plan.{Plan}
 use Rattle.plan.specs.declared.record.PlanWire.{PlanWire}
 use Rattle.plan.specs.Record.{maxInputs, maxGates, maxOutputs, maxWires, wire, zeroGate, gateAt, outputAt, gateWire, usesOf, countedUses, planOf}
 use Rattle.plan.specs.Rules.{countAllowed, operandAllowed, tableAllowed, sourceAllowed}
-use Rattle.plan.specs.Faults.{countsFault, gateFault, outputFault, figuresFault, tallyFault, planFault, Accepted, CountsWithin, GateWithin, OutputWithin, PlanWithin, Tallied}
+use Rattle.plan.specs.Faults.{countsFault, gateFault, outputFault, gatesFault, outputsFault, figuresFault, tallyFault, planFault, Accepted, CountsWithin, GateWithin, OutputWithin, PlanWithin, Tallied}
 use Rattle.plan.proofs.RecordLaws.{getD-places}
 use Rattle.plan.proofs.UsesLaws.{uses-same}
 use Rattle.plan.proofs.RulesLaws.{count-bounds, operand-bounds, table-bound, source-bounds}
@@ -120,6 +120,11 @@ tallied-of u k v gs os few = record {
       ∙ sym (uses-same k v _ gs _ os (suc i) (λ j _. getD-places maxGates zeroGate gs j) (λ j _. getD-places maxOutputs (wire 0) os j));
 }
 
+-- and so does one that is equal to such a record
+pub held-tallied : {p : Plan} (gs : List Gate) (os : List PlanWire) → p ≡ planOf (p .inputs) (p .«gate_count») (p .«output_count») gs os
+    → CountsWithin (p .inputs) (p .«gate_count») (p .«output_count») → Tallied p
+held-tallied {p} gs os e c = subst Tallied (sym e) (tallied-of (p .inputs) (p .«gate_count») (p .«output_count») gs os (omega (arith, c .inputs, c .gates)))
+
 -- allowed counts are within their limits
 pub counts-in : (u k v : ℕ) → countAllowed maxInputs u ≡ true → countAllowed maxGates k ≡ true → countAllowed maxOutputs v ≡ true
     → CountsWithin u k v
@@ -129,60 +134,60 @@ counts-in u k v a b c =
     let (v₁, v₂) = count-bounds maxOutputs v .0 c in
     record { someInputs = u₁; inputs = u₂; someGates = k₁; gates = k₂; someOutputs = v₁; outputs = v₂ }
 
+-- counts, a gate and an output give no fault exactly if they are within their bounds
+pub counts-faultless : (u k v : ℕ) → (countsFault u k v ≡ 0) ↔ CountsWithin u k v
+unfolding countsFault
+counts-faultless u k v = simp (and-then-zero, unless-zero) (
+  λ h. counts-in u k v (h .0) (h .1 .0) (h .1 .1),
+  λ w. (
+    count-bounds maxInputs u .1 (w .someInputs, w .inputs),
+    (count-bounds maxGates k .1 (w .someGates, w .gates), count-bounds maxOutputs v .1 (w .someOutputs, w .outputs)),
+  ),
+)
+
+pub gate-within : (own : ℕ) (g : Gate) → (gateFault own g ≡ 0) ↔ GateWithin own g
+unfolding gateFault
+gate-within own g = simp (and-then-zero, unless-zero, operand-bounds, table-bound) (
+  λ h. record { someFirst = h .0 .0; first = h .0 .1; someSecond = h .1 .0 .0; second = h .1 .0 .1; table = h .1 .1 },
+  λ w. ((w .someFirst, w .first), ((w .someSecond, w .second), w .table)),
+)
+
+pub output-within : (u k w : ℕ) → (outputFault u k w ≡ 0) ↔ OutputWithin u k w
+unfolding outputFault
+output-within u k w =
+    simp (unless-zero, source-bounds) (λ h. record { above = omega arith; upTo = h .1 }, λ o. (omega arith, o .upTo))
+
 -- counts without a fault are within their limits
 pub counts-within : (u k v : ℕ) → countsFault u k v ≡ 0 → CountsWithin u k v
-unfolding countsFault
-counts-within u k v e = let h = simp (and-then-zero, unless-zero) at e in counts-in u k v (h .0) (h .1 .0) (h .1 .1)
+counts-within u k v = counts-faultless u k v .0
 
--- and so does one that is equal to such a record
-pub held-tallied : {p : Plan} (gs : List Gate) (os : List PlanWire) → p ≡ planOf (p .inputs) (p .«gate_count») (p .«output_count») gs os
-    → CountsWithin (p .inputs) (p .«gate_count») (p .«output_count») → Tallied p
-held-tallied {p} gs os e c = subst Tallied (sym e) (tallied-of (p .inputs) (p .«gate_count») (p .«output_count») gs os (omega (arith, c .inputs, c .gates)))
+module _ (p : Plan) where
+  -- the counts, the gates and the outputs give no fault exactly if the plan is within its bounds
+  pub within-faultless : ((countsFault (p .inputs) (p .«gate_count») (p .«output_count») ≡ 0)
+      × ((gatesFault p (p .«gate_count») ≡ 0) × (outputsFault p (p .«output_count») ≡ 0))) ↔ PlanWithin p
+  within-faultless = simp (counts-faultless, first-of-zero, gate-within, output-within)
+      (λ h. record { counts = h .0; gate = h .1 .0; output = h .1 .1 }, λ w. (w .counts, (w .gate, w .output)))
 
-module _ (p : Plan) (accepted : Accepted p) where
-  allowed : AllowedPlan p
-  allowed = accepted-allowed p .0 accepted
+  -- a plan is accepted exactly if it is within its bounds and its figures are the counted ones
+  pub accepted-bounds : Accepted p ↔ (PlanWithin p × Tallied p)
+  unfolding planFault
+  accepted-bounds =
+      simp (and-then-zero, tally-faultless)
+      (λ h. (within-faultless .0 (h .0, (h .1 .0, h .1 .1 .0)), h .1 .1 .1), λ h. let w = within-faultless .1 (h .0) in (w .0, (w .1 .0, (w .1 .1, h .1))))
 
-  -- the counts of an accepted plan
-  pub accepted-counts : CountsWithin (p .inputs) (p .«gate_count») (p .«output_count»)
-  accepted-counts = counts-in _ _ _ (allowed .inputs) (allowed .gates) (allowed .outputs)
+  module _ (accepted : Accepted p) where
+    -- the counts of an accepted plan
+    pub accepted-counts : CountsWithin (p .inputs) (p .«gate_count») (p .«output_count»)
+    accepted-counts = accepted-bounds .0 accepted .0 .counts
 
-  -- its gates
-  pub accepted-gate : (i : ℕ) → i < p .«gate_count» → GateWithin (gateWire (p .inputs) i) (gateAt p i)
-  accepted-gate i h =
-      let a = allowed .gate i h in
-      let (f₁, f₂) = operand-bounds _ _ .0 (a .first) in
-      let (s₁, s₂) = operand-bounds _ _ .0 (a .second) in
-      record { someFirst = f₁; first = f₂; someSecond = s₁; second = s₂; table = table-bound _ .0 (a .table) }
+    -- its gates
+    pub accepted-gate : (i : ℕ) → i < p .«gate_count» → GateWithin (gateWire (p .inputs) i) (gateAt p i)
+    accepted-gate = accepted-bounds .0 accepted .0 .gate
 
-  -- its outputs
-  pub accepted-output : (j : ℕ) → j < p .«output_count» → OutputWithin (p .inputs) (p .«gate_count») (outputAt p j .0)
-  accepted-output j h =
-      let (low, high) = source-bounds _ _ _ .0 (allowed .output j h) in
-      record { above = omega arith; upTo = high }
+    -- its outputs
+    pub accepted-output : (j : ℕ) → j < p .«output_count» → OutputWithin (p .inputs) (p .«gate_count») (outputAt p j .0)
+    accepted-output = accepted-bounds .0 accepted .0 .output
 
-  -- its figures
-  pub accepted-tallied : Tallied p
-  accepted-tallied = allowed .tallied
-
--- a gate within its bounds is allowed
-gate-allowed : (own : ℕ) (g : Gate) → GateWithin own g → AllowedGate own g
-gate-allowed own g w = record {
-  first = operand-bounds own (g .first .0) .1 (w .someFirst, w .first);
-  second = operand-bounds own (g .second .0) .1 (w .someSecond, w .second);
-  table = table-bound (g .table) .1 (w .table);
-}
-
--- a plan is accepted exactly if it is within its bounds and its figures are the counted ones
-pub accepted-bounds : (p : Plan) → Accepted p ↔ (PlanWithin p × Tallied p)
-accepted-bounds p = (
-  λ a. (record { counts = accepted-counts p a; gate = accepted-gate p a; output = accepted-output p a }, accepted-tallied p a),
-  λ (w, t). let c = w .counts in accepted-allowed p .1 (record {
-    inputs = count-bounds maxInputs (p .inputs) .1 (c .someInputs, c .inputs);
-    gates = count-bounds maxGates (p .«gate_count») .1 (c .someGates, c .gates);
-    outputs = count-bounds maxOutputs (p .«output_count») .1 (c .someOutputs, c .outputs);
-    gate = λ i h. gate-allowed (gateWire (p .inputs) i) (gateAt p i) (w .gate i h);
-    output = λ j h. source-bounds (p .inputs) (p .«gate_count») (outputAt p j .0) .1 (omega (arith, w .output j h .above), w .output j h .upTo);
-    tallied = t;
-  }),
-)
+    -- its figures
+    pub accepted-tallied : Tallied p
+    accepted-tallied = accepted-bounds .0 accepted .1
