@@ -133,6 +133,10 @@ nth-ext a b zero r e = refl
 nth-ext a b (suc n) r e =
     rw (nth-ext a b n r (λ i l. e i (le-step l)), count-ext a b n (λ i l. e i (le-step l)), e n (le-refl (suc n)))
 
+-- where none of n passes, there is none
+pub none-passes : (test : ℕ → Bool) (n : ℕ) → ((i : ℕ) → i < n → test i ≡ false) → countOf test n ≡ 0
+none-passes test n e = count-ext test (λ _. false) n e ∙ count-none (λ _. false) (λ _. refl) n
+
 -- one test counts for two, or at most for two
 pub count-sum : (a b c : ℕ → Bool) → ((i : ℕ) → oneIf (a i) ≡ oneIf (b i) + oneIf (c i)) → (n : ℕ) → countOf a n ≡ countOf b n + countOf c n
 unfolding countOf

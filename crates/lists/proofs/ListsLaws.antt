@@ -5,7 +5,7 @@ use mathlib.Core.List.{List, [], _∷_, _++_, append-assoc, append-nil}
 use Prim.Native.Nat.{ℕ, zero, suc, _+_, _-_, _<_, _≤_}
 use native.Mathlib.Nat.{le-refl, le-step, eq-or-lt-of-le, le-of-suc-le-suc, not-suc-le-zero, add-zero, add-suc, suc-add}
 use native.Mathlib.Omega.{arith}
-use native.Mathlib.Decide.{decLt}
+use native.Mathlib.Decide.{ℕ-discrete, decLt}
 use lib.ListN.{length, getD, set, length-append, List·getD-append, List·getD-eq-default}
 use lib.Seq.{getD-at, getD-append-add, ext-getD, getD-set-same, getD-set-other, sets, lt-length-sets}
 use Rattle.lists.specs.Lists.{listOf, Below, Every, every-none, every-more}
@@ -64,6 +64,21 @@ module _ {A : Type 0} where
   pub listOf-getD : (l : List A) (d : A) → listOf (length l) (λ i. getD l i d) ≡ l
   listOf-getD l d =
       ext-getD d _ l (length-listOf (length l) _) (λ i h. getD-listOf (length l) _ i d (rw (length-listOf (length l) (λ i. getD l i d)) at h))
+
+-- a store: what holds of x at its place and of the others at theirs holds at each
+pub set-each : {A : Type 0} (P : ℕ → A → Type 0) (l : List A) (i : ℕ) (x d : A) → i < length l → P i x
+    → (j : ℕ) → ((j ≡ i → ⊥) → P j (getD l j d)) → P j (getD (set l i x) j d)
+set-each P l i x d room here j rest = elim (ℕ-discrete j i) [
+  | yes e ↦ rw (e, getD-set-same l i x d room) here
+  | no f ↦ rw (getD-set-other l i j x d f) (rest f)
+]
+
+-- lists that are alike but for this place
+pub set-alike : {A : Type 0} (l m : List A) (i : ℕ) (x d : A) → i < length l → i < length m
+    → (j : ℕ) → ((j ≡ i → ⊥) → getD l j d ≡ getD m j d) → getD (set l i x) j d ≡ getD (set m i x) j d
+set-alike l m i x d room space j alike =
+    set-each (λ j y. y ≡ getD (set m i x) j d) l i x d room (sym (getD-set-same m i x d space)) j
+    (λ f. alike f ∙ sym (getD-set-other m i j x d f))
 
 -- stores of one list and then of another behind it
 pub sets-append : {A : Type 0} (u v l : List A) (i : ℕ) → sets l i (u ++ v) ≡ sets (sets l i u) (i + length u) v

@@ -1,14 +1,13 @@
 -- Unused places never matter: plans that agree on the counts, the used places and the figures of their wires have the same faults.
-use mathlib.Core.Path.{_≡_, refl, sym, ap, ap₂, _∙_}
-use Prim.Native.Nat.{ℕ, zero, suc, _+_, _<_}
-use native.Mathlib.Omega.{arith}
+use mathlib.Core.Path.{_≡_, ap₂, _∙_}
+use Prim.Native.Nat.{ℕ, suc, _+_, _<_}
 use Rattle.fault.specs.declared.Fault.{Fault}
 use Rattle.fault.specs.Checks.{unless, andThen, firstOf}
 use lib.Dec.{eqb}
 use Rattle.powers.specs.Powers.{ceilPower}
 use Rattle.plan.specs.declared.record.Plan.{Plan}
 pub use Rattle.plan.specs.Record.{Agree}
-use Rattle.plan.specs.Record.{gateWire, countedUses, storedUses, wireCount}
+use Rattle.plan.specs.Record.{gateAt, outputAt, gateWire, countedUses, storedUses, wireCount}
 use Rattle.plan.specs.Faults.{gateFault, gatesFault, outputsFault, figuresFault, tallyFault, planFault}
 use Rattle.plan.proofs.UsesLaws.{uses-same}
 use Rattle.plan.proofs.FaultsLaws.{firstOf-same}
@@ -17,12 +16,17 @@ use Rattle.plan.proofs.FaultsLaws.{firstOf-same}
 abbrev tally : Plan → ℕ → ℕ
 tally p i = unless (eqb (storedUses p i) (countedUses p i)) Fault.Tally
 
+-- plans of equal gates and outputs have equal counted uses of any wire
+pub counted-alike : (p q : Plan) → p .«gate_count» ≡ q .«gate_count» → p .«output_count» ≡ q .«output_count»
+    → ((i : ℕ) → i < p .«gate_count» → gateAt p i ≡ gateAt q i) → ((j : ℕ) → j < p .«output_count» → outputAt p j ≡ outputAt q j)
+    → (i : ℕ) → countedUses p i ≡ countedUses q i
+counted-alike p q ek ev gate output i =
+    uses-same (p .«gate_count») (p .«output_count») (p .gates) (q .gates) (p .outputs) (q .outputs) (suc i) gate output ∙ rw (ek, ev)
+
 module _ (p q : Plan) (same : Agree p q) where
   -- the counted uses of any wire
   pub same-uses : (i : ℕ) → countedUses p i ≡ countedUses q i
-  same-uses i =
-      uses-same (p .«gate_count») (p .«output_count») (p .gates) (q .gates) (p .outputs) (q .outputs) (suc i) (same .gate) (same .output)
-      ∙ rw (same .gates, same .outputs)
+  same-uses = counted-alike p q (same .gates) (same .outputs) (same .gate) (same .output)
 
   -- 17
   same-tally : tallyFault p ≡ tallyFault q

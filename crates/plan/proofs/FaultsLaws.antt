@@ -171,9 +171,10 @@ module _ (p : Plan) where
   -- a plan is accepted exactly if it is within its bounds and its figures are the counted ones
   pub accepted-bounds : Accepted p ↔ (PlanWithin p × Tallied p)
   unfolding planFault
-  accepted-bounds =
-      simp (and-then-zero, tally-faultless)
-      (λ h. (within-faultless .0 (h .0, (h .1 .0, h .1 .1 .0)), h .1 .1 .1), λ h. let w = within-faultless .1 (h .0) in (w .0, (w .1 .0, (w .1 .1, h .1))))
+  accepted-bounds = simp (and-then-zero, tally-faultless) (
+    λ (counts, (gates, (outputs, t))). (within-faultless .0 (counts, (gates, outputs)), t),
+    λ (w, t). let (counts, (gates, outputs)) = within-faultless .1 w in (counts, (gates, (outputs, t))),
+  )
 
   module _ (accepted : Accepted p) where
     -- the counts of an accepted plan

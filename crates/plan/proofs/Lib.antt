@@ -3,7 +3,7 @@
 pub mod RecordLaws
 -- the rules as orders between numbers
 pub mod RulesLaws
--- uses: one gate or output more, equal gates and outputs; counting them in an array
+-- uses: one gate or output more, equal gates and outputs, a wire above all that is named; counting them in an array
 pub mod UsesLaws
 -- a plan is accepted exactly if each of its parts is allowed and its figures are the counted ones
 pub mod FaultsLaws

@@ -1,10 +1,10 @@
 -- Each operand place and each output of an accepted plan names just one of its wires, so the counted uses add up to their number, 2k + v.
--- Checks before the figures give no number above 9, so 17 is given exactly where they pass and a figure differs; the first such figure is found by counting.
-use mathlib.Core.Path.{_≡_, refl, sym, ap, _∙_}
-use mathlib.Core.Logic.{_↔_, inl, inr}
-use mathlib.Core.Bool.{Bool, true, not}
+-- Checks before the figures give no number above 9, so 17 is given exactly where they pass and a figure differs; counting finds the first that does.
+use mathlib.Core.Path.{_≡_, sym, _∙_}
+use mathlib.Core.Logic.{_↔_}
+use mathlib.Core.Bool.{Bool, not}
 use mathlib.Core.List.{List}
-use Prim.Native.Nat.{ℕ, zero, suc, _+_, _*_, _<_, _≤_}
+use Prim.Native.Nat.{ℕ, suc, _+_, _*_, _<_, _≤_}
 use native.Mathlib.Omega.{arith}
 use native.Mathlib.Decide.{ℕ-discrete}
 use borrow.Author.Tests.{eq-eqb, ne-eqb}
@@ -22,7 +22,7 @@ use Rattle.plan.specs.declared.record.Plan.{Plan}
 use Rattle.plan.specs.declared.record.PlanWire.{PlanWire}
 use Rattle.plan.specs.Record.{maxInputs, maxGates, maxOutputs, wire, zeroGate, gateAt, outputAt, gateWire, usesOf, countedUses, storedUses, wireCount}
 use Rattle.plan.specs.Rules.{countAllowed, operandAllowed, tableAllowed, sourceAllowed}
-use Rattle.plan.specs.Faults.{countsFault, gateFault, outputFault, gatesFault, outputsFault, tallyFault, planFault, Accepted, PlanWithin}
+use Rattle.plan.specs.Faults.{countsFault, gateFault, outputFault, tallyFault, planFault, PlanWithin}
 use Rattle.plan.specs.TallyTheorems.{UsesAddUp, FigureDiffers, places-differ, uses-differ, TallyTheorem}
 use Rattle.plan.proofs.FaultsLaws.{places-fault, uses-fault, within-faultless, accepted-bounds}
 
@@ -65,7 +65,8 @@ early a b c f g h l m n = and-then-le (unless-le a f l) (and-then-le (unless-le 
 counts-early : (u k v : ℕ) → countsFault u k v ≤ 9
 unfolding countsFault
 counts-early u k v =
-    early (countAllowed maxInputs u) (countAllowed maxGates k) (countAllowed maxOutputs v) Fault.Inputs Fault.Gates Fault.Outputs (lit≤ tt) (lit≤ tt) (lit≤ tt)
+    early (countAllowed maxInputs u) (countAllowed maxGates k) (countAllowed maxOutputs v) Fault.Inputs Fault.Gates Fault.Outputs
+    (lit≤ tt) (lit≤ tt) (lit≤ tt)
 
 gate-early : (own : ℕ) (g : Gate) → gateFault own g ≤ 9
 unfolding gateFault
@@ -97,6 +98,7 @@ module _ (p : Plan) where
   uses-tally : p .«gate_places» ≡ ceilPower (p .«gate_count») → tallyFault p ≡ unless (eqb (countOf differs (wireCount p)) 0) Fault.Tally
   uses-tally e = sym (uses-fault _ _ _ (p .uses) (countedUses p) (sym e))
 
+  -- so 17 is given exactly where some figure differs
   differs-from : tallyFault p ≡ 17 → FigureDiffers p
   differs-from t = elim (ℕ-discrete (p .«gate_places») (ceilPower (p .«gate_count»))) [
     | no d ↦ places-differ d
@@ -117,6 +119,7 @@ module _ (p : Plan) where
         uses-tally e ∙ rw (ne-eqb (countOf differs (wireCount p)) 0 (λ z. absurd (omega arith)))
   ]
 
+  -- and, of a plan, where it is also within its bounds
   tally-last : (planFault p ≡ 17) ↔ (PlanWithin p × FigureDiffers p)
   unfolding planFault
   tally-last =

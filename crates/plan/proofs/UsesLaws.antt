@@ -1,9 +1,9 @@
 -- Laws of uses: one gate or one output more; equal gates and outputs; a wire that nothing names; and counting them in an array.
-use mathlib.Core.Path.{_≡_, refl, sym, ap, ap₂, _∙_}
+use mathlib.Core.Path.{_≡_, sym, ap, _∙_}
 use mathlib.Core.Logic.{inl, inr}
 use mathlib.Core.Bool.{Bool, false}
 use mathlib.Core.List.{List}
-use Prim.Native.Nat.{ℕ, zero, suc, _+_, _-_, _*_, _%_, _<_, _≤_}
+use Prim.Native.Nat.{ℕ, suc, _+_, _-_, _*_, _%_, _<_, _≤_}
 use native.Mathlib.Nat.{mod-eq-of-lt}
 use native.Mathlib.Omega.{arith}
 use native.Mathlib.Decide.{ℕ-discrete}
@@ -14,7 +14,7 @@ use lib.Seq.{getD-set-same, getD-set-other, ext-getD}
 use Rattle.lists.specs.Lists.{listOf}
 use Rattle.lists.specs.Counting.{oneIf, countOf}
 use Rattle.lists.proofs.ListsLaws.{length-listOf, getD-listOf}
-use Rattle.lists.proofs.CountingLaws.{passed, both-ways, count-le, count-ext, one-lt}
+use Rattle.lists.proofs.CountingLaws.{passed, both-ways, count-le, count-ext, none-passes, one-lt}
 use Rattle.powers.specs.Powers.{ceilPower}
 use Rattle.powers.proofs.PowersLaws.{smallest}
 use Rattle.plan.specs.declared.record.Gate.{Gate}
@@ -59,6 +59,17 @@ uses-same k v gs hs os ps w gates outputs =
     let a = count-ext (first-names gs w) (first-names hs w) k (λ i l. ap (λ g. eqb (g .first .0) w) (gates i l)) in
     let b = count-ext (second-names gs w) (second-names hs w) k (λ i l. ap (λ g. eqb (g .second .0) w) (gates i l)) in
     let c = count-ext (output-names os w) (output-names ps w) v (λ j l. ap (λ o. eqb (o .0) w) (outputs j l)) in
+    omega (arith, a, b, c)
+
+-- a wire above all that gates and outputs name
+pub uses-above : (k v : ℕ) (gs : List Gate) (os : List PlanWire) (w : ℕ)
+    → ((i : ℕ) → i < k → (getD gs i zeroGate .first .0 < w) × (getD gs i zeroGate .second .0 < w))
+    → ((j : ℕ) → j < v → getD os j (wire 0) .0 < w) → usesOf k v gs os w ≡ 0
+unfolding usesOf
+uses-above k v gs os w operands outputs =
+    let a = none-passes (first-names gs w) k (λ i l. ne-eqb _ w (λ e. absurd (omega (arith, operands i l .0)))) in
+    let b = none-passes (second-names gs w) k (λ i l. ne-eqb _ w (λ e. absurd (omega (arith, operands i l .1)))) in
+    let c = none-passes (output-names os w) v (λ j l. ne-eqb _ w (λ e. absurd (omega (arith, outputs j l)))) in
     omega (arith, a, b, c)
 
 -- K of a plan's gates has 16 bits
