@@ -127,11 +127,27 @@ unfolding countOf
 count-ext a b zero e = refl
 count-ext a b (suc n) e = rw (count-ext a b n (λ i l. e i (le-step l)), e n (le-refl (suc n)))
 
+-- tests that differ at one place alone
+pub count-changed : (a b : ℕ → Bool) (n at : ℕ) → at < n → ((i : ℕ) → (i ≡ at → ⊥) → a i ≡ b i)
+    → countOf a n + oneIf (b at) ≡ countOf b n + oneIf (a at)
+unfolding countOf
+count-changed a b zero at l e = absurd (not-suc-le-zero l)
+count-changed a b (suc n) at l e =
+    let ih = count-changed a b n at in
+    elim (ℕ-discrete at n) [
+      | yes y ↦ rw y (omega (arith, count-ext a b n (λ i m. e i (λ h. absurd (omega arith)))))
+      | no d ↦ omega (arith, ih (omega arith) e, ap oneIf (e n (λ h. d (sym h))))
+    ]
+
 pub nth-ext : (a b : ℕ → Bool) (n r : ℕ) → ((i : ℕ) → i < n → a i ≡ b i) → nthOf a n r ≡ nthOf b n r
 unfolding nthOf
 nth-ext a b zero r e = refl
 nth-ext a b (suc n) r e =
     rw (nth-ext a b n r (λ i l. e i (le-step l)), count-ext a b n (λ i l. e i (le-step l)), e n (le-refl (suc n)))
+
+-- a number that passes is counted
+pub count-one : (test : ℕ → Bool) (n at : ℕ) → at < n → oneIf (test at) ≤ countOf test n
+count-one test n at l = elim (passed (test at)) [ inl t ↦ rw t (omega (arith, count-before test at n l t)) | inr f ↦ rw f (omega arith) ]
 
 -- where none of n passes, there is none
 pub none-passes : (test : ℕ → Bool) (n : ℕ) → ((i : ℕ) → i < n → test i ≡ false) → countOf test n ≡ 0

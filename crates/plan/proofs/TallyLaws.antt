@@ -22,9 +22,17 @@ use Rattle.plan.specs.declared.record.Plan.{Plan}
 use Rattle.plan.specs.declared.record.PlanWire.{PlanWire}
 use Rattle.plan.specs.Record.{maxInputs, maxGates, maxOutputs, wire, zeroGate, gateAt, outputAt, gateWire, usesOf, countedUses, storedUses, wireCount}
 use Rattle.plan.specs.Rules.{countAllowed, operandAllowed, tableAllowed, sourceAllowed}
-use Rattle.plan.specs.Faults.{countsFault, gateFault, outputFault, tallyFault, planFault, PlanWithin}
+use Rattle.plan.specs.Faults.{countsFault, gateFault, outputFault, tallyFault, planFault, Accepted, PlanWithin}
 use Rattle.plan.specs.TallyTheorems.{UsesAddUp, FigureDiffers, places-differ, uses-differ, TallyTheorem}
-use Rattle.plan.proofs.FaultsLaws.{places-fault, uses-fault, within-faultless, accepted-bounds}
+use Rattle.plan.proofs.UsesLaws.{uses-above}
+use Rattle.plan.proofs.FaultsLaws.{places-fault, uses-fault, within-faultless, accepted-bounds, accepted-gate, accepted-output}
+
+-- nothing names a wire past those of an accepted plan
+pub unnamed : (p : Plan) → Accepted p → (i : ℕ) → wireCount p ≤ i → countedUses p i ≡ 0
+unnamed p ok i h =
+    uses-above (p .«gate_count») (p .«output_count») (p .gates) (p .outputs) (suc i)
+    (λ j l. let w = accepted-gate p ok j l in (omega (arith, w .first), omega (arith, w .second)))
+    (λ j l. omega (arith, accepted-output p ok j l .upTo))
 
 -- ---- the sum
 

@@ -1,5 +1,5 @@
--- Laws of uses: one gate or one output more; equal gates and outputs; a wire that nothing names; and counting them in an array.
-use mathlib.Core.Path.{_≡_, sym, ap, _∙_}
+-- Laws of uses: one gate or one output more, or another one; equal gates and outputs; a wire that nothing names; and counting them in an array.
+use mathlib.Core.Path.{_≡_, refl, sym, ap, _∙_}
 use mathlib.Core.Logic.{inl, inr}
 use mathlib.Core.Bool.{Bool, false}
 use mathlib.Core.List.{List}
@@ -14,7 +14,7 @@ use lib.Seq.{getD-set-same, getD-set-other, ext-getD}
 use Rattle.lists.specs.Lists.{listOf}
 use Rattle.lists.specs.Counting.{oneIf, countOf}
 use Rattle.lists.proofs.ListsLaws.{length-listOf, getD-listOf}
-use Rattle.lists.proofs.CountingLaws.{passed, both-ways, count-le, count-ext, none-passes, one-lt}
+use Rattle.lists.proofs.CountingLaws.{passed, count-le, count-one, count-ext, count-changed, none-passes, one-lt}
 use Rattle.powers.specs.Powers.{ceilPower}
 use Rattle.powers.proofs.PowersLaws.{smallest}
 use Rattle.plan.specs.declared.record.Gate.{Gate}
@@ -50,6 +50,37 @@ module _ (gs : List Gate) (os : List PlanWire) (w : ℕ) where
   pub uses-le : (k v : ℕ) → usesOf k v gs os w ≤ 2 * k + v
   unfolding usesOf
   uses-le k v = omega (arith, count-le (first-names gs w) k, count-le (second-names gs w) k, count-le (output-names os w) v)
+
+  -- what a gate names, and what an output names, is counted
+  pub gate-named : (k v at : ℕ) → at < k → oneIf (first-names gs w at) + oneIf (second-names gs w at) ≤ usesOf k v gs os w
+  unfolding usesOf
+  gate-named k v at l = omega (arith, count-one (first-names gs w) k at l, count-one (second-names gs w) k at l)
+
+  pub output-named : (k v at : ℕ) → at < v → oneIf (output-names os w at) ≤ usesOf k v gs os w
+  unfolding usesOf
+  output-named k v at l = omega (arith, count-one (output-names os w) v at l)
+
+  -- another gate at a place, another output
+  pub uses-gate-set : (k v at : ℕ) (g : Gate) → at < k → at < length gs
+      → usesOf k v (set gs at g) os w + (oneIf (first-names gs w at) + oneIf (second-names gs w at))
+      ≡ usesOf k v gs os w + (oneIf (eqb (g .first .0) w) + oneIf (eqb (g .second .0) w))
+  unfolding usesOf
+  uses-gate-set k v at g l room =
+      let here = getD-set-same gs at g zeroGate room in
+      let a = count-changed (first-names (set gs at g) w) (first-names gs w) k at l
+      (λ i d. ap (λ h. eqb (h .first .0) w) (getD-set-other gs at i g zeroGate d)) in
+      let b = count-changed (second-names (set gs at g) w) (second-names gs w) k at l
+      (λ i d. ap (λ h. eqb (h .second .0) w) (getD-set-other gs at i g zeroGate d)) in
+      omega (arith, rw here at a, rw here at b)
+
+  pub uses-output-set : (k v at : ℕ) (o : PlanWire) → at < v → at < length os
+      → usesOf k v gs (set os at o) w + oneIf (output-names os w at) ≡ usesOf k v gs os w + oneIf (eqb (o .0) w)
+  unfolding usesOf
+  uses-output-set k v at o l room =
+      let here = getD-set-same os at o (wire 0) room in
+      let a = count-changed (output-names (set os at o) w) (output-names os w) v at l
+      (λ j d. ap (λ h. eqb (h .0) w) (getD-set-other os at j o (wire 0) d)) in
+      omega (arith, rw here at a)
 
 -- gates and outputs that are equal up to their counts
 pub uses-same : (k v : ℕ) (gs hs : List Gate) (os ps : List PlanWire) (w : ℕ) → ((i : ℕ) → i < k → getD gs i zeroGate ≡ getD hs i zeroGate)
@@ -94,28 +125,30 @@ length-use w uses = elim (passed (countAllowed maxWires w)) [
   | inr f ↦ rw f
 ]
 
+-- the uses of another wire
+pub use-other : (w : ℕ) (uses : List ℕ) (i : ℕ) → (w ≡ suc i → ⊥) → getD (withUse w uses) i 0 ≡ getD uses i 0
+use-other w uses i d = elim (passed (countAllowed maxWires w)) [
+  | inl t ↦
+      let (some, few) = count-bounds maxWires w .0 t in
+      ap (λ (m : List ℕ). getD m i 0) (use-placed w uses some few) ∙ getD-set-other uses (w - 1) i _ 0 (λ e. absurd (d (omega arith)))
+  | inr n ↦ rw (use-none w uses n)
+]
+
 -- one use more of wire w, as far as numbers go
 pub use-at : (w : ℕ) (uses : List ℕ) (i : ℕ) → length uses ≡ maxWires → i < maxWires → getD uses i 0 + 1 < wordNumbers
     → getD (withUse w uses) i 0 ≡ getD uses i 0 + oneIf (eqb w (suc i))
-use-at w uses i size l small = elim (passed (countAllowed maxWires w)) [
-  | inl t ↦
-      let (some, few) = count-bounds maxWires w .0 t in
-      ap (λ (m : List ℕ). getD m i 0) (use-placed w uses some few) ∙ elim (ℕ-discrete i (w - 1)) [
-        | yes e ↦
-            rw (← e, eq-eqb w (suc i) (omega arith))
-            (getD-set-same uses i ((getD uses i 0 + 1) % wordNumbers) 0 (omega arith) ∙ mod-eq-of-lt small)
-        | no f ↦
-            rw (ne-eqb w (suc i) (λ e. absurd (f (omega arith))))
-            (getD-set-other uses (w - 1) i ((getD uses (w - 1) 0 + 1) % wordNumbers) 0 f ∙ omega arith)
-      ]
-  | inr n ↦
-      rw (use-none w uses n, ne-eqb w (suc i) (λ e. both-ways (count-bounds maxWires w .1 (omega arith, omega arith)) n)) (omega arith)
+use-at w uses i size l small = elim (ℕ-discrete w (suc i)) [
+  | yes e ↦
+      let here : w - 1 ≡ i = omega arith in
+      rw (eq-eqb w (suc i) e, use-placed w uses (omega arith) (omega arith), here)
+      (getD-set-same uses i ((getD uses i 0 + 1) % wordNumbers) 0 (omega arith) ∙ mod-eq-of-lt small)
+  | no d ↦ rw (ne-eqb w (suc i) d) (use-other w uses i d ∙ omega arith)
 ]
 
 -- nothing is counted
-pub none-counted : (gs : List Gate) (os : List PlanWire) → UsesCounted 0 0 gs os (replicate maxWires 0)
+pub ncount-one : (gs : List Gate) (os : List PlanWire) → UsesCounted 0 0 gs os (replicate maxWires 0)
 unfolding usesOf countOf
-none-counted gs os = record { all = length-replicate {A = ℕ} maxWires 0; each = λ i l. getD-replicate maxWires i 0 0 l }
+ncount-one gs os = record { all = length-replicate {A = ℕ} maxWires 0; each = λ i l. getD-replicate maxWires i 0 0 l }
 
 module _ {k v : ℕ} {gs : List Gate} {os : List PlanWire} {uses : List ℕ} (counted : UsesCounted k v gs os uses) where
   -- the same gates and outputs up to the counts
