@@ -146,9 +146,9 @@ use-at w uses i size l small = elim (ℕ-discrete w (suc i)) [
 ]
 
 -- nothing is counted
-pub ncount-one : (gs : List Gate) (os : List PlanWire) → UsesCounted 0 0 gs os (replicate maxWires 0)
+pub none-counted : (gs : List Gate) (os : List PlanWire) → UsesCounted 0 0 gs os (replicate maxWires 0)
 unfolding usesOf countOf
-ncount-one gs os = record { all = length-replicate {A = ℕ} maxWires 0; each = λ i l. getD-replicate maxWires i 0 0 l }
+none-counted gs os = record { all = length-replicate {A = ℕ} maxWires 0; each = λ i l. getD-replicate maxWires i 0 0 l }
 
 module _ {k v : ℕ} {gs : List Gate} {os : List PlanWire} {uses : List ℕ} (counted : UsesCounted k v gs os uses) where
   -- the same gates and outputs up to the counts
