@@ -22,7 +22,7 @@ use Rattle.powers.specs.Powers.{ceilPower}
 use Rattle.plan.specs.declared.record.Gate.{Gate}
 use Rattle.plan.specs.declared.record.Plan.{Plan}
 use Rattle.plan.specs.declared.record.PlanWire.{PlanWire}
-use Rattle.plan.specs.Record.{maxInputs, maxGates, maxOutputs, maxWires, wire, zeroGate, gateAt, outputAt, gateWire, usesOf, countedUses, planOf}
+use Rattle.plan.specs.Record.{maxInputs, maxGates, maxOutputs, maxPlanWires, wire, zeroGate, gateAt, outputAt, gateWire, usesOf, countedUses, planOf}
 use Rattle.plan.specs.Rules.{countAllowed, operandAllowed, tableAllowed, sourceAllowed}
 use Rattle.plan.specs.Faults.{countsFault, gateFault, outputFault, gatesFault, outputsFault, figuresFault, tallyFault, planFault, Accepted, CountsWithin, GateWithin, OutputWithin, PlanWithin, Tallied}
 use Rattle.plan.proofs.RecordLaws.{getD-places}
@@ -112,11 +112,11 @@ accepted-allowed p =
     )
 
 -- the record of counts, gates and outputs holds its figures
-pub tallied-of : (u k v : ℕ) (gs : List Gate) (os : List PlanWire) → u + k ≤ maxWires → Tallied (planOf u k v gs os)
+pub tallied-of : (u k v : ℕ) (gs : List Gate) (os : List PlanWire) → u + k ≤ maxPlanWires → Tallied (planOf u k v gs os)
 tallied-of u k v gs os few = record {
   places = refl;
   uses = λ i l.
-      getD-listOf maxWires (λ i. usesOf k v gs os (suc i)) i 0 (omega arith)
+      getD-listOf maxPlanWires (λ i. usesOf k v gs os (suc i)) i 0 (omega arith)
       ∙ sym (uses-same k v _ gs _ os (suc i) (λ j _. getD-places maxGates zeroGate gs j) (λ j _. getD-places maxOutputs (wire 0) os j));
 }
 

@@ -19,9 +19,9 @@ use Rattle.powers.specs.Powers.{ceilPower}
 use Rattle.powers.proofs.PowersLaws.{smallest}
 use Rattle.plan.specs.declared.record.Gate.{Gate}
 use Rattle.plan.specs.declared.record.PlanWire.{PlanWire}
-use Rattle.plan.specs.Record.{wordNumbers, maxGates, maxOutputs, maxWires, wire, zeroGate, usesOf}
+use Rattle.plan.specs.Record.{wordNumbers, maxGates, maxOutputs, maxPlanWires, wire, zeroGate, usesOf}
 use Rattle.plan.specs.Rules.{countAllowed}
-use Rattle.plan.specs.Counting.{withUse, withGate, UsesCounted}
+use Rattle.plan.specs.Counting.{withUse, withOperands, UsesCounted}
 use Rattle.plan.proofs.RulesLaws.{count-bounds}
 
 -- whether a gate's operand, or an output, names wire w
@@ -110,32 +110,32 @@ places-le {k} e few = omega (arith, smallest k 8 few)
 -- ---- counting in an array
 
 -- a wire that has a place, and one that has none
-pub use-placed : (w : ℕ) (uses : List ℕ) → 1 ≤ w → w ≤ maxWires → withUse w uses ≡ set uses (w - 1) ((getD uses (w - 1) 0 + 1) % wordNumbers)
+pub use-placed : (w : ℕ) (uses : List ℕ) → 1 ≤ w → w ≤ maxPlanWires → withUse w uses ≡ set uses (w - 1) ((getD uses (w - 1) 0 + 1) % wordNumbers)
 unfolding withUse
-use-placed w uses some few = rw (count-bounds maxWires w .1 (some, few))
+use-placed w uses some few = rw (count-bounds maxPlanWires w .1 (some, few))
 
-pub use-none : (w : ℕ) (uses : List ℕ) → countAllowed maxWires w ≡ false → withUse w uses ≡ uses
+pub use-none : (w : ℕ) (uses : List ℕ) → countAllowed maxPlanWires w ≡ false → withUse w uses ≡ uses
 unfolding withUse
 use-none w uses e = rw e
 
 pub length-use : (w : ℕ) (uses : List ℕ) → length (withUse w uses) ≡ length uses
 unfolding withUse
-length-use w uses = elim (passed (countAllowed maxWires w)) [
+length-use w uses = elim (passed (countAllowed maxPlanWires w)) [
   | inl t ↦ rw t (length-set uses (w - 1) _)
   | inr f ↦ rw f
 ]
 
 -- the uses of another wire
 pub use-other : (w : ℕ) (uses : List ℕ) (i : ℕ) → (w ≡ suc i → ⊥) → getD (withUse w uses) i 0 ≡ getD uses i 0
-use-other w uses i d = elim (passed (countAllowed maxWires w)) [
+use-other w uses i d = elim (passed (countAllowed maxPlanWires w)) [
   | inl t ↦
-      let (some, few) = count-bounds maxWires w .0 t in
+      let (some, few) = count-bounds maxPlanWires w .0 t in
       ap (λ (m : List ℕ). getD m i 0) (use-placed w uses some few) ∙ getD-set-other uses (w - 1) i _ 0 (λ e. absurd (d (omega arith)))
   | inr n ↦ rw (use-none w uses n)
 ]
 
 -- one use more of wire w, as far as numbers go
-pub use-at : (w : ℕ) (uses : List ℕ) (i : ℕ) → length uses ≡ maxWires → i < maxWires → getD uses i 0 + 1 < wordNumbers
+pub use-at : (w : ℕ) (uses : List ℕ) (i : ℕ) → length uses ≡ maxPlanWires → i < maxPlanWires → getD uses i 0 + 1 < wordNumbers
     → getD (withUse w uses) i 0 ≡ getD uses i 0 + oneIf (eqb w (suc i))
 use-at w uses i size l small = elim (ℕ-discrete w (suc i)) [
   | yes e ↦
@@ -146,9 +146,9 @@ use-at w uses i size l small = elim (ℕ-discrete w (suc i)) [
 ]
 
 -- nothing is counted
-pub none-counted : (gs : List Gate) (os : List PlanWire) → UsesCounted 0 0 gs os (replicate maxWires 0)
+pub none-counted : (gs : List Gate) (os : List PlanWire) → UsesCounted 0 0 gs os (replicate maxPlanWires 0)
 unfolding usesOf countOf
-none-counted gs os = record { all = length-replicate {A = ℕ} maxWires 0; each = λ i l. getD-replicate maxWires i 0 0 l }
+none-counted gs os = record { all = length-replicate {A = ℕ} maxPlanWires 0; each = λ i l. getD-replicate maxPlanWires i 0 0 l }
 
 module _ {k v : ℕ} {gs : List Gate} {os : List PlanWire} {uses : List ℕ} (counted : UsesCounted k v gs os uses) where
   -- the same gates and outputs up to the counts
@@ -160,12 +160,12 @@ module _ {k v : ℕ} {gs : List Gate} {os : List PlanWire} {uses : List ℕ} (co
   }
 
   module _ (few : k ≤ maxGates) (fewer : v ≤ maxOutputs) where
-    small : (i : ℕ) → i < maxWires → getD uses i 0 + 2 < wordNumbers
+    small : (i : ℕ) → i < maxPlanWires → getD uses i 0 + 2 < wordNumbers
     small i l = omega (arith, counted .each i l, uses-le gs os (suc i) k v)
 
     -- a gate more
-    pub gate-counted : {g : Gate} → getD gs k zeroGate ≡ g → UsesCounted (suc k) v gs os (withGate g uses)
-    unfolding withGate
+    pub gate-counted : {g : Gate} → getD gs k zeroGate ≡ g → UsesCounted (suc k) v gs os (withOperands g uses)
+    unfolding withOperands
     gate-counted {g} e = record {
       all = length-use (g .second .0) (withUse (g .first .0) uses) ∙ length-use (g .first .0) uses ∙ counted .all;
       each = λ i l.
@@ -189,20 +189,20 @@ module _ {k v : ℕ} {gs : List Gate} {os : List PlanWire} {uses : List ℕ} (co
     }
 
   -- the array is the list of all uses
-  pub counted-list : uses ≡ listOf maxWires (λ i. usesOf k v gs os (suc i))
+  pub counted-list : uses ≡ listOf maxPlanWires (λ i. usesOf k v gs os (suc i))
   counted-list =
-      ext-getD 0 uses _ (counted .all ∙ sym (length-listOf maxWires _)) λ i l.
-      let h : i < maxWires = omega (arith, counted .all) in
-      counted .each i h ∙ sym (getD-listOf maxWires (λ i. usesOf k v gs os (suc i)) i 0 h)
+      ext-getD 0 uses _ (counted .all ∙ sym (length-listOf maxPlanWires _)) λ i l.
+      let h : i < maxPlanWires = omega (arith, counted .all) in
+      counted .each i h ∙ sym (getD-listOf maxPlanWires (λ i. usesOf k v gs os (suc i)) i 0 h)
 
 -- a gate more that is stored at its place, and an output
 module _ {k v : ℕ} {gs : List Gate} {os : List PlanWire} {uses : List ℕ} (counted : UsesCounted k v gs os uses) (few : k ≤ maxGates) (fewer : v ≤ maxOutputs) where
-  pub gate-stored : (g : Gate) → k < length gs → UsesCounted (suc k) v (set gs k g) os (withGate g uses)
-  gate-stored g room =
+  pub stored-gate : (g : Gate) → k < length gs → UsesCounted (suc k) v (set gs k g) os (withOperands g uses)
+  stored-gate g room =
       gate-counted (counted-same counted {hs = set gs k g} {ps = os} (λ i l. sym (getD-set-other gs k i g zeroGate (λ e. absurd (omega arith)))) (λ j _. refl))
       few fewer (getD-set-same gs k g zeroGate room)
 
-  pub output-stored : (o : PlanWire) → v < length os → UsesCounted k (suc v) gs (set os v o) (withUse (o .0) uses)
-  output-stored o room =
+  pub stored-output : (o : PlanWire) → v < length os → UsesCounted k (suc v) gs (set os v o) (withUse (o .0) uses)
+  stored-output o room =
       output-counted (counted-same counted {hs = gs} {ps = set os v o} (λ i _. refl) (λ j l. sym (getD-set-other os v j o (wire 0) (λ e. absurd (omega arith)))))
       few fewer (getD-set-same os v o (wire 0) room)

@@ -25,8 +25,8 @@ maxGates = 256
 abbrev pub maxOutputs : ℕ
 maxOutputs = 64
 
-abbrev pub maxWires : ℕ
-maxWires = 320
+abbrev pub maxPlanWires : ℕ
+maxPlanWires = 320
 
 -- the wire of this number
 abbrev pub wire : ℕ → PlanWire
@@ -49,7 +49,7 @@ zeroPlan = record {
   gates = places maxGates zeroGate [];
   outputs = places maxOutputs (wire 0) [];
   «gate_places» = 0;
-  uses = places maxWires 0 [];
+  uses = places maxPlanWires 0 [];
 }
 
 -- what stands at a place of the gates, counted from 0: gate i is document 01's gate i + 1
@@ -91,7 +91,7 @@ planOf u k v gs os = record {
   gates = places maxGates zeroGate gs;
   outputs = places maxOutputs (wire 0) os;
   «gate_places» = ceilPower k;
-  uses = listOf maxWires (λ i. usesOf k v gs os (suc i));
+  uses = listOf maxPlanWires (λ i. usesOf k v gs os (suc i));
 }
 
 -- the wires of a plan: 1 to u + k

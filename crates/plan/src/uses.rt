@@ -6,9 +6,9 @@ ghost use lib.Dec.{eqb};
 ghost use lib.ListN.{getD};
 ghost use Rattle.lists.specs.Counting.{oneIf, countOf};
 ghost use Rattle.fault.specs.Number.{answerNumber};
-ghost use Rattle.plan.specs.Record.{maxWires};
+ghost use Rattle.plan.specs.Record.{maxPlanWires};
 ghost use Rattle.plan.specs.Faults.{figuresFault};
-ghost use Rattle.plan.specs.Counting.{withUse, withGate};
+ghost use Rattle.plan.specs.Counting.{withUse, withOperands};
 use crate::record::Gate;
 use crate::record::Plan;
 use crate::record::PlanWire;
@@ -31,7 +31,7 @@ pub fn count_use(wire: PlanWire, uses: &mut [u16; Plan::MAX_WIRES])
 
 // One use more of each of the gate's operands.
 pub fn count_operands(gate: Gate, uses: &mut [u16; Plan::MAX_WIRES])
-    ensures { λ _. ⌜ now (uses .exit) ≡ withGate gate (now (uses .entry)) ⌝ }
+    ensures { λ _. ⌜ now (uses .exit) ≡ withOperands gate (now (uses .entry)) ⌝ }
 {
     count_use(gate.first, uses);
     count_use(gate.second, uses);
@@ -45,7 +45,7 @@ pub(crate) fn tally_fault(
     uses: &[u16; Plan::MAX_WIRES],
     counted: &[u16; Plan::MAX_WIRES],
 ) -> Answer
-    requires { ⌜ inputs + gates ≤ maxWires ⌝ }
+    requires { ⌜ inputs + gates ≤ maxPlanWires ⌝ }
     ensures { λ r. ⌜ answerNumber r ≡ figuresFault inputs gates places (now (uses .entry)) (λ i. getD (now (counted .entry)) i 0) ⌝ }
 {
     if ceil_power(gates as u32) != places as u64 {
@@ -59,7 +59,7 @@ pub(crate) fn tally_fault(
 
 // How many of the first n entries differ. All are looked at, so that the compiler compares several at once.
 fn differences(n: usize, a: &[u16; Plan::MAX_WIRES], b: &[u16; Plan::MAX_WIRES]) -> u16
-    requires { ⌜ n ≤ maxWires ⌝ }
+    requires { ⌜ n ≤ maxPlanWires ⌝ }
     ensures { λ r. ⌜ r ≡ countOf (λ i. not (eqb (getD (now (a .entry)) i 0) (getD (now (b .entry)) i 0))) n ⌝ }
 {
     let mut different: u16 = 0;

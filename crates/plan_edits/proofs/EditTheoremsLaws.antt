@@ -9,31 +9,30 @@ use lib.Seq.{getD-set-same, getD-set-other, length-sets}
 use Rattle.lists.specs.Lists.{listOf}
 use Rattle.lists.proofs.ListsLaws.{set-each, set-alike, getD-sets, getD-sets-past}
 use Rattle.powers.specs.Powers.{ceilPower}
-use Rattle.fault.proofs.ChecksLaws.{unless-zero, and-then-zero}
 use Rattle.plan.specs.declared.record.Gate.{Gate}
 use Rattle.plan.specs.declared.record.Plan.{Plan}
 use Rattle.plan.specs.declared.record.PlanWire.{PlanWire}
-use Rattle.plan.specs.Record.{maxGates, maxWires, wire, zeroGate, gateAt, outputAt, gateWire, countedUses, storedUses, wireCount, Agree}
+use Rattle.plan.specs.Record.{maxGates, maxPlanWires, wire, zeroGate, gateAt, outputAt, gateWire, countedUses, storedUses, wireCount, Agree}
 use Rattle.plan.specs.Faults.{Accepted, GateWithin, OutputWithin, PlanWithin, Tallied}
-use Rattle.plan.proofs.RulesLaws.{count-bounds}
 use Rattle.plan.proofs.UsesLaws.{uses-above}
-use Rattle.plan.proofs.FaultsLaws.{gate-within, output-within, accepted-bounds}
+use Rattle.plan.proofs.FaultsLaws.{accepted-bounds, accepted-counts}
 use Rattle.plan.proofs.AgreeLaws.{counted-alike, same-fault}
 use Rattle.plan.proofs.TallyLaws.{uses-add-up}
-use Rattle.plan_edits.specs.Edits.{placeFault, replaceGateFault, appendGateFault, replaceOutputFault, settled, withGateAt, withOutputAt, editOutcome, gateReplaced, gateAppended, outputReplaced}
+use Rattle.plan_edits.specs.Edits.{replaceGateFault, appendGateFault, replaceOutputFault, settled, withGateAt, withOutputAt, editOutcome, gateReplaced, gateAppended, outputReplaced}
+use Rattle.plan_edits.proofs.EditsLaws.{can-replace-gate, can-append-gate, can-replace-output}
 use Rattle.plan_edits.specs.EditTheorems.{HasPlaces, Settled, EditIs, EditsRight, EditsRightTheorem, SameEdit, SameEdits, SameEditsTheorem}
 
 -- ---- figures that are settled
 
 -- they are the counted ones
-settled-tallied : (p : Plan) → length (p .uses) ≡ maxWires → wireCount p ≤ maxWires → Tallied (settled p)
+settled-tallied : (p : Plan) → length (p .uses) ≡ maxPlanWires → wireCount p ≤ maxPlanWires → Tallied (settled p)
 settled-tallied p room few = record {
   places = refl;
   uses = λ i l. getD-sets (p .uses) (countedUses p) (wireCount p) i 0 l (omega arith);
 }
 
 -- the wires of a plan within its bounds have places
-wires-few : {p : Plan} → PlanWithin p → wireCount p ≤ maxWires
+wires-few : {p : Plan} → PlanWithin p → wireCount p ≤ maxPlanWires
 wires-few w = let c = w .counts in omega arith
 
 -- the plan m that an edit made of p, its figures settled
@@ -75,23 +74,20 @@ record OutputFits (p : Plan) (j : ℕ) (o : PlanWire) : Type 0 where
 
 -- by the checks of each edit
 replace-fits : (p : Plan) (number : ℕ) (g : Gate) → replaceGateFault p number g ≡ 0 → GateFits p (p .«gate_count») (number - 1) g
-unfolding replaceGateFault placeFault
 replace-fits p number g e =
-    let (ok, (at, new)) = simp (and-then-zero, unless-zero, count-bounds, gate-within) at e in
-    let c = accepted-bounds p .0 ok .0 .counts in
-    record { accepted = ok; few = c .gates; more = omega arith; place = omega arith; rest = λ j l f. l; gate = new }
+    let can = can-replace-gate p number g (sym e) in
+    let c = accepted-counts p (can .accepted) in
+    record { accepted = can .accepted; few = c .gates; more = omega arith; place = can .low; rest = λ j l f. l; gate = can .gate }
 
 append-fits : (p : Plan) (g : Gate) → appendGateFault p g ≡ 0 → GateFits p (suc (p .«gate_count»)) (p .«gate_count») g
-unfolding appendGateFault
 append-fits p g e =
-    let (ok, (at, new)) = simp (and-then-zero, unless-zero, count-bounds, gate-within) at e in
-    record { accepted = ok; few = at .1; more = omega arith; place = omega arith; rest = λ j l f. omega arith; gate = new }
+    let can = can-append-gate p g (sym e) in
+    record { accepted = can .accepted; few = can .room; more = omega arith; place = omega arith; rest = λ j l f. omega arith; gate = can .gate }
 
 output-fits : (p : Plan) (number : ℕ) (o : PlanWire) → replaceOutputFault p number o ≡ 0 → OutputFits p (number - 1) o
-unfolding replaceOutputFault placeFault
 output-fits p number o e =
-    let (ok, (at, new)) = simp (and-then-zero, unless-zero, count-bounds, output-within) at e in
-    record { accepted = ok; place = omega arith; output = new }
+    let can = can-replace-output p number o (sym e) in
+    record { accepted = can .accepted; place = can .low; output = can .output }
 
 -- ---- what it made
 

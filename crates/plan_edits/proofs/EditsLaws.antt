@@ -23,10 +23,10 @@ use Rattle.fault.proofs.ChecksLaws.{number-positive, unless-zero, and-then-zero
 use Rattle.plan.specs.declared.record.Gate.{Gate}
 use Rattle.plan.specs.declared.record.Plan.{Plan}
 use Rattle.plan.specs.declared.record.PlanWire.{PlanWire}
-use Rattle.plan.specs.Record.{wordNumbers, maxInputs, maxGates, maxOutputs, maxWires, zeroGate, gateAt, outputAt, gateWire, countedUses, storedUses, wireCount}
+use Rattle.plan.specs.Record.{wordNumbers, maxInputs, maxGates, maxOutputs, maxPlanWires, zeroGate, gateAt, outputAt, gateWire, countedUses, storedUses, wireCount}
 use Rattle.plan.specs.Rules.{countAllowed}
 use Rattle.plan.specs.Faults.{gateFault, Accepted, CountsWithin, GateWithin, OutputWithin}
-use Rattle.plan.specs.Counting.{withUse, withGate}
+use Rattle.plan.specs.Counting.{withUse, withOperands}
 use Rattle.plan.proofs.record.Gate as Gate-type
 use Rattle.plan.proofs.record.PlanWire as PlanWire-type
 use Rattle.plan.proofs.record.Plan as Plan-type
@@ -37,7 +37,7 @@ use Rattle.plan.proofs.FaultsLaws.{gate-within, output-within, accepted-counts,
 use Rattle.plan.proofs.TallyLaws.{unnamed}
 use Rattle.plan_edits.specs.Edits.{placeFault, replaceGateFault, appendGateFault, replaceOutputFault, settled, withGateAt, withOutputAt, EditOutcome, editOutcome}
 use Rattle.plan_edits.specs.EditTheorems.{HasPlaces}
-use Rattle.plan_edits.specs.Uncounting.{withoutUse, withoutGate}
+use Rattle.plan_edits.specs.Uncounting.{withoutUse, withoutOperands}
 
 -- ---- the record
 
@@ -77,7 +77,7 @@ pub record CanReplaceGate (p : Plan) (number : ℕ) (g : Gate) : Type 0 where
 pub record CanAppendGate (p : Plan) (g : Gate) : Type 0 where
   pub accepted : Accepted p
   pub room : suc (p .«gate_count») ≤ maxGates
-  pub in-uses : wireCount p < maxWires
+  pub in-uses : wireCount p < maxPlanWires
   pub gate : GateWithin (gateWire (p .inputs) (p .«gate_count»)) g
 
 pub record CanReplaceOutput (p : Plan) (number : ℕ) (o : PlanWire) : Type 0 where
@@ -121,8 +121,8 @@ can-replace-output p number o e =
 -- in a plan within its limits, at each of its wires the array has the counted uses but the lacking ones, and past them what the plan has
 pub record Lacks (p : Plan) (lacking : ℕ → ℕ) (made : List ℕ) : Type 0 where
   pub counts : CountsWithin (p .inputs) (p .«gate_count») (p .«output_count»)
-  pub full : length (p .uses) ≡ maxWires
-  pub all : length made ≡ maxWires
+  pub full : length (p .uses) ≡ maxPlanWires
+  pub all : length made ≡ maxPlanWires
   pub each : (i : ℕ) → i < wireCount p → getD made i 0 + lacking i ≡ countedUses p i
   pub past : (i : ℕ) → wireCount p ≤ i → getD made i 0 ≡ storedUses p i
 
@@ -135,14 +135,14 @@ gateUses g i = placeUses (g .first .0) i + placeUses (g .second .0) i
 
 -- one use less of wire w: what that asks, and leaves
 pub record Drops (p : Plan) (lacking : ℕ → ℕ) (made : List ℕ) (w : ℕ) : Type 0 where
-  pub asked : (1 ≤ w) × (w ≤ maxWires) × (1 ≤ getD made (w - 1) 0)
+  pub asked : (1 ≤ w) × (w ≤ maxPlanWires) × (1 ≤ getD made (w - 1) 0)
   pub left : Lacks p (λ i. lacking i + placeUses w i) (withoutUse w made)
 
 drops : {p : Plan} {lacking : ℕ → ℕ} {made : List ℕ} (w : ℕ) → 1 ≤ w → w ≤ wireCount p → ((i : ℕ) → lacking i + placeUses w i ≤ countedUses p i)
     → Lacks p lacking made → Drops p lacking made w
 unfolding withoutUse
 drops {p} {lacking} {made} w some low enough lacks =
-    let few : wireCount p ≤ maxWires = omega (arith, lacks .counts .inputs, lacks .counts .gates) in
+    let few : wireCount p ≤ maxPlanWires = omega (arith, lacks .counts .inputs, lacks .counts .gates) in
     let one = rw (eq-eqb w (suc (w - 1)) (omega arith)) at (enough (w - 1)) in
     record {
       asked = (some, omega arith, omega (arith, one, lacks .each (w - 1) (omega arith)));
@@ -225,8 +225,8 @@ wider h w = record {
 output-settles : {p : Plan} {made : List ℕ} (w : ℕ) → w ≤ wireCount p → Lacks p (placeUses w) made → withUse w made ≡ settled p .uses
 output-settles w low lacks = none-lacks (use-counted (λ _. 0) w low (λ i. omega arith) lacks)
 
-gate-settles : {p : Plan} {made : List ℕ} (g : Gate) → GateWithin (suc (wireCount p)) g → Lacks p (gateUses g) made → withGate g made ≡ settled p .uses
-unfolding withGate
+gate-settles : {p : Plan} {made : List ℕ} (g : Gate) → GateWithin (suc (wireCount p)) g → Lacks p (gateUses g) made → withOperands g made ≡ settled p .uses
+unfolding withOperands
 gate-settles g within lacks =
     output-settles (g .second .0) (omega (arith, within .second))
     (use-counted (placeUses (g .second .0)) (g .first .0) (omega (arith, within .first)) (λ i. omega arith) lacks)
@@ -264,15 +264,15 @@ module _ (p : Plan) (places : HasPlaces p) (accepted : Accepted p) where
     second-drops =
         drops (old .second .0) (old-within .someSecond) (omega (arith, old-within .second)) (λ i. omega (arith, old-counted i)) (first-drops .left)
 
-    gate-lacks : (g : Gate) → Lacks (withGateAt (p .«gate_count») at g p) (gateUses g) (withoutGate old (p .uses))
-    unfolding withoutGate
+    gate-lacks : (g : Gate) → Lacks (withGateAt (p .«gate_count») at g p) (gateUses g) (withoutOperands old (p .uses))
+    unfolding withoutOperands
     gate-lacks g =
         let room : at < length (p .gates) = omega (arith, places .gates, counts .gates) in
         exchanged (set (p .gates) at g) (p .outputs)
         (λ i. omega (arith, uses-gate-set (p .gates) (p .outputs) (suc i) (p .«gate_count») (p .«output_count») at g low room)) (second-drops .left)
 
     pub gate-replaced : (g : Gate) → GateWithin (gateWire (p .inputs) at) g
-        → withGate g (withoutGate old (p .uses)) ≡ settled (withGateAt (p .«gate_count») at g p) .uses
+        → withOperands g (withoutOperands old (p .uses)) ≡ settled (withGateAt (p .«gate_count») at g p) .uses
     gate-replaced g within = gate-settles g (wider (omega arith) within) (gate-lacks g)
 
   -- a gate more
@@ -312,7 +312,7 @@ module _ (p : Plan) (places : HasPlaces p) (accepted : Accepted p) where
       past = λ i h. getD-set-other (p .uses) n i 0 0 (λ e. absurd (omega arith));
     }
 
-    pub gate-appended : GateWithin (gateWire (p .inputs) (p .«gate_count»)) g → withGate g (set (p .uses) (wireCount p) 0) ≡ settled more .uses
+    pub gate-appended : GateWithin (gateWire (p .inputs) (p .«gate_count»)) g → withOperands g (set (p .uses) (wireCount p) 0) ≡ settled more .uses
     gate-appended within = gate-settles g (wider (omega arith) within) more-lacks
 
   -- the output at a place is dropped, and another takes it

@@ -6,7 +6,7 @@ use Rattle.lists.specs.Counting.{sumOf}
 use Rattle.plan.specs.declared.record.Gate.{Gate}
 use Rattle.plan.specs.declared.record.Plan.{Plan}
 use Rattle.plan.specs.declared.record.PlanWire.{PlanWire}
-use Rattle.plan.specs.Record.{maxGates, maxOutputs, maxWires, gateAt, outputAt, storedUses, wireCount, Agree}
+use Rattle.plan.specs.Record.{maxGates, maxOutputs, maxPlanWires, gateAt, outputAt, storedUses, wireCount, Agree}
 use Rattle.plan.specs.Faults.{Accepted, Tallied}
 use Rattle.plan_edits.specs.Edits.{EditOutcome, gateReplaced, gateAppended, outputReplaced}
 
@@ -14,7 +14,7 @@ use Rattle.plan_edits.specs.Edits.{EditOutcome, gateReplaced, gateAppend
 pub record HasPlaces (p : Plan) : Type 0 where
   pub gates : length (p .gates) ≡ maxGates
   pub outputs : length (p .outputs) ≡ maxOutputs
-  pub uses : length (p .uses) ≡ maxWires
+  pub uses : length (p .uses) ≡ maxPlanWires
 
 -- what an edit that was done made of p: "After each edit the stored figures are the counted ones, and the uses add up to 2k + v", the plan is accepted, and
 -- the figures past its wires are as they were

@@ -9,5 +9,5 @@ unfoldable pub withoutUse : ℕ → List ℕ → List ℕ
 withoutUse w uses = set uses (w - 1) (getD uses (w - 1) 0 - 1)
 
 -- one use less of each operand
-unfoldable pub withoutGate : Gate → List ℕ → List ℕ
-withoutGate g uses = withoutUse (g .second .0) (withoutUse (g .first .0) uses)
+unfoldable pub withoutOperands : Gate → List ℕ → List ℕ
+withoutOperands g uses = withoutUse (g .second .0) (withoutUse (g .first .0) uses)

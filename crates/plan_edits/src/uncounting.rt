@@ -2,15 +2,15 @@
 ghost use mathlib.Core.Path.{_≡_};
 ghost use Prim.Native.Nat.{_-_, _≤_};
 ghost use lib.ListN.{getD};
-ghost use Rattle.plan.specs.Record.{maxWires};
-ghost use Rattle.plan_edits.specs.Uncounting.{withoutUse, withoutGate};
+ghost use Rattle.plan.specs.Record.{maxPlanWires};
+ghost use Rattle.plan_edits.specs.Uncounting.{withoutUse, withoutOperands};
 use plan::Gate;
 use plan::Plan;
 use plan::PlanWire;
 
 // One use less of the wire, which has one.
 pub(crate) fn drop_use(wire: PlanWire, uses: &mut [u16; Plan::MAX_WIRES])
-    requires { ⌜ (1 ≤ wire .0) × (wire .0 ≤ maxWires) × (1 ≤ getD (now uses) (wire .0 - 1) 0) ⌝ }
+    requires { ⌜ (1 ≤ wire .0) × (wire .0 ≤ maxPlanWires) × (1 ≤ getD (now uses) (wire .0 - 1) 0) ⌝ }
     ensures { λ _. ⌜ now (uses .exit) ≡ withoutUse (wire .0) (now (uses .entry)) ⌝ }
 {
     let at = wire.0 as usize - 1;
@@ -19,9 +19,9 @@ pub(crate) fn drop_use(wire: PlanWire, uses: &mut [u16; Plan::MAX_WIRES])
 
 // One use less of each of the gate's operands, which have them.
 pub(crate) fn drop_operands(gate: Gate, uses: &mut [u16; Plan::MAX_WIRES])
-    requires { ⌜ (1 ≤ gate .first .0) × (gate .first .0 ≤ maxWires) × (1 ≤ getD (now uses) (gate .first .0 - 1) 0) ⌝ }
-    requires { ⌜ (1 ≤ gate .second .0) × (gate .second .0 ≤ maxWires) × (1 ≤ getD (withoutUse (gate .first .0) (now uses)) (gate .second .0 - 1) 0) ⌝ }
-    ensures { λ _. ⌜ now (uses .exit) ≡ withoutGate gate (now (uses .entry)) ⌝ }
+    requires { ⌜ (1 ≤ gate .first .0) × (gate .first .0 ≤ maxPlanWires) × (1 ≤ getD (now uses) (gate .first .0 - 1) 0) ⌝ }
+    requires { ⌜ (1 ≤ gate .second .0) × (gate .second .0 ≤ maxPlanWires) × (1 ≤ getD (withoutUse (gate .first .0) (now uses)) (gate .second .0 - 1) 0) ⌝ }
+    ensures { λ _. ⌜ now (uses .exit) ≡ withoutOperands gate (now (uses .entry)) ⌝ }
 {
     drop_use(gate.first, uses);
     drop_use(gate.second, uses);

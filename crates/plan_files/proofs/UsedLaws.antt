@@ -6,7 +6,7 @@ use mathlib.Core.Path.{_≡_, refl, sym, ap, ap₂, _∙_}
 use Rattle.lists.specs.Lists.{listOf}
 use Rattle.lists.proofs.ListsLaws.{getD-listOf}
 use Rattle.plan.specs.declared.record.Plan.{Plan}
-use Rattle.plan.specs.Record.{maxGates, maxOutputs, maxWires, wire, zeroGate, gateAt, outputAt, usesOf, Agree}
+use Rattle.plan.specs.Record.{maxGates, maxOutputs, maxPlanWires, wire, zeroGate, gateAt, outputAt, usesOf, Agree}
 use Rattle.plan.specs.Faults.{Accepted}
 use Rattle.plan.proofs.RecordLaws.{getD-places}
 use Rattle.plan.proofs.UsesLaws.{uses-same}
@@ -28,7 +28,7 @@ used-agrees p ok =
       output = λ j l. getD-places maxOutputs (wire 0) (listOf v (outputAt p)) j ∙ getD-listOf v (outputAt p) j (wire 0) l;
       places = sym (t .places);
       uses = λ i l.
-          getD-listOf maxWires (λ i. usesOf k v (listOf k (gateAt p)) (listOf v (outputAt p)) (suc i)) i 0 (omega (arith, c .inputs, c .gates))
+          getD-listOf maxPlanWires (λ i. usesOf k v (listOf k (gateAt p)) (listOf v (outputAt p)) (suc i)) i 0 (omega (arith, c .inputs, c .gates))
           ∙ uses-same k v _ (p .gates) _ (p .outputs) (suc i) (λ j m. getD-listOf k (gateAt p) j zeroGate m) (λ j m. getD-listOf v (outputAt p) j (wire 0) m)
           ∙ sym (t .uses i l);
     }

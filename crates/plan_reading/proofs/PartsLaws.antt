@@ -15,7 +15,7 @@ use Rattle.fault.specs.declared.Refusal.{Refusal}
 use Rattle.plan.specs.declared.record.Gate.{Gate}
 use Rattle.plan.specs.declared.record.Plan.{Plan}
 use Rattle.plan.specs.declared.record.PlanWire.{PlanWire}
-use Rattle.plan.specs.Record.{maxGates, maxOutputs, maxWires, wire, zeroGate, places, usesOf, planOf, zeroPlan}
+use Rattle.plan.specs.Record.{maxGates, maxOutputs, maxPlanWires, wire, zeroGate, places, usesOf, planOf, zeroPlan}
 use Rattle.plan.specs.Counting.{UsesCounted}
 use Rattle.plan.proofs.RecordLaws.{places-more, length-places, getD-places}
 use Rattle.plan.proofs.UsesLaws.{counted-same, counted-list}
@@ -80,7 +80,7 @@ pub record HasCounts (u k v : ℕ) (p : Plan) : Type 0 where
 pub plan-held : {u k v : ℕ} (gs : List Gate) (os : List PlanWire) {p : Plan} → HasCounts u k v p → p .gates ≡ places maxGates zeroGate gs
     → p .outputs ≡ places maxOutputs (wire 0) os → UsesCounted k v (p .gates) (p .outputs) (p .uses) → p ≡ planOf u k v gs os
 plan-held {u} {k} {v} gs os {p} c e o counted =
-    let uses : p .uses ≡ listOf maxWires (λ i. usesOf k v gs os (suc i)) =
+    let uses : p .uses ≡ listOf maxPlanWires (λ i. usesOf k v gs os (suc i)) =
     counted-list (counted-same counted
     (λ i _. ap (λ (l : List Gate). getD l i zeroGate) e ∙ getD-places maxGates zeroGate gs i)
     (λ j _. ap (λ (l : List PlanWire). getD l j (wire 0)) o ∙ getD-places maxOutputs (wire 0) os j)) in

@@ -15,7 +15,7 @@ use Rattle.plan.specs.declared.record.Plan.{Plan}
 use Rattle.plan.specs.Record.{maxGates, maxOutputs, zeroGate, wire, places, gateAt}
 use Rattle.plan.specs.Counting.{UsesCounted}
 use Rattle.plan.proofs.RecordLaws.{length-places}
-use Rattle.plan.proofs.UsesLaws.{none-counted, counted-same, gate-stored, places-le}
+use Rattle.plan.proofs.UsesLaws.{none-counted, counted-same, stored-gate, places-le}
 use Rattle.plan_reading.proofs.PartsLaws.{HasCounts, plan-held}
 use Rattle.plan_order.specs.Drawing.{drawnOrder, renumberedGate}
 use Rattle.plan_drawn.proofs.OrderingLaws.{places-step, DrawnAt, drawn-at, outputs-held, outputs-of, gate-of}
@@ -98,7 +98,7 @@ again c =
     let same = loop .inv .2 in
     let room : length (loop .plan .gates) ≡ maxGates = ap length (loop .inv .4) ∙ length-places maxGates zeroGate _ (omega (arith, length-listOf (loop .p) (newGate (s .args .t1)), loop .inv .1)) in
     let low : loop .p < maxGates = omega (arith, turn .loop-test .taken, loop .inv .1) in
-    let stored = gate-stored (loop .inv .5) (omega arith) (s .pre .0 .within .counts .outputs) _ (omega arith) in (
+    let stored = stored-gate (loop .inv .5) (omega arith) (s .pre .0 .within .counts .outputs) _ (omega arith) in (
       omega arith,
       loop .inv .1,
       record { inputs = same .inputs; gates = same .gates; outputs = same .outputs; places = same .places },

@@ -2,7 +2,7 @@
 use mathlib.Core.Path.{_≡_, ap, _∙_}
 use borrow.Author.Needs.{needs}
 use Rattle.fault.proofs.ChecksLaws.{answer-passes, answer-refuses}
-use Rattle.plan.specs.Counting.{withGate}
+use Rattle.plan.specs.Counting.{withOperands}
 use Rattle.plan.proofs.FaultsLaws.{accepted-tallied}
 use Rattle.plan_edits.specs.Edits.{replaceGateFault, withGateAt, gateReplaced}
 use Rattle.plan_edits.specs.EditTheorems.{HasPlaces}
@@ -40,7 +40,7 @@ replaced c =
     let met = c .before .before .before .before .before in
     let a = can met in
     edit-done (withGateAt _ _ _ (start met .args .t1)) _ _ _ (passes met) (accepted-tallied _ (a .accepted) .places)
-    (c .count-operands .ensures ∙ ap (withGate _) (c .before .before .drop-operands .ensures)
+    (c .count-operands .ensures ∙ ap (withOperands _) (c .before .before .drop-operands .ensures)
     ∙ gate-replaced _ (places met) (a .accepted) _ (a .low) _ (a .gate))
 
 pub replace-gate-spec : {M : Type 1} → statement M

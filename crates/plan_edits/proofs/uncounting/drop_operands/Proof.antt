@@ -1,7 +1,7 @@
 -- `plan_edits::uncounting::drop_operands` meets its contract. Assumes nothing.
 use mathlib.Core.Path.{ap, _∙_}
 use borrow.Author.Needs.{needs}
-use Rattle.plan_edits.specs.Uncounting.{withoutUse, withoutGate}
+use Rattle.plan_edits.specs.Uncounting.{withoutUse, withoutOperands}
 use Rattle.plan_edits.proofs.uncounting.drop_operands.Statement.{statement}
 use Rattle.plan_edits.proofs.uncounting.drop_operands.Tie as tie
 
@@ -9,7 +9,7 @@ for-second : tie.Need-drop-use-requires-2
 for-second c κs = rw (c .before .drop-use .ensures) (c .before .before .before .pre .1)
 
 both : tie.Need-returns
-unfolding withoutGate
+unfolding withoutOperands
 both c = c .drop-use2 .ensures ∙ ap (withoutUse _) (c .before .before .drop-use .ensures)
 
 pub drop-operands-spec : {M : Type 1} → statement M

@@ -15,7 +15,7 @@ use Rattle.plan.specs.declared.record.PlanWire.{PlanWire}
 use Rattle.plan.specs.Record.{maxGates, maxOutputs, wire, zeroGate, gateWire, places, zeroPlan}
 use Rattle.plan.specs.Counting.{UsesCounted}
 use Rattle.plan.proofs.RecordLaws.{wire-fits}
-use Rattle.plan.proofs.UsesLaws.{none-counted, gate-stored, output-stored, places-le}
+use Rattle.plan.proofs.UsesLaws.{none-counted, stored-gate, stored-output, places-le}
 use Rattle.plan_fields.specs.Parsing.{got, followed}
 use Rattle.plan_fields.specs.Fields.{gateStepWithin}
 use Rattle.plan_fields.specs.Answers.{gateAnswer, outputAnswer}
@@ -150,7 +150,7 @@ again c =
     let taken = met .before .before .before .loop-test .taken in
     let same = turn .loop .inv .1 in
     let low = within taken (limited (known turn) .gates) in
-    let stored = gate-stored (turn .loop .inv .4) (le-of-lt low) zero-le _ (rw (held-places (turn .loop .inv .3) (le-of-lt low)) low) in (
+    let stored = stored-gate (turn .loop .inv .4) (le-of-lt low) zero-le _ (rw (held-places (turn .loop .inv .3) (le-of-lt low)) low) in (
       next-within taken,
       record { inputs = same .inputs; gates = same .gates; outputs = same .outputs; places = same .places },
       turn .loop .inv .2,
@@ -199,7 +199,7 @@ again2 c =
     let same = turn .loop2 .inv .1 in
     let most = limited (known (first-loop turn)) in
     let low = within taken (most .outputs) in
-    let stored = output-stored (turn .loop2 .inv .4) (most .gates) (le-of-lt low) _ (rw (held-places (turn .loop2 .inv .3) (le-of-lt low)) low) in (
+    let stored = stored-output (turn .loop2 .inv .4) (most .gates) (le-of-lt low) _ (rw (held-places (turn .loop2 .inv .3) (le-of-lt low)) low) in (
       next-within taken,
       record { inputs = same .inputs; gates = same .gates; outputs = same .outputs; places = same .places },
       turn .loop2 .inv .2,
