@@ -1,8 +1,10 @@
 // The three edits. The plan faults come first, then the place, then what the edit brings; a refusal gives the record back.
 ghost use mathlib.Core.Path.{_≡_};
 ghost use Rattle.fault.specs.Number.{answerNumber};
+ghost use Rattle.fault.specs.declared.Answer.{Answer};
 ghost use Rattle.plan_edits.specs.Edits.{replaceGateFault, appendGateFault, replaceOutputFault, gateReplaced, gateAppended, outputReplaced};
 ghost use Rattle.plan_edits.specs.Answers.{editedOutcome};
+use crate::uncounting::clear_uses;
 use crate::uncounting::drop_operands;
 use crate::uncounting::drop_use;
 use fault::Answer;
@@ -25,15 +27,22 @@ pub struct Edited {
     pub plan: Plan,
 }
 
+// A refusal, with the plan as it went in.
+fn refused_edit(plan: Plan, f: Fault) -> Edited
+    ensures { λ r. ⌜ r ≡ record { answer = Answer.Refused f; plan = plan } ⌝ }
+{
+    Edited {
+        answer: Answer::Refused(f),
+        plan: plan,
+    }
+}
+
 // The plan with this gate, counted from 1, replaced.
 pub fn replace_gate(plan: Plan, gate: u32, new_gate: Gate) -> Edited
     ensures { λ r. ⌜ editedOutcome r ≡ gateReplaced plan gate «new_gate» ⌝ }
 {
     match check_replace_gate(plan, gate, new_gate) {
-        Answer::Refused(f) => Edited {
-            answer: Answer::Refused(f),
-            plan: plan,
-        },
+        Answer::Refused(f) => refused_edit(plan, f),
         Answer::Done => {
             let at = gate as usize - 1;
             let mut edited = plan;
@@ -69,10 +78,7 @@ pub fn append_gate(plan: Plan, new_gate: Gate) -> Edited
     ensures { λ r. ⌜ editedOutcome r ≡ gateAppended plan «new_gate» ⌝ }
 {
     match check_append_gate(plan, new_gate) {
-        Answer::Refused(f) => Edited {
-            answer: Answer::Refused(f),
-            plan: plan,
-        },
+        Answer::Refused(f) => refused_edit(plan, f),
         Answer::Done => {
             let inputs = plan.inputs as usize;
             let at = plan.gate_count as usize;
@@ -81,7 +87,7 @@ pub fn append_gate(plan: Plan, new_gate: Gate) -> Edited
             edited.gate_count = count;
             edited.gates[at] = new_gate;
             edited.gate_places = ceil_power(count as u32) as u16;
-            edited.uses[inputs + at] = 0;
+            clear_uses(inputs + at, &mut edited.uses);
             count_operands(new_gate, &mut edited.uses);
             Edited {
                 answer: Answer::Done,
@@ -112,10 +118,7 @@ pub fn replace_output(plan: Plan, output: u32, wire: PlanWire) -> Edited
     ensures { λ r. ⌜ editedOutcome r ≡ outputReplaced plan output wire ⌝ }
 {
     match check_replace_output(plan, output, wire) {
-        Answer::Refused(f) => Edited {
-            answer: Answer::Refused(f),
-            plan: plan,
-        },
+        Answer::Refused(f) => refused_edit(plan, f),
         Answer::Done => {
             let at = output as usize - 1;
             let mut edited = plan;

@@ -1,12 +1,20 @@
-// The uses that go with a gate or an output, wire w at place w - 1.
+// The uses that go with a gate or an output, and those of a new wire: wire w at place w - 1.
 ghost use mathlib.Core.Path.{_≡_};
-ghost use Prim.Native.Nat.{_-_, _≤_};
-ghost use lib.ListN.{getD};
+ghost use Prim.Native.Nat.{_-_, _<_, _≤_};
+ghost use lib.ListN.{getD, set};
 ghost use Rattle.plan.specs.Record.{maxPlanWires};
 ghost use Rattle.plan_edits.specs.Uncounting.{withoutUse, withoutOperands};
 use plan::Gate;
 use plan::Plan;
 use plan::PlanWire;
+
+// The wire at this place has no uses.
+pub(crate) fn clear_uses(at: usize, uses: &mut [u16; Plan::MAX_WIRES])
+    requires { ⌜ at < maxPlanWires ⌝ }
+    ensures { λ _. ⌜ now (uses .exit) ≡ set (now (uses .entry)) at 0 ⌝ }
+{
+    uses[at] = 0;
+}
 
 // One use less of the wire, which has one.
 pub(crate) fn drop_use(wire: PlanWire, uses: &mut [u16; Plan::MAX_WIRES])

@@ -4,6 +4,7 @@ use borrow.Author.Needs.{needs}
 use Rattle.fault.proofs.ChecksLaws.{answer-passes, answer-refuses}
 use Rattle.plan.specs.Counting.{withOperands}
 use Rattle.plan.proofs.FaultsLaws.{accepted-tallied}
+use Rattle.plan_edits.specs.Answers.{editedOutcome}
 use Rattle.plan_edits.specs.Edits.{replaceGateFault, withGateAt, gateReplaced}
 use Rattle.plan_edits.specs.EditTheorems.{HasPlaces}
 use Rattle.plan_edits.proofs.EditsLaws.{has-places, CanReplaceGate, can-replace-gate, first-drops, second-drops, gate-replaced, edit-refused, edit-done}
@@ -32,7 +33,10 @@ for-drop c κs =
 
 refused : tie.Need-returns
 unfolding gateReplaced
-refused c = edit-refused (c .before .f .given .0 .0) _ _ (answer-refuses (c .before .f .given .1) (c .before .before .before .check-replace-gate .ensures))
+refused c =
+    let answer = c .before .before in
+    ap editedOutcome (c .refused-edit .ensures)
+    ∙ edit-refused (answer .f .given .0 .0) _ _ (answer-refuses (answer .f .given .1) (answer .before .before .check-replace-gate .ensures))
 
 replaced : tie.Need-returns-2
 unfolding gateReplaced
@@ -47,5 +51,5 @@ pub replace-gate-spec : {M : Type 1} → statement M
 replace-gate-spec =
     tie.close
     (tie.spec
-    (λ c κs. search needs) (λ c. search needs) (λ c. search needs) (λ c. can c .some) (λ c. search needs) (λ c. can c .in-gates)
+    (λ c κs. search needs) (λ c. search needs) (λ c κs. search needs) (λ c. search needs) (λ c. can c .some) (λ c. search needs) (λ c. can c .in-gates)
     (λ c. search needs) (λ c. can (c .before) .in-gates) for-drop (λ c κs. search needs) refused replaced)

@@ -5,6 +5,7 @@ use borrow.Author.Needs.{needs}
 use Rattle.fault.proofs.ChecksLaws.{answer-passes, answer-refuses}
 use Rattle.plan.specs.Counting.{withUse}
 use Rattle.plan.proofs.FaultsLaws.{accepted-tallied}
+use Rattle.plan_edits.specs.Answers.{editedOutcome}
 use Rattle.plan_edits.specs.Edits.{replaceOutputFault, withOutputAt, outputReplaced}
 use Rattle.plan_edits.specs.EditTheorems.{HasPlaces}
 use Rattle.plan_edits.proofs.EditsLaws.{has-places, CanReplaceOutput, can-replace-output, output-drops, output-replaced, edit-refused, edit-done}
@@ -31,7 +32,9 @@ for-drop c κs = let met = c .before .before in output-drops _ (places met) (can
 refused : tie.Need-returns
 unfolding outputReplaced
 refused c =
-    edit-refused (c .before .f .given .0 .0) _ _ (answer-refuses (c .before .f .given .1) (c .before .before .before .check-replace-output .ensures))
+    let answer = c .before .before in
+    ap editedOutcome (c .refused-edit .ensures)
+    ∙ edit-refused (answer .f .given .0 .0) _ _ (answer-refuses (answer .f .given .1) (answer .before .before .check-replace-output .ensures))
 
 replaced : tie.Need-returns-2
 unfolding outputReplaced
@@ -46,5 +49,5 @@ pub replace-output-spec : {M : Type 1} → statement M
 replace-output-spec =
     tie.close
     (tie.spec
-    (λ c κs. search needs) (λ c. search needs) (λ c. search needs) (λ c. can c .some) (λ c. search needs) (λ c. can c .in-outputs)
+    (λ c κs. search needs) (λ c. search needs) (λ c κs. search needs) (λ c. search needs) (λ c. can c .some) (λ c. search needs) (λ c. can c .in-outputs)
     (λ c. search needs) (λ c. can (c .before) .in-outputs) for-drop (λ c κs. search needs) refused replaced)
