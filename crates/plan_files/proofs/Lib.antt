@@ -7,6 +7,8 @@ pub mod ReadingLaws
 pub mod BytesLaws
 -- reading a plan's file gives the plan, what is read is such a file, and how long a file can be
 pub mod EncodingLaws
+-- the figures of a plan that is read
+pub mod ReadFiguresLaws
 -- table bytes, of a gate and of the gates of a plan
 pub mod TableLinesLaws
 -- unused places in a plan's files

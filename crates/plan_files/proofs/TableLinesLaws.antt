@@ -15,7 +15,6 @@ use Rattle.plan.specs.Record.{wire, gateAt}
 use Rattle.plan.specs.Rules.{mapAllowed, maxTable}
 use Rattle.plan.specs.Faults.{Accepted}
 use Rattle.plan.proofs.RulesLaws.{table-bound}
-use Rattle.plan.proofs.FaultsLaws.{accepted-bounds, held-tallied}
 use Rattle.plan_evaluation_checks.proofs.EvaluationChecksLaws.{row-bit}
 use Rattle.plan_evaluation.specs.Evaluation.{wireBit, tableBit}
 use Rattle.plan_evaluation.proofs.EvaluationLaws.{wire-bit, gate-bit}
@@ -29,6 +28,7 @@ use Rattle.plan_drawn.proofs.WholeFileLaws.{FileHeld}
 use Rattle.plan_drawn.proofs.DrawingFileLaws.{file-held, plan-got, drawing-got}
 use Rattle.plan_drawn.proofs.DrawnTheoremsLaws.{drawn-right-theorem}
 use Rattle.plan_files.specs.Encoding.{TwoLines}
+use Rattle.plan_files.proofs.ReadFiguresLaws.{read-accepted}
 use Rattle.plan_files.specs.TableLines.{lineBit, lastByte, secondStands, tableStands, TableRead, TableReadTheorem, TwoLinesCheckedTheorem, SixteenTablesTheorem}
 use Rattle.plan_files.specs.TableLines.{held, gateOffset, LinesFollowed, PlainLinesTheorem, DrawnLinesTheorem}
 use Rattle.plan_files.proofs.ReadingLaws.{by-test, whole-stands}
@@ -160,9 +160,7 @@ pub plain-lines : PlainLinesTheorem
 unfolding planRead
 plain-lines s e g low =
     let file = file-held false s (plan-got s e .1) in
-    let accepted = accepted-bounds (planRead s .plan) .1
-    (record { counts = file .counts; gate = λ i l. file .gate i l .within; output = file .output }, held-tallied (file .gates) (file .outputs) (file .held) (file .counts)) in
-    lines-followed false s (planRead s .plan) g g file low accepted low refl (λ h. h)
+    lines-followed false s (planRead s .plan) g g file low (read-accepted s e) low refl (λ h. h)
 
 pub drawn-lines : DrawnLinesTheorem
 unfolding drawingRead

@@ -3,3 +3,5 @@
 pub mod Encoding
 -- document 02, W4: what is proved of table bytes
 pub mod TableLines
+-- document 02, W7: what is proved of the figures of a plan that is read
+pub mod ReadFigures
