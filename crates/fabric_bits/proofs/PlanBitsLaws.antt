@@ -1,13 +1,13 @@
 -- The bits of an accepted plan from the lists of its gates: how many they are, that the selection blocks have nothing to refuse, and that the parts
 -- S(u, 2K), U(K) and S(K, v), stored one behind the other, are the whole.
-use mathlib.Core.Path.{_≡_, refl, sym, ap, ap₂, _∙_}
+use mathlib.Core.Path.{_≡_, refl, sym, ap, ap₂, subst, _∙_}
 use mathlib.Core.List.{List, _++_, append-assoc}
 use Prim.Native.Nat.{ℕ, _+_, _*_, _^_, _≤_, _<_}
 use native.Mathlib.Omega.{arith}
 use lib.ListN.{length, getD, take, length-append}
 use lib.Pow.{pow-pos}
 use Rattle.lists.proofs.ListsLaws.{length-listOf, getD-listOf, listOf-ext}
-use Rattle.blocks.specs.Elements.{storeBits}
+use Rattle.blocks.specs.Elements.{operands, storeBits}
 use Rattle.blocks.proofs.ElementsLaws.{storeBits-append}
 use Rattle.blocks.specs.Networks.{selectionCount, selectionBits}
 use Rattle.blocks.proofs.NetworksLaws.{length-selectionBits}
@@ -24,7 +24,7 @@ use Rattle.fabric_universal.specs.Fabric.{gateLevel, fabricTakes, planGates, wa
 use Rattle.fabric_universal.proofs.FabricLaws.{fabric-within}
 use Rattle.fabric_universal.proofs.FabricRun.{inputs-selected, outputs-selected}
 use Rattle.fabric_lists.specs.WantedLists.{listedGates, inputsWanted}
-use Rattle.fabric_sizes.proofs.PartsLaws.{few-places, same-level}
+use Rattle.fabric_sizes.proofs.PartsLaws.{few-places, same-level, places-level, plan-places}
 use Rattle.fabric_sizes.specs.Parts.{maxPins}
 use Rattle.fabric_bits.specs.ProgramParts.{bitLimit, gatesProgram, UniversalProgramRoom, GatesRoom}
 use Rattle.fabric_bits.proofs.LoadedLaws.{Loaded}
@@ -32,37 +32,36 @@ use Rattle.fabric_bits.proofs.UniversalBitsLaws.{SameGates, universal-s
 
 -- ---- how many bits
 
-pub length-gates : (u k : ℕ) (operandList tables : List ℕ)
-    → length (gatesProgram u k operandList tables) ≡ selectionCount u (pinCount (gateLevel k)) + universalTakes selection (gateLevel k)
+pub length-gates : (u places : ℕ) (operandList tables : List ℕ)
+    → length (gatesProgram u places operandList tables) ≡ selectionCount u (operands * places) + universalTakes selection (gateLevel places)
 unfolding gatesProgram
-length-gates u k operandList tables =
-    let n : ℕ = gateLevel k in
-    let wanted = inputsWanted u operandList (pinCount n) in
-    length-append (selectionBits u (pinCount n) wanted) _
-    ∙ ap₂ (λ a b. a + b) (length-selectionBits u (pinCount n) wanted) (length-universalBits selection selection-shape (listedGates u operandList tables) n 0)
+length-gates u places operandList tables =
+    let pins : ℕ = operands * places in
+    let wanted = inputsWanted u operandList pins in
+    length-append (selectionBits u pins wanted) _
+    ∙ ap₂ (λ a b. a + b) (length-selectionBits u pins wanted)
+    (length-universalBits selection selection-shape (listedGates u operandList tables) (gateLevel places) 0)
 
 -- ---- S(u, 2K), then U(K)
 
 -- what U(K) is lent after S(u, 2K)'s bits are stored
-pub room-behind : {gates base tables wanted start room gates′ wanted′ start′ room′ : ℕ}
-    → UniversalProgramRoom gates base tables wanted start room → gates′ ≡ gates → wanted′ ≡ wanted → start′ ≡ start → room′ ≡ room
-    → UniversalProgramRoom gates′ base tables wanted′ start′ room′
-room-behind R el ew es er = rw (el, ew, es, er) R
+pub room-behind : {gates base tables wanted start room wanted′ start′ room′ : ℕ}
+    → UniversalProgramRoom gates base tables wanted start room → wanted′ ≡ wanted → start′ ≡ start → room′ ≡ room
+    → UniversalProgramRoom gates base tables wanted′ start′ room′
+room-behind R ew es er = rw (ew, es, er) R
 
-pub gates-stored : (u k : ℕ) (operandList tables s₀ : List ℕ) {places count next : ℕ} {s₁ s₂ : List ℕ} → places ≡ 2 ^ gateLevel k → count ≡ 2 * places
-    → s₁ ≡ storeBits s₀ 0 (selectionBits u count (inputsWanted u operandList count)) → next ≡ selectionCount u count
-    → s₂ ≡ storeBits s₁ next (universalBits selection (listedGates u operandList tables) (gateLevel places) 0) → s₂ ≡ storeBits s₀ 0 (gatesProgram u k operandList tables)
+pub gates-stored : (u places : ℕ) (operandList tables s₀ : List ℕ) {next : ℕ} {s₁ s₂ : List ℕ}
+    → s₁ ≡ storeBits s₀ 0 (selectionBits u (operands * places) (inputsWanted u operandList (operands * places)))
+    → next ≡ selectionCount u (operands * places)
+    → s₂ ≡ storeBits s₁ next (universalBits selection (listedGates u operandList tables) (gateLevel places) 0)
+    → s₂ ≡ storeBits s₀ 0 (gatesProgram u places operandList tables)
 unfolding gatesProgram
-gates-stored u k operandList tables s₀ {places} {count} {next} {s₁} {s₂} ep two e₁ en e₂ =
-    let n : ℕ = gateLevel k in
-    let el : gateLevel places ≡ n = ap gateLevel ep ∙ same-level k in
-    let ec : count ≡ pinCount n = two ∙ ap (λ m. 2 * m) ep in
-    let I = selectionBits u (pinCount n) (inputsWanted u operandList (pinCount n)) in
-    let G = universalBits selection (listedGates u operandList tables) n 0 in
-    let first : s₁ ≡ storeBits s₀ 0 I = e₁ ∙ ap (λ c. storeBits s₀ 0 (selectionBits u c (inputsWanted u operandList c))) ec in
-    let at : next ≡ 0 + length I = en ∙ ap (selectionCount u) ec ∙ omega (arith, length-selectionBits u (pinCount n) (inputsWanted u operandList (pinCount n))) in
-    e₂ ∙ ap (λ l. storeBits s₁ next (universalBits selection (listedGates u operandList tables) l 0)) el
-    ∙ ap₂ (λ s q. storeBits s q G) first at ∙ sym (storeBits-append s₀ 0 I G)
+gates-stored u places operandList tables s₀ {next} e₁ en e₂ =
+    let pins : ℕ = operands * places in
+    let I = selectionBits u pins (inputsWanted u operandList pins) in
+    let G = universalBits selection (listedGates u operandList tables) (gateLevel places) 0 in
+    let at : next ≡ 0 + length I = omega (arith, length-selectionBits u pins (inputsWanted u operandList pins)) in
+    e₂ ∙ ap₂ (λ s q. storeBits s q G) e₁ at ∙ sym (storeBits-append s₀ 0 I G)
 
 -- ---- the lists of a plan's gates
 
@@ -78,6 +77,10 @@ module _ (p : Plan) {operandList tables : List ℕ} (L : Loaded p operandList ta
   }
 
   module _ (accepted : Accepted p) where
+    -- the K that its record holds
+    held-places : p .«gate_places» ≡ 2 ^ gateLevel (p .«gate_count»)
+    held-places = plan-places p accepted .isPlaces
+
     few-gates : 2 ^ gateLevel (p .«gate_count») ≤ maxGates
     few-gates = few-places (p .«gate_count») (accepted-counts p accepted .gates)
 
@@ -88,26 +91,28 @@ module _ (p : Plan) {operandList tables : List ℕ} (L : Loaded p operandList ta
 
     -- S(u, 2K) and U(K) are programmed for the plan
     gates-programmed : let n : ℕ = gateLevel (p .«gate_count») in
-        gatesProgram (p .inputs) (p .«gate_count») operandList tables
+        gatesProgram (p .inputs) (p .«gate_places») operandList tables
         ≡ selectionBits (p .inputs) (pinCount n) (wantedInputs p) ++ universalBits selection (planGates p) n 0
     unfolding gatesProgram
     gates-programmed =
         let n : ℕ = gateLevel (p .«gate_count») in
-        ap₂ (λ (w b : List ℕ). selectionBits (p .inputs) (pinCount n) w ++ b) loaded-wanted
-        (universal-same maxGates _ _ loaded-same n 0 (omega (arith, few-gates)))
+        ap (λ K. gatesProgram (p .inputs) K operandList tables) held-places
+        ∙ ap₂ (λ (w b : List ℕ). selectionBits (p .inputs) (pinCount n) w ++ b) loaded-wanted
+        (ap (λ m. universalBits selection (listedGates (p .inputs) operandList tables) m 0) (same-level (p .«gate_count»))
+        ∙ universal-same maxGates _ _ loaded-same n 0 (omega (arith, few-gates)))
 
     -- they have room
     pub gates-program-room : {wanted room : ℕ} → wanted ≡ maxPins → fabricTakes (p .inputs) (p .«gate_count») (p .«output_count») ≤ 8 * room
-        → GatesRoom (p .inputs) (p .«gate_count») operandList tables wanted room
+        → GatesRoom (p .inputs) (p .«gate_places») operandList tables wanted room
     unfolding fabricTakes
-    gates-program-room ew fits =
+    gates-program-room {wanted} {room} ew fits =
         let n : ℕ = gateLevel (p .«gate_count») in
         let c = accepted-counts p accepted in
         let few = fabric-within _ _ _ c .bits in
         let some = pow-pos n in
         let same = same-level (p .«gate_count») in
         let takes = ap (universalTakes selection) same in
-        record {
+        subst (λ K. GatesRoom (p .inputs) K operandList tables wanted room) (sym held-places) (record {
           inputs = record {
             sizes = record { someInputs = c .someInputs; inputs = omega (arith, c .inputs); someOutputs = omega arith; outputs = omega (arith, few-gates) };
             selected = rw loaded-wanted (inputs-selected p accepted);
@@ -121,17 +126,17 @@ module _ (p : Plan) {operandList tables : List ℕ} (L : Loaded p operandList ta
             few = omega (arith, takes);
             fits = omega (arith, takes);
           };
-        }
+        })
 
     -- the bits of S(K, v) behind theirs are the plan's
-    pub plan-stored : (s₀ : List ℕ) {next : ℕ} {s₁ s₂ : List ℕ} → s₁ ≡ storeBits s₀ 0 (gatesProgram (p .inputs) (p .«gate_count») operandList tables)
-        → next ≡ length (gatesProgram (p .inputs) (p .«gate_count») operandList tables)
+    pub plan-stored : (s₀ : List ℕ) {next : ℕ} {s₁ s₂ : List ℕ} → s₁ ≡ storeBits s₀ 0 (gatesProgram (p .inputs) (p .«gate_places») operandList tables)
+        → next ≡ length (gatesProgram (p .inputs) (p .«gate_places») operandList tables)
         → s₂ ≡ storeBits s₁ next (selectionBits (2 ^ gateLevel (p .«gate_count»)) (p .«output_count») (wantedOutputs p))
         → s₂ ≡ storeBits s₀ 0 (planBits p)
     unfolding planBits
     plan-stored s₀ {next} e₁ en e₂ =
         let n : ℕ = gateLevel (p .«gate_count») in
-        let A = gatesProgram (p .inputs) (p .«gate_count») operandList tables in
+        let A = gatesProgram (p .inputs) (p .«gate_places») operandList tables in
         let O = selectionBits (2 ^ n) (p .«output_count») (wantedOutputs p) in
         let at : next ≡ 0 + length A = omega arith in
         e₂ ∙ ap₂ (λ s q. storeBits s q O) e₁ at ∙ sym (storeBits-append s₀ 0 A O)
@@ -141,13 +146,16 @@ module _ (p : Plan) {operandList tables : List ℕ} (L : Loaded p operandList ta
 -- what is left of the plan's bits has room behind theirs
 pub output-bits-fit : (p : Plan) → Accepted p → (operandList tables : List ℕ) {next : ℕ} (room : ℕ)
     → fabricTakes (p .inputs) (p .«gate_count») (p .«output_count») ≤ 8 * room
-    → next ≡ length (gatesProgram (p .inputs) (p .«gate_count») operandList tables)
+    → next ≡ length (gatesProgram (p .inputs) (p .«gate_places») operandList tables)
     → (next + selectionCount (2 ^ gateLevel (p .«gate_count»)) (p .«output_count») ≤ 8 * room)
     × (next + selectionCount (2 ^ gateLevel (p .«gate_count»)) (p .«output_count») ≤ bitLimit)
 unfolding fabricTakes
 output-bits-fit p accepted operandList tables room fits en =
     let few = fabric-within _ _ _ (accepted-counts p accepted) .bits in
-    let size = length-gates (p .inputs) (p .«gate_count») operandList tables in
+    let K = plan-places p accepted in
+    let pins = ap (λ m. selectionCount (p .inputs) (operands * m)) (K .isPlaces) in
+    let takes = ap (universalTakes selection) (places-level K) in
+    let size = length-gates (p .inputs) (p .«gate_places») operandList tables in
     (omega arith, omega arith)
 
 -- S(K, v)'s call has nothing to refuse

@@ -7,7 +7,7 @@ use Rattle.blocks.specs.Elements.{operands}
 use Rattle.blocks.specs.Networks.{selectionCount, selectionBits}
 use Rattle.blocks.specs.Calls.{SelectionPasses}
 use Rattle.plan.specs.Record.{maxGates}
-use Rattle.fabric_universal.specs.Selector.{pinCount, selection}
+use Rattle.fabric_universal.specs.Selector.{selection}
 use Rattle.fabric_universal.specs.Universal.{Gates, universalTakes, wantedGates, mixBits, universalBits}
 use Rattle.fabric_universal.specs.Fabric.{gateLevel}
 use Rattle.fabric_lists.specs.WantedLists.{listedGates, inputsWanted}
@@ -23,11 +23,11 @@ bitLimit = 65536
 unfoldable pub betweenBits : Gates → ℕ → ℕ → List ℕ
 betweenBits G base h = selectionBits h (operands * h) (wantedGates G base h) ++ mixBits G base h
 
--- S(u, 2K) and U(K)
+-- S(u, 2K) and U(K), K `places`
 unfoldable pub gatesProgram : ℕ → ℕ → List ℕ → List ℕ → List ℕ
-gatesProgram u k operandList tables =
-    selectionBits u (pinCount (gateLevel k)) (inputsWanted u operandList (pinCount (gateLevel k)))
-    ++ universalBits selection (listedGates u operandList tables) (gateLevel k) 0
+gatesProgram u places operandList tables =
+    selectionBits u (operands * places) (inputsWanted u operandList (operands * places))
+    ++ universalBits selection (listedGates u operandList tables) (gateLevel places) 0
 
 -- ---- what fits
 
@@ -50,6 +50,6 @@ pub record UniversalProgramRoom (gates base tables wanted start room : ℕ) : Ty
   pub fits : start + universalTakes selection (gateLevel gates) ≤ 8 * room
 
 -- S(u, 2K) and U(K) for the gates that lists give
-pub record GatesRoom (u k : ℕ) (operandList tables : List ℕ) (wanted room : ℕ) : Type 0 where
-  pub inputs : SelectionPasses u (pinCount (gateLevel k)) (inputsWanted u operandList (pinCount (gateLevel k))) 0 room
-  pub gates : UniversalProgramRoom (2 ^ gateLevel k) 0 (length tables) wanted (selectionCount u (pinCount (gateLevel k))) room
+pub record GatesRoom (u places : ℕ) (operandList tables : List ℕ) (wanted room : ℕ) : Type 0 where
+  pub inputs : SelectionPasses u (operands * places) (inputsWanted u operandList (operands * places)) 0 room
+  pub gates : UniversalProgramRoom places 0 (length tables) wanted (selectionCount u (operands * places)) room

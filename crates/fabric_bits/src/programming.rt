@@ -21,9 +21,8 @@ use fabric_lists::list_inputs;
 use fabric_lists::list_outputs;
 use fabric_lists::load_gates;
 use fabric_sizes::MAX_PINS;
+use fabric_sizes::ProgramCheck;
 use fabric_sizes::check_plan_program;
-use fabric_sizes::gate_places;
-use fabric_sizes::program_length;
 use fault::Answer;
 use plan::Plan;
 
@@ -33,9 +32,8 @@ pub fn program_plan(plan: Plan, program: &mut [u8]) -> Answer
     ensures written { λ _. ⌜ now (program .exit) ≡ planProgramResult plan (now (program .entry)) ⌝ }
 {
     match check_plan_program(plan, program.len()) {
-        Answer::Refused(f) => Answer::Refused(f),
-        Answer::Done => {
-            let length = program_length(plan.inputs, plan.gate_count, plan.output_count);
+        ProgramCheck::Refused(f) => Answer::Refused(f),
+        ProgramCheck::Length(length) => {
             fill_bytes(program, length, 0);
             store_plan(plan, program);
             Answer::Done
@@ -55,7 +53,7 @@ fn store_plan(plan: Plan, program: &mut [u8])
     load_gates(plan, &mut operands, &mut tables);
     let next = store_gates(
         plan.inputs,
-        plan.gate_count,
+        plan.gate_places as u32,
         &operands,
         &tables,
         &mut wanted,
@@ -64,20 +62,19 @@ fn store_plan(plan: Plan, program: &mut [u8])
     store_outputs(plan, &mut wanted, program, next);
 }
 
-// The bits of S(u, 2K) and of U(K) for the gates that the lists give, stored from bit 0 on. Gives the bit behind them.
+// The bits of S(u, 2K) and of U(K), K `places`, for the gates that the lists give, stored from bit 0 on. Gives the bit behind them.
 fn store_gates(
     inputs: u16,
-    gates: u16,
+    places: u32,
     operands: &[u16],
     tables: &[u16],
     wanted: &mut [u16],
     program: &mut [u8],
 ) -> u32
-    requires { ⌜ GatesRoom inputs gates (now operands) (now tables) (length (now wanted)) (length (now program)) ⌝ }
-    ensures behind { λ r. ⌜ r ≡ length (gatesProgram inputs gates (now (operands .entry)) (now (tables .entry))) ⌝ }
-    ensures stored { λ _. ⌜ now (program .exit) ≡ storeBits (now (program .entry)) 0 (gatesProgram inputs gates (now (operands .entry)) (now (tables .entry))) ⌝ }
+    requires { ⌜ GatesRoom inputs places (now operands) (now tables) (length (now wanted)) (length (now program)) ⌝ }
+    ensures behind { λ r. ⌜ r ≡ length (gatesProgram inputs places (now (operands .entry)) (now (tables .entry))) ⌝ }
+    ensures stored { λ _. ⌜ now (program .exit) ≡ storeBits (now (program .entry)) 0 (gatesProgram inputs places (now (operands .entry)) (now (tables .entry))) ⌝ }
 {
-    let places = gate_places(gates);
     let next = store_inputs(inputs, 2 * places, operands, wanted, program);
     program_universal(
         places,
@@ -117,6 +114,11 @@ fn store_outputs(plan: Plan, wanted: &mut [u16], program: &mut [u8], start: u32)
     ensures { λ _. ⌜ now (program .exit) ≡ storeBits (now (program .entry)) start (selectionBits (2 ^ gateLevel (plan .«gate_count»)) (plan .«output_count») (wantedOutputs plan)) ⌝ }
 {
     list_outputs(plan, wanted);
-    let places = gate_places(plan.gate_count);
-    store_selection(places, plan.output_count as u32, wanted, program, start);
+    store_selection(
+        plan.gate_places as u32,
+        plan.output_count as u32,
+        wanted,
+        program,
+        start,
+    );
 }

@@ -7,12 +7,16 @@ use lib.Pow.{pow-mono, pow-pos}
 use Rattle.powers.proofs.PowersLaws.{ceilLog-least, ceilLog-power}
 use Rattle.blocks.specs.Networks.{selectionLevel, selectionCount, selectionWires}
 use Rattle.blocks.proofs.NetworksLaws.{level-least, selection-count, selection-made}
+use Rattle.plan.specs.declared.record.Plan.{Plan}
 use Rattle.plan.specs.Record.{maxGates}
+use Rattle.plan.specs.Faults.{Accepted}
+use Rattle.plan.proofs.FaultsLaws.{accepted-counts, accepted-tallied}
 use Rattle.fabric_universal.specs.Selector.{selection}
 use Rattle.fabric_universal.proofs.SelectorLaws.{double}
 use Rattle.fabric_universal.specs.Universal.{universalCount, universalWires, universalTakes}
 use Rattle.fabric_universal.proofs.UniversalLaws.{universal-takes, universal-count, universal-made}
 use Rattle.fabric_universal.specs.Fabric.{gateLevel}
+use Rattle.fabric_universal.proofs.FabricLaws.{gate-places}
 use Rattle.fabric_sizes.specs.Parts.{topLevel, blockLimit, PlacesAre, SelectionWithin, UniversalIs}
 
 -- ---- K
@@ -28,6 +32,18 @@ few-places k h = pow-mono (ceilLog-least k 8 h)
 -- K is its own K
 pub same-level : (k : ℕ) → gateLevel (2 ^ gateLevel k) ≡ gateLevel k
 same-level k = ceilLog-power (gateLevel k)
+
+pub places-level : {k places : ℕ} → PlacesAre k places → gateLevel places ≡ gateLevel k
+places-level {k} p = ap gateLevel (p .isPlaces) ∙ same-level k
+
+pub own-places : {k places : ℕ} → PlacesAre k places → PlacesAre places places
+own-places p = record { isPlaces = p .isPlaces ∙ ap (λ n. 2 ^ n) (sym (places-level p)); some = p .some; most = p .most }
+
+-- the K that an accepted plan holds
+pub plan-places : (p : Plan) → Accepted p → PlacesAre (p .«gate_count») (p .«gate_places»)
+plan-places p accepted =
+    let few = accepted-counts p accepted .gates in
+    places-are (omega arith) (accepted-tallied p accepted .places ∙ sym (gate-places (p .«gate_count»)))
 
 -- ---- a power of two and its half
 
@@ -83,9 +99,9 @@ pub record Products (n gates : ℕ) : Type 0 where
   pub isWires : universalWires selection n + 3 ≡ 2 * (gates * (n * n)) + 4 * gates
   pub isBits : universalTakes selection n ≡ universalCount selection n + 3 * gates
 
-pub products : {k gates n : ℕ} → k ≤ 2 ^ topLevel → PlacesAre k gates → n ≡ gateLevel k → Products n gates
-products {k} {gates} {n} h p at =
-    let low : n ≤ topLevel = rw at (ceilLog-least k topLevel h) in
+pub products : {gates n : ℕ} → PlacesAre gates gates → n ≡ gateLevel gates → Products n gates
+products {gates} {n} p at =
+    let low : n ≤ topLevel = rw at (ceilLog-least gates topLevel (p .most)) in
     let square : n * n ≤ topLevel * topLevel = mul-le-mul low low in
     let more : n * n + n ≤ topLevel * topLevel + topLevel = omega arith in
     let power : gates ≡ 2 ^ n = p .isPlaces ∙ ap (λ m. 2 ^ m) (sym at) in
@@ -99,13 +115,13 @@ products {k} {gates} {n} h p at =
       isBits = rw power (universal-takes selection n);
     }
 
-pub universal-is : {k gates n : ℕ} → Products n gates → n ≡ gateLevel k → PlacesAre k gates
-    → UniversalIs (gateLevel k) (record {
+pub universal-is : {gates n : ℕ} → Products n gates → n ≡ gateLevel gates → PlacesAre gates gates
+    → UniversalIs (gateLevel gates) (record {
       rows = gates * (n * n + n) + 2 * gates - 1;
       wires = 2 * (gates * (n * n)) + 4 * gates - 3;
       bits = gates * (n * n + n) + 2 * gates - 1 + 3 * gates;
     })
-universal-is {k} {gates} {n} p at places =
+universal-is {gates} {n} p at places =
     let few = places .most in
     let some = places .some in
     rw (← at) (record {

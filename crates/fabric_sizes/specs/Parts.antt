@@ -21,7 +21,7 @@ topLevel = 16
 abbrev pub blockLimit : ℕ
 blockLimit = 2 ^ 26
 
--- K, with its bounds
+-- K, with its bounds. A power of two is its own K
 pub record PlacesAre (k places : ℕ) : Type 0 where
   pub isPlaces : places ≡ 2 ^ gateLevel k
   pub some : 1 ≤ places

@@ -4,10 +4,11 @@ ghost use Rattle.elements.specs.Elements.{countOutcome};
 ghost use Rattle.blocks.specs.Elements.{bytesFor};
 ghost use Rattle.fabric_universal.specs.Fabric.{fabricTakes};
 ghost use Rattle.fabric_sizes.specs.Counting.{counting, FabricCounts, tableLength};
+ghost use Rattle.fabric_sizes.specs.Parts.{PlacesAre};
 use crate::layout::HEADER;
-use crate::parts::output_counts;
-use crate::parts::pin_counts;
-use crate::parts::universal_counts;
+use crate::parts::count_universal;
+use crate::parts::gate_places;
+use crate::parts::selection_counts;
 use blocks::bytes_for;
 use blocks::row_place;
 use elements::CountAnswer;
@@ -29,9 +30,17 @@ pub fn count_fabric(u: u32, k: u32, v: u32) -> CountAnswer
 pub fn fabric_counts(u: u16, k: u16, v: u16) -> Counts
     ensures { λ r. ⌜ FabricCounts u k v r ⌝ }
 {
-    let pins = pin_counts(u, k);
-    let universal = universal_counts(k);
-    let outputs = output_counts(k, v);
+    count_parts(u, gate_places(k), v)
+}
+
+// The counts from K: those of S(u, 2K), U(K) and S(K, v) added up. The fabric of K gates is that of k.
+pub(crate) fn count_parts(u: u16, places: u32, v: u16) -> Counts
+    requires { ⌜ PlacesAre places places ⌝ }
+    ensures { λ r. ⌜ FabricCounts u places v r ⌝ }
+{
+    let pins = selection_counts(u as u32, 2 * places);
+    let universal = count_universal(places);
+    let outputs = selection_counts(places, v as u32);
     Counts {
         rows: pins.rows + universal.rows + outputs.rows,
         wires: 1 + u as u32 + pins.wires + universal.wires + outputs.wires,

@@ -19,5 +19,6 @@ pub use parts::gate_places;
 pub use parts::output_counts;
 pub use parts::pin_counts;
 pub use parts::universal_counts;
+pub use programming::ProgramCheck;
 pub use programming::check_plan_program;
 pub use writing::check_fabric;

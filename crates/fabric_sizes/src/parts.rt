@@ -32,19 +32,11 @@ pub fn pin_counts(m: u16, k: u16) -> Counts
     selection_counts(m as u32, 2 * gate_places(k))
 }
 
-// U(K): K(n² + n) + 2K - 1 rows and K(2n² + 4) - 3 wires, n the logarithm of K; and a bit for each row, and three more for each of the
-// K gates.
+// U(K).
 pub fn universal_counts(k: u16) -> Counts
     ensures { λ r. ⌜ UniversalIs (gateLevel k) r ⌝ }
 {
-    let gates = gate_places(k);
-    let n = ceil_log(k as u32);
-    let rows = gates * (n * n + n) + 2 * gates - 1;
-    Counts {
-        rows,
-        wires: 2 * (gates * (n * n)) + 4 * gates - 3,
-        bits: rows + MORE_GATE_BITS * gates,
-    }
+    count_universal(gate_places(k))
 }
 
 // S(K, v), whose outputs are the fabric's.
@@ -55,8 +47,23 @@ pub fn output_counts(k: u16, v: u16) -> Counts
     selection_counts(places, v as u32)
 }
 
+// U(K) from K: K(n² + n) + 2K - 1 rows and K(2n² + 4) - 3 wires, n the logarithm of K; and a bit for each row, and three more for each of the
+// K gates.
+pub(crate) fn count_universal(places: u32) -> Counts
+    requires { ⌜ PlacesAre places places ⌝ }
+    ensures { λ r. ⌜ UniversalIs (gateLevel places) r ⌝ }
+{
+    let n = ceil_log(places);
+    let rows = places * (n * n + n) + 2 * places - 1;
+    Counts {
+        rows,
+        wires: 2 * (places * (n * n)) + 4 * places - 3,
+        bits: rows + MORE_GATE_BITS * places,
+    }
+}
+
 // S(m, n). Each of its rows takes one bit.
-fn selection_counts(m: u32, n: u32) -> Counts
+pub(crate) fn selection_counts(m: u32, n: u32) -> Counts
     requires { ⌜ SelectionWithin m n ⌝ }
     ensures { λ r. ⌜ SelectionIs m n r ⌝ }
 {

@@ -1,25 +1,31 @@
 // The checks of programming a plan.
-ghost use mathlib.Core.Path.{_≡_};
-ghost use Rattle.fault.specs.Number.{answerNumber};
-ghost use Rattle.fabric_sizes.specs.FabricChecks.{planProgramFault};
-use crate::counting::program_length;
+ghost use Rattle.fabric_sizes.specs.FabricChecks.{ProgramChecked};
+use crate::counting::count_parts;
+use blocks::bytes_for;
 use fault::Answer;
 use fault::Fault;
 use plan::Plan;
 use plan::plan_fault;
 
-// Plan faults; then 11 for a program of `room` bytes.
-pub fn check_plan_program(plan: Plan, room: usize) -> Answer
-    ensures { λ r. ⌜ answerNumber r ≡ planProgramFault plan room ⌝ }
+// The program's length, where no check fails.
+pub enum ProgramCheck {
+    Length(usize),
+    Refused(Fault),
+}
+
+// Plan faults; then 11 for a program of `room` bytes. K is the one that the record holds.
+pub fn check_plan_program(plan: Plan, room: usize) -> ProgramCheck
+    ensures { λ r. ⌜ ProgramChecked plan room r ⌝ }
 {
     match plan_fault(plan) {
-        Answer::Refused(f) => Answer::Refused(f),
+        Answer::Refused(f) => ProgramCheck::Refused(f),
         Answer::Done => {
-            let length = program_length(plan.inputs, plan.gate_count, plan.output_count);
+            let counts = count_parts(plan.inputs, plan.gate_places as u32, plan.output_count);
+            let length = bytes_for(counts.bits as usize);
             if room < length {
-                return Answer::Refused(Fault::Short);
+                return ProgramCheck::Refused(Fault::Short);
             }
-            Answer::Done
+            ProgramCheck::Length(length)
         }
     }
 }

@@ -10,9 +10,6 @@ use crate::gates::put_gate;
 use plan::Plan;
 use series::copy_part;
 
-// The wires of the largest plan.
-const MAX_PLAN_WIRES: usize = Plan::MAX_INPUTS + Plan::MAX_GATES;
-
 // The output rows of an accepted plan's intervals, one after another, and the end state. The state stands where the end state goes. An interval puts
 // its fresh entries and the state on the inputs' wires, then each gate's bit, writes the outputs' bits and holds the last of them.
 pub(crate) fn evaluate_intervals(
@@ -33,7 +30,7 @@ pub(crate) fn evaluate_intervals(
     let count = plan.gate_count as usize;
     let outputs = plan.output_count as usize;
     let row = inputs - hold;
-    let mut wires = [0u8; MAX_PLAN_WIRES];
+    let mut wires = [0u8; Plan::MAX_WIRES];
     copy_part(start, 0, hold, end, 0);
     let mut t: usize = 0;
     while t < intervals {

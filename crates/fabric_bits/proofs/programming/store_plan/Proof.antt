@@ -10,7 +10,7 @@ use Rattle.fabric_bits.proofs.programming.store_plan.Tie as tie
 
 -- the way back: from the gates' bits to their lists, to what is handed over
 abbrev listed : tie.After-store-gates-arg → tie.After-load-gates
-listed c = c .before .before .before .before .before .before
+listed c = c .before .before .before .before .before .before .before
 
 abbrev start : tie.After-load-gates → tie.Start
 start c = c .before .before .before .before
@@ -48,5 +48,5 @@ pub store-plan-spec : {M : Type 1} → statement M
 store-plan-spec =
     tie.close
     (tie.spec
-    (λ c. search needs) (λ c. search needs) (λ c κs. search needs) (λ c. search needs) (λ c. search needs) (λ c. search needs) for-gates (λ c. search needs)
-    for-outputs (λ c. search needs) stored)
+    (λ c. search needs) (λ c. search needs) (λ c κs. search needs) (λ c. search needs) (λ c. search needs) (λ c. search needs) (λ c. search needs) for-gates
+    (λ c. search needs) for-outputs (λ c. search needs) stored)

@@ -1,26 +1,11 @@
--- `fabric_sizes::parts::universal_counts` meets its contract: the laws of U's rows, wires and bits, and that nothing is lost. Assumes nothing.
-use native.Mathlib.Omega.{arith}
+-- `fabric_sizes::parts::universal_counts` meets its contract. Assumes nothing.
 use borrow.Author.Needs.{needs}
-use Rattle.fabric_sizes.proofs.PartsLaws.{Products, products, universal-is}
+use Rattle.fabric_sizes.proofs.PartsLaws.{places-level, own-places}
 use Rattle.fabric_sizes.proofs.parts.universal_counts.Statement.{statement}
 use Rattle.fabric_sizes.proofs.parts.universal_counts.Tie as tie
 
-small : (c : tie.After-ceil-log) → Products (c .ceil-log .result) (c .before .gate-places .result)
-small c = products {k = c .before .before .args .k} (omega arith) (c .before .gate-places .ensures) (c .ceil-log .ensures)
-
 counts : tie.Need-returns
-counts c = universal-is (small c) (c .ceil-log .ensures) (c .before .gate-places .ensures)
+counts c = rw (places-level (c .before .gate-places .ensures)) at (c .count-universal .ensures)
 
 pub universal-counts-spec : {M : Type 1} → statement M
-universal-counts-spec =
-    tie.close
-    (tie.spec
-    (λ c κs. search needs) (λ c κs. search needs)
-    -- the rows
-    (λ c. let p = small c in omega arith) (λ c. let p = small c in omega arith) (λ c. let p = small c in omega arith) (λ c. search needs)
-    (λ c. let p = small c in omega arith) (λ c. search needs)
-    -- the wires
-    (λ c. let p = small c in omega arith) (λ c. let p = small c in omega arith) (λ c. let p = small c in omega arith) (λ c. search needs)
-    (λ c. let p = small c in omega arith) (λ c. search needs)
-    -- the bits
-    (λ c. search needs) (λ c. let p = small c in omega arith) counts)
+universal-counts-spec = tie.close (tie.spec (λ c κs. search needs) (λ c κs. own-places (c .gate-places .ensures)) counts)
