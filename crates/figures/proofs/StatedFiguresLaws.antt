@@ -13,6 +13,9 @@ use Rattle.fabric_universal.specs.Universal.{universalBits}
 use Rattle.fabric_universal.specs.Fabric.{inputWires, fabricRows, fabricOuts, fabricTable, paddedGate, wantedInput, wantedInputs, wantedOutputs, planBits}
 use Rattle.fabric_universal.specs.Fabric.{planProgram}
 use Rattle.fabric_sheet.specs.Sheet.{ofKind}
+use Rattle.plan.specs.Record.{usesOf}
+use Rattle.plan.specs.Faults.{figuresFault}
+use Rattle.powers.specs.Powers.{firstFit, ceilLog, ceilPower}
 use Rattle.figures.specs.Figure.{Holds}
 use Rattle.figures.specs.StatedFigures.{programs, selects, planned, fabricates, statedFigures, refuses, counts, sheets}
 use Rattle.figures.proofs.FigureLaws.{passes, passes-holds}
@@ -23,5 +26,5 @@ unfolding statedFigures passes refuses programs selects counts sheets ofKind tot
     chainRows chainOuts inputRows outputRows firsts seconds permutationRows permutationOuts entries flat inputWires fabricRows fabricOuts fabricTable
     mixRows wiresFrom universalRows universalOuts paddedGate wantedInput wantedInputs wantedOutputs planBits planProgram tableProgram isOf wantedGate
     wantedGates mixBits universalBits choose selectionLevel wholeCount selectionCount wanting headOf copyOf wholeProgram selectionBits countOf nthOf
-    isTaken completed permutationCount partner iterate walk key least lowest side pick inHalf permutationBits mapping takerOf inverse wantedBits
+    isTaken completed permutationCount partner iterate walk key least lowest side pick inHalf permutationBits mapping takerOf inverse wantedBits usesOf figuresFault firstFit ceilLog ceilPower
 figures-hold = passes-holds statedFigures refl

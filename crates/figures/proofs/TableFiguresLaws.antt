@@ -4,6 +4,8 @@ use Rattle.lists.specs.Lists.{listOf}
 use Rattle.lists.specs.Counting.{countOf, nthOf}
 use Rattle.plan_order.specs.Order.{has, supplied, ready, withNext, taken}
 use Rattle.plan_order.specs.Drawing.{placeIn, renumbered}
+use Rattle.powers.specs.Powers.{firstFit, ceilLog, ceilPower}
+use Rattle.plan.specs.Record.{usesOf}
 use Rattle.figures.specs.Figure.{Holds}
 use Rattle.figures.specs.StatedFigures.{refuses}
 use Rattle.figures.specs.DrawnFigures.{draws, drawnRefuses}
@@ -12,5 +14,5 @@ use Rattle.figures.proofs.FigureLaws.{passes, passes-holds}
 
 -- the claim
 pub table-figures-hold : Holds tableFigures
-unfolding tableFigures passes readsAs refuses draws drawnRefuses listOf countOf nthOf has supplied ready withNext taken placeIn renumbered
+unfolding tableFigures passes readsAs refuses draws drawnRefuses listOf countOf nthOf has supplied ready withNext taken placeIn renumbered firstFit ceilLog ceilPower usesOf
 table-figures-hold = passes-holds tableFigures refl
