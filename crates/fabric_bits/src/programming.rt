@@ -114,11 +114,6 @@ fn store_outputs(plan: Plan, wanted: &mut [u16], program: &mut [u8], start: u32)
     ensures { λ _. ⌜ now (program .exit) ≡ storeBits (now (program .entry)) start (selectionBits (2 ^ gateLevel (plan .«gate_count»)) (plan .«output_count») (wantedOutputs plan)) ⌝ }
 {
     list_outputs(plan, wanted);
-    store_selection(
-        plan.gate_places as u32,
-        plan.output_count as u32,
-        wanted,
-        program,
-        start,
-    );
+    let places = plan.gate_places as u32;
+    store_selection(places, plan.output_count as u32, wanted, program, start);
 }

@@ -36,7 +36,8 @@ pub fn pin_counts(m: u16, k: u16) -> Counts
 pub fn universal_counts(k: u16) -> Counts
     ensures { λ r. ⌜ UniversalIs (gateLevel k) r ⌝ }
 {
-    count_universal(gate_places(k))
+    let places = gate_places(k);
+    count_universal(places)
 }
 
 // S(K, v), whose outputs are the fabric's.

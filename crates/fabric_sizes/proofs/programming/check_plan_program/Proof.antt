@@ -18,11 +18,15 @@ told c = c .before .before .before .before
 none : (c : tie.After-enum-told) → 0 ≡ planFault (c .before .before .before .args .plan)
 none c = answer-passes (c .enum-told .given .1) (c .before .before .plan-fault .ensures)
 
+for-parts : tie.Need-count-parts-requires
+for-parts c κs = own-places (plan-places _ (sym (none (c .before))))
+
 measured : (c : tie.After-bytes-for) → c .bytes-for .result ≡ programLength (told c .before .before .before .args .plan)
 measured c =
     let t = told c in
     let p = t .before .before .before .args .plan in
-    c .bytes-for .ensures ∙ ap bytesFor (same-counts (p .inputs) (p .«output_count») (plan-places p (sym (none t))) (c .before .before .count-parts .ensures) .isBits)
+    let counts = same-counts (p .inputs) (p .«output_count») (plan-places p (sym (none t))) (c .before .before .count-parts .ensures) in
+    c .bytes-for .ensures ∙ ap bytesFor (counts .isBits)
 
 short : tie.Need-returns
 unfolding planProgramFault
@@ -40,5 +44,5 @@ pub check-plan-program-spec : {M : Type 1} → statement M
 check-plan-program-spec =
     tie.close
     (tie.spec
-    (λ c κs. search needs) (λ c. search needs) (λ c. search needs) (λ c. search needs) (λ c κs. own-places (plan-places _ (sym (none (c .before)))))
-    (λ c. search needs) (λ c κs. search needs) short refused done)
+    (λ c κs. search needs) (λ c. search needs) (λ c. search needs) (λ c. search needs) for-parts (λ c. search needs) (λ c κs. search needs)
+    short refused done)
