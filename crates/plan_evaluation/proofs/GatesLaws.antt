@@ -10,12 +10,12 @@ use Rattle.fault.specs.Buffers.{over}
 use Rattle.fault.proofs.BuffersLaws.{over-more}
 use Rattle.fault.proofs.PartsLaws.{length-over}
 use Rattle.plan.specs.declared.record.Plan.{Plan}
-use Rattle.plan.specs.Record.{gateAt, outputAt}
+use Rattle.plan.specs.Record.{maxPlanWires, gateAt, outputAt}
 use Rattle.plan.proofs.FaultsLaws.{accepted-counts, accepted-gate, accepted-output}
 use Rattle.plan_evaluation_checks.specs.EvaluationChecks.{Evaluable}
 use Rattle.plan_evaluation_checks.proofs.EvaluationChecksLaws.{row-length, row-bit}
 use Rattle.plan_evaluation.specs.Evaluation.{valueOn, planWires, namedBy, planOutputs, tableBit, gateBit}
-use Rattle.plan_evaluation.specs.GateStands.{maxPlanWires, GateStands}
+use Rattle.plan_evaluation.specs.GateStands.{GateStands}
 use Rattle.plan_evaluation.proofs.EvaluationLaws.{length-planWires, wire-bit}
 
 module _ (p : Plan) (row : List ℕ) (e : Evaluable p row) (old : List ℕ) (room : maxPlanWires ≤ length old) where

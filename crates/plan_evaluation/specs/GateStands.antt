@@ -1,13 +1,8 @@
 -- What a gate needs of the array of the wires' bits.
-use Prim.Native.Nat.{ℕ, _+_, _<_, _≤_}
+use Prim.Native.Nat.{ℕ, _<_, _≤_}
 use mathlib.Core.List.{List}
 use lib.ListN.{length, getD}
 use Rattle.plan.specs.declared.record.Gate.{Gate}
-use Rattle.plan.specs.Record.{maxInputs, maxGates}
-
--- the wires of the largest plan
-abbrev pub maxPlanWires : ℕ
-maxPlanWires = maxInputs + maxGates
 
 -- a gate whose operands stand before the place of its own wire, with a bit on each
 pub record GateStands (gate : Gate) (own : ℕ) (wires : List ℕ) : Type 0 where

@@ -15,7 +15,7 @@ use Rattle.series.specs.Series.{freshRow, intervalRow}
 use Rattle.series.proofs.CopyingLaws.{sets-both, sets-list-more, last-stored}
 use Rattle.series.proofs.SeriesLaws.{ContactSeries, contacts-part, row-ends, SeriesStands, state-lent, series-first, series-more, series-last}
 use Rattle.plan.specs.declared.record.Plan.{Plan}
-use Rattle.plan.specs.Record.{wire, outputAt, maxGates, maxOutputs, wordNumbers}
+use Rattle.plan.specs.Record.{maxPlanWires, wire, outputAt, maxGates, maxOutputs, wordNumbers}
 use Rattle.plan.specs.Faults.{CountsWithin, OutputWithin}
 use Rattle.plan.proofs.FaultsLaws.{accepted-counts, accepted-output}
 use Rattle.plan_evaluation_checks.specs.EvaluationChecks.{Evaluable}
@@ -23,7 +23,6 @@ use Rattle.plan_evaluation_checks.proofs.EvaluationChecksLaws.{row-length}
 use Rattle.plan_series_checks.specs.SeriesChecks.{maxIntervals}
 use Rattle.plan_series_checks.proofs.SeriesChecksLaws.{entries-few}
 use Rattle.plan_evaluation.specs.Evaluation.{valueOn, planWires, namedBy, planOutputs, gateBit}
-use Rattle.plan_evaluation.specs.GateStands.{maxPlanWires}
 use Rattle.plan_evaluation.proofs.EvaluationLaws.{length-planOutputs}
 use Rattle.plan_evaluation.proofs.GatesLaws.{gate-stands, gate-on-wires, outputs-on-wires}
 use Rattle.plan_evaluation.proofs.PlanSeriesLaws.{plan-contacts, interval-evaluable}
