@@ -2,7 +2,7 @@
 //!
 //! Under the heading `## Reading order`, or under `## Inside the calls`, each file of
 //! crates/*/specs/, Lib.antt left out, has exactly one row: its path in backticks, its number of
-//! lines as `wc -l` prints it, and a sentence. The files of the reading order stay below 4,500 lines
+//! lines as `wc -l` prints it, and a sentence. The files of the reading order stay below 5,000 lines
 //! together. Those inside the calls are what functions that no export and no door hands on say of each
 //! other.
 
@@ -17,7 +17,7 @@ const HEADING: &str = "## Reading order";
 const INSIDE: &str = "## Inside the calls";
 
 /// What a reader of the definitions may be asked to read stays below so many lines.
-const MOST_LINES: usize = 4_500;
+const MOST_LINES: usize = 5_000;
 
 /// A file of definitions and its number of lines.
 struct Definitions {
@@ -204,11 +204,11 @@ mod tests {
     #[test]
     fn too_many_lines_are_found() {
         let page = page(&format!(
-            "| `{ROWS}` | 4460 | Rows. |\n| `{PLANS}` | 40 | Plans. |\n"
+            "| `{ROWS}` | 4960 | Rows. |\n| `{PLANS}` | 40 | Plans. |\n"
         ));
         assert_eq!(
-            findings_of(&page, [4460, 40]),
-            ["README.md: 4500 lines in the reading order, not below 4500"]
+            findings_of(&page, [4960, 40]),
+            ["README.md: 5000 lines in the reading order, not below 5000"]
         );
     }
 
@@ -217,7 +217,7 @@ mod tests {
         let order = format!("| `{PLANS}` | 40 | Plans. |\n");
         let inside = format!("\n## Inside the calls\n\n| `{ROWS}` | 4460 | Rows. |\n");
         let page = page(&order) + &inside;
-        assert_eq!(findings_of(&page, [4460, 40]), [""; 0]);
+        assert_eq!(findings_of(&page, [4960, 40]), [""; 0]);
         assert_eq!(
             findings_of(&page, [4459, 40]),
             [format!("README.md:15: {ROWS} has 4459 lines, not 4460")]
