@@ -38,11 +38,12 @@ fn wanted_input(inputs: u16, operand: PlanWire) -> u16
 pub fn list_outputs(plan: Plan, wanted: &mut [u16])
     ensures { λ _. ⌜ now (wanted .exit) ≡ over (take (min maxOutputs (length (now (wanted .entry)))) (wantedOutputs plan)) (now (wanted .entry)) ⌝ }
 {
+    let outputs = plan.outputs;
     let places = smaller(Plan::MAX_OUTPUTS, wanted.len());
     let end = smaller(plan.output_count as usize, places);
     let mut j: usize = 0;
     while j < end {
-        wanted[j] = gate_number(plan.inputs, plan.outputs[j]);
+        wanted[j] = gate_number(plan.inputs, outputs[j]);
         j += 1;
     }
 }

@@ -46,7 +46,7 @@ pub fn replace_gate(plan: Plan, gate: u32, new_gate: Gate) -> Edited
         Answer::Done => {
             let at = gate as usize - 1;
             let mut edited = plan;
-            let old = plan.gates[at];
+            let old = edited.gates[at];
             edited.gates[at] = new_gate;
             drop_operands(old, &mut edited.uses);
             count_operands(new_gate, &mut edited.uses);
@@ -122,7 +122,7 @@ pub fn replace_output(plan: Plan, output: u32, wire: PlanWire) -> Edited
         Answer::Done => {
             let at = output as usize - 1;
             let mut edited = plan;
-            let old = plan.outputs[at];
+            let old = edited.outputs[at];
             edited.outputs[at] = wire;
             drop_use(old, &mut edited.uses);
             count_use(wire, &mut edited.uses);

@@ -19,11 +19,11 @@ abbrev names : Plan → ℕ → ℕ
 names plan j = outputAt plan j .0 - plan .inputs
 
 abbrev Inv-loop : tie.InvT-loop
-Inv-loop wanted₀ plan places end j₀ wanted j =
+Inv-loop plan wanted₀ outputs places end j₀ wanted j =
     (j ≤ end) × (length wanted ≡ length wanted₀) × (wanted ≡ over (listOf j (names plan)) wanted₀)
 
 abbrev μ-loop : tie.MeasureT-loop
-μ-loop wanted₀ plan places end j₀ wanted j = end - j
+μ-loop plan wanted₀ outputs places end j₀ wanted j = end - j
 
 holds : tie.Need-loop-holds Inv-loop μ-loop
 unfolding listOf
@@ -33,16 +33,16 @@ again : tie.Need-loop-again Inv-loop μ-loop
 again c =
     let at = c .before .before .before in
     let loop = at .loop in
-    let a = at .before .before .before .before .args in
-    let named = list-step (a .wanted .now) (loop .j) (names (a .t1)) (loop .inv .2) (c .gate-number .ensures) (omega arith) in
+    let a = at .before .before .before .before .before .before .args in
+    let named = list-step (a .wanted .now) (loop .j) (names (a .plan)) (loop .inv .2) (c .gate-number .ensures) (omega arith) in
     (omega arith, simp length-set (loop .inv .1), named)
 
 all : tie.Need-returns Inv-loop μ-loop
 unfolding wantedOutputs
 all c =
-    let a = c .before .before .before .before .before .args in
+    let a = c .before .before .before .before .before .before .before .args in
     let loop = c .before .loop in
-    list-ended (a .t1 .«output_count») (min maxOutputs (length (a .wanted .now))) (loop .j) (names (a .t1)) (a .wanted .now) (loop .inv .2) (omega arith)
+    list-ended (a .plan .«output_count») (min maxOutputs (length (a .wanted .now))) (loop .j) (names (a .plan)) (a .wanted .now) (loop .inv .2) (omega arith)
 
 pub list-outputs-spec : {M : Type 1} → statement M
 list-outputs-spec =

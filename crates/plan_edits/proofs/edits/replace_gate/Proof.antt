@@ -16,13 +16,13 @@ abbrev start : tie.After-enum-told → tie.Start
 start c = c .before .before .before
 
 module _ (c : tie.After-enum-told) where
-  passes : let a = start c .args in 0 ≡ replaceGateFault (a .t1) (a .gate) (a .new-gate)
+  passes : let a = start c .args in 0 ≡ replaceGateFault (a .plan) (a .gate) (a .new-gate)
   passes = answer-passes (c .enum-told .given .1) (c .before .before .check-replace-gate .ensures)
 
-  can : let a = start c .args in CanReplaceGate (a .t1) (a .gate) (a .new-gate)
+  can : let a = start c .args in CanReplaceGate (a .plan) (a .gate) (a .new-gate)
   can = can-replace-gate _ _ _ passes
 
-  places : HasPlaces (start c .args .t1)
+  places : HasPlaces (start c .args .plan)
   places = has-places _ (start c .good .0)
 
 for-drop : tie.Need-drop-operands-requires
@@ -43,7 +43,7 @@ unfolding gateReplaced
 replaced c =
     let met = c .before .before .before .before .before in
     let a = can met in
-    edit-done (withGateAt _ _ _ (start met .args .t1)) _ _ _ (passes met) (accepted-tallied _ (a .accepted) .places)
+    edit-done (withGateAt _ _ _ (start met .args .plan)) _ _ _ (passes met) (accepted-tallied _ (a .accepted) .places)
     (c .count-operands .ensures ∙ ap (withOperands _) (c .before .before .drop-operands .ensures)
     ∙ gate-replaced _ (places met) (a .accepted) _ (a .low) _ (a .gate))
 

@@ -17,13 +17,13 @@ abbrev start : tie.After-enum-told → tie.Start
 start c = c .before .before .before
 
 module _ (c : tie.After-enum-told) where
-  passes : let a = start c .args in 0 ≡ replaceOutputFault (a .t1) (a .output) (a .wire)
+  passes : let a = start c .args in 0 ≡ replaceOutputFault (a .plan) (a .output) (a .wire)
   passes = answer-passes (c .enum-told .given .1) (c .before .before .check-replace-output .ensures)
 
-  can : let a = start c .args in CanReplaceOutput (a .t1) (a .output) (a .wire)
+  can : let a = start c .args in CanReplaceOutput (a .plan) (a .output) (a .wire)
   can = can-replace-output _ _ _ passes
 
-  places : HasPlaces (start c .args .t1)
+  places : HasPlaces (start c .args .plan)
   places = has-places _ (start c .good .0)
 
 for-drop : tie.Need-drop-use-requires
@@ -41,7 +41,7 @@ unfolding outputReplaced
 replaced c =
     let met = c .before .before .before .before .before in
     let a = can met in
-    edit-done (withOutputAt _ _ (start met .args .t1)) _ _ _ (passes met) (accepted-tallied _ (a .accepted) .places)
+    edit-done (withOutputAt _ _ (start met .args .plan)) _ _ _ (passes met) (accepted-tallied _ (a .accepted) .places)
     (c .count-use .ensures ∙ ap (withUse _) (c .before .before .drop-use .ensures)
     ∙ output-replaced _ (places met) (a .accepted) _ (a .low) _ (a .output))
 
