@@ -1,7 +1,6 @@
 -- Document 02, W7, on figures: what both readings settle, and the three edits of a plan, by the definitions that the calls' contracts cite.
 use Prim.Native.Nat.{ℕ}
-use mathlib.Core.List.{List, [], _∷_, _++_, map}
-use lib.ListN.{take}
+use mathlib.Core.List.{List, [], _∷_, _++_}
 use Rattle.lists.specs.Lists.{listOf}
 use Rattle.plan.specs.declared.record.Gate.{Gate}
 use Rattle.plan.specs.declared.record.Plan.{Plan}

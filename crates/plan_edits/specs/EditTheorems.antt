@@ -1,5 +1,5 @@
 -- Document 02, W7: what is proved of the edits, sentence by sentence. A record in memory has every place of its arrays, `HasPlaces`.
-use Prim.Native.Nat.{ℕ, suc, _-_, _+_, _*_, _<_, _≤_}
+use Prim.Native.Nat.{ℕ, suc, _-_, _+_, _*_, _≤_}
 use mathlib.Core.Path.{_≡_}
 use lib.ListN.{length}
 use Rattle.lists.specs.Counting.{sumOf}

@@ -9,7 +9,6 @@ use lib.ListN.{List·getD-eq-default}
 use Rattle.lists.specs.Lists.{listOf}
 use Rattle.lists.proofs.ListsLaws.{length-listOf, getD-listOf}
 use Rattle.plan.specs.declared.record.Gate.{Gate}
-use Rattle.plan.specs.declared.record.Plan.{Plan}
 use Rattle.plan.specs.declared.record.PlanWire.{PlanWire}
 use Rattle.plan.specs.Record.{maxGates, maxOutputs, maxPlanWires, wire, zeroGate, usesOf, planOf}
 use Rattle.plan.specs.Faults.{Accepted}

@@ -2,18 +2,17 @@
 -- invariant: the first i gates have no fault, and their uses are counted. The second's: the first j outputs likewise. Assumes nothing.
 use native.Mathlib.Omega.{arith}
 use mathlib.Core.Path.{_≡_, refl, sym, ap, subst, _∙_}
-use Prim.Native.Nat.{ℕ, suc, _+_, _-_, _≤_, _<_}
+use Prim.Native.Nat.{suc, _-_, _≤_, _<_}
 use native.Mathlib.Nat.{le-antisymm}
 use native.Mathlib.Numerals.{add-one}
 use borrow.Author.Needs.{needs}
-use lib.ListN.{getD}
 use Rattle.fault.specs.declared.Fault.{Fault}
 use Rattle.fault.specs.Number.{answerNumber}
 use Rattle.fault.specs.Checks.{firstOf}
 use Rattle.fault.proofs.ChecksLaws.{answer-passes, answer-refuses, test-passes, test-refuses, next-passes, first-fails, number-positive, _then_, stop}
 use Rattle.plan.specs.declared.record.Plan.{Plan}
 use Rattle.plan.specs.Record.{maxGates, gateAt, gateWire}
-use Rattle.plan.specs.Faults.{countsFault, gateFault, outputFault, gatesFault, outputsFault, tallyFault, planFault, CountsWithin}
+use Rattle.plan.specs.Faults.{countsFault, gateFault, outputFault, gatesFault, outputsFault, planFault, CountsWithin}
 use Rattle.plan.specs.Counting.{UsesCounted}
 use Rattle.plan.proofs.RecordLaws.{wire-fits}
 use Rattle.plan.proofs.UsesLaws.{none-counted, gate-counted, output-counted}
