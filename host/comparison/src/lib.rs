@@ -10,6 +10,7 @@
 pub mod random;
 pub mod reference;
 pub mod samples;
+pub mod tuned;
 
 mod blocks;
 mod drawn;

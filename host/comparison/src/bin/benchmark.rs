@@ -17,6 +17,9 @@
 //! but written for speed: after the same checks it changes the figures that the edit touches. Both
 //! sides hand the record back by value.
 //!
+//! The fabric's table and a plan's program bits stand in the table a second time, beside Rust that
+//! is written for speed: the reference, which is written to be read, is no yardstick for them.
+//!
 //! A series has 4,096 intervals, with half of the outputs held, rounded up: by one plan of each shape,
 //! and by the fabric of one plan, since that takes long. Both sides check plan, table and program once.
 //!
@@ -30,8 +33,10 @@
 //!   a record that goes by value is among them, heap memory is not; 256 is that or less;
 //! - growth: the time of P(N) over that of P(N / 2), and what N log N gives for it.
 //!
-//! A line below has the time of drawn reading over that of the plain reading of the same files, for
-//! either side, and another one that of the library's series over as many of its single calls,
+//! A line below has the time of a fabric's table and a plan's program bits together, beside a run of
+//! that fabric, which shows how fast the machine is, and beside the Rust that is written for speed.
+//! Another one has the time of drawn reading over that of the plain reading of the same files, for
+//! either side, and one that of the library's series over as many of its single calls,
 //! between which the caller carries the state. Of the edits one line has the time of the library's
 //! plan faults alone, which are an edit's checks, over that of the edit, and one that of the Rust edits
 //! that count all figures again over those beside the library's. All are measured by turns as the
@@ -44,7 +49,6 @@ use std::{ptr, thread};
 
 use checks::arrays::{counted, Arrays};
 use comparison::random::Random;
-use comparison::reference;
 use comparison::reference::series::Intervals;
 use comparison::samples::blocks::Block;
 use comparison::samples::drawings::backwards;
@@ -53,6 +57,7 @@ use comparison::samples::fabric::wires;
 use comparison::samples::permutation::random_permutation;
 use comparison::samples::plans::{shaped_plan, PlanShape};
 use comparison::samples::{Counts, PlanFile, Standing};
+use comparison::{reference, tuned};
 use mukdalis::{
     check, count_fabric, evaluate, evaluate_series, program_permutation, program_plan, raw,
     run_fabric, run_series, write_fabric, DrawnPlan, Fault, Plan, Series, MAX_INTERVALS,
@@ -94,6 +99,12 @@ fn main() {
             println!("{line}");
         }
     }
+    for call in Call::TUNED {
+        for plans in &plans {
+            let line = line(&arrays, call, &plans.size(), plans.measure_tuned(call));
+            println!("{line}   Rust tuned");
+        }
+    }
     for call in Call::OF_EDITS {
         for counts in COUNTS {
             let edits = Edits::new(counts, call);
@@ -115,6 +126,8 @@ fn main() {
             None => println!("{line}"),
         }
     }
+    println!();
+    plans[COUNTS.len() - 2].print_loading_beside_run();
     drawings.print_beside_plain();
     plans[COUNTS.len() - 1].print_beside_single_calls();
     Edits::print_beside_checks();
@@ -150,6 +163,8 @@ impl Call {
         Call::Run,
         Call::RunSeries,
     ];
+
+    const TUNED: [Call; 2] = [Call::WriteFabric, Call::ProgramPlan];
 
     const OF_EDITS: [Call; 3] = [Call::ReplaceGate, Call::AppendGate, Call::ReplaceOutput];
 
@@ -351,6 +366,57 @@ impl Plans {
         }
     }
 
+    /// A call beside the Rust that is written for speed.
+    fn measure_tuned(&self, call: Call) -> Measured {
+        let (samples, table) = (&self.samples, &self.table);
+        match call {
+            Call::WriteFabric => measure(
+                &[self.counts],
+                vec![9; table.len()],
+                |&[u, k, v], table| write_fabric(u, k, v, table),
+                |&[u, k, v], table| tuned::fabric::write(u, k, v, table),
+                are_done,
+            ),
+            Call::ProgramPlan => measure(
+                samples,
+                vec![9; samples[0].program.len()],
+                |sample, program| program_plan(&sample.plan, program),
+                |sample, program| tuned::program::write(&sample.plan, program),
+                are_done,
+            ),
+            _ => unreachable!("no Rust is tuned for it"),
+        }
+    }
+
+    /// What a unit is loaded with, table and program bits together, beside a run, and beside the Rust
+    /// that is written for speed.
+    fn print_loading_beside_run(&self) {
+        let ([u, k, v], table, samples) = (self.counts, &self.table, &self.samples);
+        let load = |sample: &Sample, (table, program): &mut (Vec<u16>, Vec<u8>)| {
+            write_fabric(u, k, v, table).and(program_plan(&sample.plan, program))
+        };
+        let load_tuned = |sample: &Sample, (table, program): &mut (Vec<u16>, Vec<u8>)| {
+            tuned::fabric::write(u, k, v, table).and(tuned::program::write(&sample.plan, program))
+        };
+        let mut loaded = (vec![9; table.len()], vec![9; samples[0].program.len()]);
+        let beside_tuned = time(samples, &mut loaded, &load, &load_tuned);
+        let (work, result) = (vec![9; wires(table)], vec![9; v as usize]);
+        let beside_run = time(
+            samples,
+            &mut (loaded, work, result),
+            &|sample: &Sample, (loaded, _, _): &mut (_, Vec<u8>, Vec<u8>)| load(sample, loaded),
+            &|Sample { program, row, .. }: &Sample, (_, work, result): &mut (_, _, _)| {
+                run_fabric(table, program, row, work, result)
+            },
+        );
+        let [milliseconds, run] = beside_run.nanoseconds.map(|nanoseconds| nanoseconds / 1e6);
+        println!(
+            "table and program bits together, {}: {milliseconds:.3} ms, {:.2} of Rust tuned; a run beside them {run:.3} ms",
+            self.size(),
+            beside_tuned.ratio
+        );
+    }
+
     /// The library's series over as many of its single calls, by the plan and by the fabric.
     fn print_beside_single_calls(&self) {
         let ([u, _, v], table, series) = (self.counts, &self.table, self.series());
@@ -535,7 +601,7 @@ impl Drawings {
             &|file: &Vec<u8>, (): &mut ()| reference::plan::read(file),
         );
         println!(
-            "\ndrawn in order over plain reading of the same files, {}: Rattle {:.2}, Rust {:.2}",
+            "drawn in order over plain reading of the same files, {}: Rattle {:.2}, Rust {:.2}",
             self.size, rattle.ratio, rust.ratio
         );
     }
@@ -791,6 +857,9 @@ mod tests {
         let mut measured = Vec::new();
         for call in Call::OF_PLANS {
             measured.push((call, plans.measure(call)));
+        }
+        for call in Call::TUNED {
+            measured.push((call, plans.measure_tuned(call)));
         }
         for call in Call::OF_EDITS {
             measured.push((call, Edits::new(Counts::MOST, call).measure()));
