@@ -23,7 +23,7 @@ pub store-none : (s : List ℕ) (p : ℕ) (f : ℕ → ℕ) → s ≡ storeBits 
 unfolding listOf storeBits
 store-none s p f = refl
 
-store-more : (s : List ℕ) (p i : ℕ) (f : ℕ → ℕ) → setBit (storeBits s p (listOf i f)) (p + i) (f i) ≡ storeBits s p (listOf (i + 1) f)
+pub store-more : (s : List ℕ) (p i : ℕ) (f : ℕ → ℕ) → setBit (storeBits s p (listOf i f)) (p + i) (f i) ≡ storeBits s p (listOf (i + 1) f)
 unfolding listOf storeBits
 store-more s p i f =
     rw (add-one i, storeBits-append s p (listOf i f) (f i ∷ [])) (ap (λ k. setBit (storeBits s p (listOf i f)) (p + k) (f i)) (sym (length-listOf i f)))

@@ -6,6 +6,10 @@ ghost use lib.ListN.{length, replicate};
 ghost use Rattle.fault.specs.Buffers.{over};
 ghost use Rattle.block_elements.specs.Bits.{bitByte, bitPlace, bytesFor, bitsHeld, withBit, bitAt, setBit};
 
+mod packing;
+
+pub use packing::store_bits;
+
 // The bits of a byte.
 const BYTE_BITS: usize = 8;
 

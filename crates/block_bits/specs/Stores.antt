@@ -1,0 +1,18 @@
+-- The bits that are stored at once: those of a byte, and the lowest bits of many bytes.
+use Prim.Native.Nat.{ℕ, _%_, min}
+use mathlib.Core.List.{List}
+use lib.ListN.{length, getD}
+use Rattle.lists.specs.Lists.{listOf}
+use Rattle.block_elements.specs.Bits.{bitOf, bitsHeld}
+
+-- the `count` lowest bits of the byte x, the lowest first; a byte has no more than eight
+unfoldable pub fieldBits : ℕ → ℕ → List ℕ
+fieldBits count x = listOf (min count (bitsHeld 1)) (λ i. bitOf i x)
+
+-- the lowest bit of byte i
+abbrev pub lowBit : List ℕ → ℕ → ℕ
+lowBit bytes i = getD bytes i 0 % 2
+
+-- the lowest bit of each byte
+unfoldable pub lowBits : List ℕ → List ℕ
+lowBits bytes = listOf (length bytes) (lowBit bytes)
