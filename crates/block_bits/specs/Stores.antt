@@ -1,5 +1,5 @@
 -- The bits that are stored at once: those of a byte, and the lowest bits of many bytes.
-use Prim.Native.Nat.{ℕ, _%_, min}
+use Prim.Native.Nat.{ℕ, zero, suc, _+_, _*_, _/_, _%_, _^_, min}
 use mathlib.Core.List.{List}
 use lib.ListN.{length, getD}
 use Rattle.lists.specs.Lists.{listOf}
@@ -16,3 +16,12 @@ lowBit bytes i = getD bytes i 0 % 2
 -- the lowest bit of each byte
 unfoldable pub lowBits : List ℕ → List ℕ
 lowBits bytes = listOf (length bytes) (lowBit bytes)
+
+-- the number of the n bits f 0 to f (n - 1), the lowest first
+unfoldable pub numberOf : (ℕ → ℕ) → ℕ → ℕ
+numberOf f zero = 0
+numberOf f (suc n) = f 0 + 2 * numberOf (λ i. f (suc i)) n
+
+-- x with the n bits from a place on made those of v, which has no more: what lies above them, v, what lies below
+abbrev pub withField : ℕ → ℕ → ℕ → ℕ → ℕ
+withField place n v x = (x / 2 ^ (n + place) * 2 ^ n + v) * 2 ^ place + x % 2 ^ place

@@ -6,8 +6,10 @@ ghost use lib.ListN.{length, replicate};
 ghost use Rattle.fault.specs.Buffers.{over};
 ghost use Rattle.block_elements.specs.Bits.{bitByte, bitPlace, bytesFor, bitsHeld, withBit, bitAt, setBit};
 
+mod fields;
 mod packing;
 
+pub use fields::store_field;
 pub use packing::store_bits;
 
 // The bits of a byte.

@@ -3,8 +3,7 @@ use mathlib.Core.Path.{sym}
 use native.Mathlib.Omega.{arith}
 use borrow.Author.Needs.{needs}
 use Rattle.block_bits.specs.Stores.{lowBits}
-use Rattle.block_bits.proofs.StoreLaws.{store-from-byte}
-use Rattle.block_bits.proofs.PackingLaws.{storeBits-past}
+use Rattle.block_bits.proofs.StoreLaws.{storeBits-past, store-from-byte}
 use Rattle.block_bits.proofs.packing.store_bits.Statement.{statement}
 use Rattle.block_bits.proofs.packing.store_bits.Tie as tie
 
