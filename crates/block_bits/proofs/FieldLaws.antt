@@ -3,11 +3,12 @@
 use mathlib.Core.Path.{_≡_, refl, sym, ap, ap₂, _∙_}
 use mathlib.Core.List.{List, _++_}
 use Prim.Native.Nat.{ℕ, zero, suc, _+_, _-_, _*_, _/_, _%_, _^_, _≤_, _<_, min}
-use native.Mathlib.Nat.{le-of-suc-le-suc, add-comm, one-mul, pow-suc, mod-lt, mul-assoc, add-zero, suc-add, zero-add}
+use native.Mathlib.Nat.{mul-add-div-right, mul-add-mod-self-right, add-comm, one-mul, pow-suc, mod-lt, mul-assoc, add-zero, suc-add, zero-add}
 use native.Mathlib.Numerals.{add-one, one-add}
+use native.Mathlib.Decide.{decLt}
 use native.Mathlib.Omega.{arith}
-use lib.ListN.{length, getD, set}
-use lib.Seq.{getD-set-same, set-set, set-getD}
+use lib.ListN.{length, getD, set, length-set, List·getD-eq-default}
+use lib.Seq.{getD-set-same, getD-set-other, set-set, set-comm, set-out, set-getD}
 use lib.Pow.{pow-pos, pow-add, shr-shr, shr-lt, shl-exact, high, low, split, mod-pow-add}
 use lib.Arith.{digits-lt}
 use lib.Bits.{bitAnd, and-mask}
@@ -15,7 +16,7 @@ use Rattle.lists.specs.Lists.{listOf}
 use Rattle.lists.proofs.ListsLaws.{length-listOf, listOf-ext}
 use Rattle.block_elements.specs.Bits.{bitByte, bitPlace, bitOf, withBit, setBit, storeBits, bitsHeld}
 use Rattle.block_elements.proofs.BitsLaws.{AreBytes, storeBits-append}
-use Rattle.block_bits.specs.Stores.{fieldBits, numberOf, withField}
+use Rattle.block_bits.specs.Stores.{fieldBits, numberOf, withField, wordAt, putWord}
 use Rattle.block_bits.proofs.StoreLaws.{listOf-append, store-more}
 
 -- ---- the number of some bits
@@ -41,8 +42,8 @@ number-bits (suc n) x =
 
 -- ---- a number in its place
 
-field-lt : (k n v x : ℕ) → v < 2 ^ n → v * 2 ^ k + x % 2 ^ k < 2 ^ (n + k)
-field-lt k n v x h = rw (pow-add 2 n k) (digits-lt h (mod-lt x (pow-pos k)))
+field-under : (k n v x : ℕ) → v < 2 ^ n → v * 2 ^ k + x % 2 ^ k < 2 ^ (n + k)
+field-under k n v x h = rw (pow-add 2 n k) (digits-lt h (mod-lt x (pow-pos k)))
 
 -- above n bits, v, and what lies below
 field-split : (k n v x : ℕ) → withField k n v x ≡ x / 2 ^ (n + k) * 2 ^ (n + k) + (v * 2 ^ k + x % 2 ^ k)
@@ -56,7 +57,7 @@ field-more : (k n v b x : ℕ) → v < 2 ^ n → withBit (n + k) b (withField k 
 field-more k n v b x h =
     let A = x / 2 ^ (n + k) in
     let L = v * 2 ^ k + x % 2 ^ k in
-    let small = field-lt k n v x h in
+    let small = field-under k n v x h in
     ap (withBit (n + k) b) (field-split k n v x)
     ∙ ap₂ (λ p q. (p / 2 * 2 + b) * 2 ^ (n + k) + q) (high A (n + k) small) (low A (n + k) small)
     ∙ rw (suc-add n k, halved (n + k) x, pow-suc 2 n) (joined (A / 2) (2 ^ (n + k)) (2 ^ n) (2 ^ k) (pow-add 2 n k))
@@ -68,9 +69,15 @@ field-more k n v b x h =
 field-none : (k x : ℕ) → withField k 0 0 x ≡ x
 field-none k x = field-split k 0 0 x ∙ rw (zero-add k) (omega (arith, split x k))
 
--- all bits of a byte
-field-whole : (v x : ℕ) → x < 256 → withField 0 8 v x ≡ v
-field-whole v x h = omega arith
+-- a field within the lowest w bits leaves no others
+field-lt : (w k n v x : ℕ) → n + k ≤ w → v < 2 ^ n → x < 2 ^ w → withField k n v x < 2 ^ w
+field-lt w k n v x room hv hx =
+    let m = w - (n + k) in
+    let e : m + (n + k) ≡ w = omega arith in
+    let above : x / 2 ^ (n + k) < 2 ^ m = shr-lt m (n + k) (rw e hx) in
+    let whole : 2 ^ m * 2 ^ n * 2 ^ k ≡ 2 ^ w =
+    mul-assoc (2 ^ m) (2 ^ n) (2 ^ k) ∙ sym (ap (λ q. 2 ^ m * q) (pow-add 2 n k)) ∙ sym (pow-add 2 m (n + k)) ∙ ap (λ j. 2 ^ j) e in
+    rw whole at (digits-lt (digits-lt above hv) (mod-lt x (pow-pos k)))
 
 -- the bits above a field, in it and below
 field-parts : (k n x : ℕ) → x ≡ (x / 2 ^ (n + k) * 2 ^ n + x / 2 ^ k % 2 ^ n) * 2 ^ k + x % 2 ^ k
@@ -78,8 +85,8 @@ field-parts k n x =
     let above : x / 2 ^ (n + k) ≡ x / 2 ^ k / 2 ^ n = ap (λ j. x / 2 ^ j) (add-comm n k) ∙ sym (shr-shr x k n) in
     rw above (sym (ap (λ q. q * 2 ^ k + x % 2 ^ k) (split (x / 2 ^ k) n) ∙ split x k))
 
--- a field of a byte by shift and mask, as code makes it
-module _ (k n : ℕ) (room : n + k ≤ 8) where
+-- a field of two bytes by shift and mask, as code makes it
+module _ (k n : ℕ) (room : n + k ≤ 16) where
   one-shifted : 1 * 2 ^ n % 2 ^ 32 ≡ 2 ^ n
   one-shifted = shl-exact {a = 1} 1 n 32 (omega arith) (omega arith) ∙ one-mul (2 ^ n)
 
@@ -97,85 +104,122 @@ module _ (k n : ℕ) (room : n + k ≤ 8) where
         ≡ withField k n (x % 2 ^ n) old
     field-in = rw (masked-shifted (old / 2 ^ k), masked-shifted x) (omega (arith, field-parts k n old))
 
-    field-fits : old < 256 → withField k n (x % 2 ^ n) old < 256
-    field-fits h =
-        let m = 8 - (n + k) in
-        let e : m + (n + k) ≡ 8 = omega arith in
-        let above : old / 2 ^ (n + k) < 2 ^ m = shr-lt m (n + k) (rw e h) in
-        let whole : 2 ^ m * 2 ^ n * 2 ^ k ≡ 256 =
-        mul-assoc (2 ^ m) (2 ^ n) (2 ^ k) ∙ sym (ap (λ q. 2 ^ m * q) (pow-add 2 n k)) ∙ sym (pow-add 2 m (n + k)) ∙ ap (λ j. 2 ^ j) e in
-        rw whole at (digits-lt (digits-lt above (mod-lt x (pow-pos n))) (mod-lt old (pow-pos k)))
+    pub field-small : old < 2 ^ 16
+        → old - bitAnd (old / 2 ^ k) (1 * 2 ^ n % 2 ^ 32 - 1) * 2 ^ k % 2 ^ 32 + bitAnd x (1 * 2 ^ n % 2 ^ 32 - 1) * 2 ^ k % 2 ^ 32 < 2 ^ 16
+    field-small h = rw field-in (field-lt 16 k n (x % 2 ^ n) old room (mod-lt x (pow-pos n)) h)
 
-    pub field-small : old < 256
-        → old - bitAnd (old / 2 ^ k) (1 * 2 ^ n % 2 ^ 32 - 1) * 2 ^ k % 2 ^ 32 + bitAnd x (1 * 2 ^ n % 2 ^ 32 - 1) * 2 ^ k % 2 ^ 32 ≤ 255
-    field-small h = rw field-in (le-of-suc-le-suc (field-fits h))
+-- ---- one bit of two bytes
+
+withBit-lt : (k b x : ℕ) → k < 8 → b < 2 → x < 256 → withBit k b x < 256
+withBit-lt k b x hk hb hx =
+    let e : withField k 1 b x ≡ withBit k b x = rw (one-add k, halved k x) refl in
+    rw e at (field-lt 8 k 1 b x (omega arith) hb hx)
+
+bit-in-low : (p b w : ℕ) → p < 8 → withBit p b w ≡ w / 256 * 256 + withBit p b (w % 256)
+bit-in-low p b w hp =
+    let d = 7 - p in
+    let e : suc d + p ≡ 8 = omega arith in
+    let whole : 2 ^ d * 2 * 2 ^ p ≡ 256 = sym (ap (λ q. q * 2 ^ p) (pow-suc 2 d)) ∙ sym (pow-add 2 (suc d) p) ∙ ap (λ j. 2 ^ j) e in
+    ap (withBit p b) (cut (2 ^ d) (2 ^ p) whole)
+    ∙ ap₂ (λ y r. (y / 2 * 2 + b) * 2 ^ p + r) (mul-add-div-right (pow-pos p) (w / 256 * 2 ^ d * 2) (w % 256))
+    (mul-add-mod-self-right (w / 256 * 2 ^ d * 2) (2 ^ p) (w % 256))
+    ∙ joined (w / 256) (2 ^ d) (2 ^ p) (w % 256 / 2 ^ p) (w % 256 % 2 ^ p) whole
+  where
+    cut : (D P : ℕ) → D * 2 * P ≡ 256 → w ≡ w / 256 * D * 2 * P + w % 256
+    cut D P e = omega (arith, ap (λ q. w / 256 * q) e)
+
+    joined : (H D P y r : ℕ) → D * 2 * P ≡ 256 → ((H * D * 2 + y) / 2 * 2 + b) * P + r ≡ H * 256 + ((y / 2 * 2 + b) * P + r)
+    joined H D P y r e =
+        let half : (H * D * 2 + y) / 2 ≡ H * D + y / 2 = omega arith in
+        rw half (omega (arith, ap (λ q. H * q) e))
+
+bit-in-high : (q b w : ℕ) → withBit (q + 8) b w ≡ withBit q b (w / 256) * 256 + w % 256
+bit-in-high q b w =
+    let above : w / 2 ^ (q + 8) ≡ w / 256 / 2 ^ q = ap (λ j. w / 2 ^ j) (add-comm q 8) ∙ sym (shr-shr w 8 q) in
+    rw (above, mod-pow-add w q 8, pow-add 2 q 8) (omega arith)
 
 -- ---- in the bytes
 
--- bits of one byte, stored one after another
-pub store-field : (s : List ℕ) (i k n : ℕ) {f : ℕ → ℕ} → ((j : ℕ) → f j < 2) → i < length s → n + k ≤ bitsHeld 1
-    → storeBits s (bitsHeld i + k) (listOf n f) ≡ set s i (withField k n (numberOf f n) (getD s i 0))
-unfolding listOf storeBits setBit numberOf
-store-field s i k zero {f} h l room = sym (ap (set s i) (field-none k (getD s i 0)) ∙ set-getD s i 0)
-store-field s i k (suc n) {f} h l room =
-    let x = getD s i 0 in
+-- a bit more in two bytes that are made those of w; the upper one may lie past the end
+word-bit : (s : List ℕ) (i p b w : ℕ) → i < length s → p < 16 → b < 2 → setBit (putWord s i w) (bitsHeld i + p) b ≡ putWord s i (withBit p b w)
+unfolding setBit
+word-bit s i p b w l hp hb = go (decLt p 8) (decLt (i + 1) (length s))
+  where
+    lower : List ℕ
+    lower = set s i (w % 256)
+
+    high : (q : ℕ) → q < 8 → Dec (i + 1 < length s) → setBit (putWord s i w) (bitsHeld i + (q + 8)) b ≡ putWord s i (withBit (q + 8) b w)
+    high q h m =
+        let byte : bitByte (bitsHeld i + (q + 8)) ≡ i + 1 = omega arith in
+        let place : bitPlace (bitsHeld i + (q + 8)) ≡ q = omega arith in
+        let e = bit-in-high q b w in
+        let e₀ : withBit (q + 8) b w % 256 ≡ w % 256 = omega arith in
+        let e₁ : withBit (q + 8) b w / 256 ≡ withBit q b (w / 256) = omega arith in
+        rw (byte, place, e₀, e₁) (set-set lower (i + 1) (w / 256) _ ∙ upper m)
+      where
+        upper : Dec (i + 1 < length s) → set lower (i + 1) (withBit q b (getD (set lower (i + 1) (w / 256)) (i + 1) 0)) ≡ set lower (i + 1) (withBit q b (w / 256))
+        upper (yes m) = rw (getD-set-same lower (i + 1) (w / 256) 0 (rw (length-set s i (w % 256)) m))
+        upper (no m) =
+            let past : length lower ≤ i + 1 = rw (length-set s i (w % 256)) (omega arith) in
+            set-out lower (i + 1) _ past ∙ sym (set-out lower (i + 1) _ past)
+
+    go : Dec (p < 8) → Dec (i + 1 < length s) → setBit (putWord s i w) (bitsHeld i + p) b ≡ putWord s i (withBit p b w)
+    go (yes h) m =
+        let byte : bitByte (bitsHeld i + p) ≡ i = omega arith in
+        let place : bitPlace (bitsHeld i + p) ≡ p = omega arith in
+        let new = withBit p b (w % 256) in
+        let e = bit-in-low p b w h in
+        let small = withBit-lt p b (w % 256) h hb (mod-lt w (omega arith)) in
+        let e₀ : withBit p b w % 256 ≡ new = omega arith in
+        let e₁ : withBit p b w / 256 ≡ w / 256 = omega arith in
+        rw (byte, place, getD-set-other lower (i + 1) i (w / 256) 0 (λ z. absurd (omega arith)), getD-set-same s i (w % 256) 0 l, e₀, e₁)
+        (set-comm lower (i + 1) i (w / 256) new (λ z. absurd (omega arith)) ∙ ap (λ t. set t (i + 1) (w / 256)) (set-set s i (w % 256) new))
+    go (no h) m = let e : p - 8 + 8 ≡ p = omega arith in rw e at (high (p - 8) (omega arith) m)
+
+-- bits that lie in two bytes, the upper of which may lie past the end
+pub store-word : (s : List ℕ) (i k n : ℕ) {f : ℕ → ℕ} → AreBytes s → ((j : ℕ) → f j < 2) → i < length s → n + k ≤ 16
+    → storeBits s (bitsHeld i + k) (listOf n f) ≡ putWord s i (withField k n (numberOf f n) (wordAt s i))
+unfolding listOf storeBits numberOf
+store-word s i k zero {f} bytes h l room =
+    let low = bytes .each i in
+    let e₀ : wordAt s i % 256 ≡ getD s i 0 = omega arith in
+    let e₁ : wordAt s i / 256 ≡ getD s (i + 1) 0 = omega arith in
+    sym (ap (putWord s i) (field-none k (wordAt s i)) ∙ rw (e₀, e₁, set-getD s i 0) (set-getD s (i + 1) 0))
+store-word s i k (suc n) {f} bytes h l room =
+    let x = wordAt s i in
     let new = withField k n (numberOf f n) x in
-    let byte : bitByte (bitsHeld i + k + n) ≡ i = omega arith in
-    let place : bitPlace (bitsHeld i + k + n) ≡ n + k = omega arith in
+    let at : bitsHeld i + k + n ≡ bitsHeld i + (n + k) = omega arith in
     ap (λ m. storeBits s (bitsHeld i + k) (listOf m f)) (sym (add-one n)) ∙ sym (store-more s (bitsHeld i + k) n f)
-    ∙ ap (λ t. setBit t (bitsHeld i + k + n) (f n)) (store-field s i k n h l (omega arith))
-    ∙ rw (byte, place, getD-set-same s i new 0 l, set-set s i new (withBit (n + k) (f n) new))
-    (ap (set s i) (field-more k n (numberOf f n) (f n) x (number-lt n h) ∙ ap (λ v. withField k (suc n) v x) (sym (number-last n f))))
+    ∙ ap₂ (λ t p. setBit t p (f n)) (store-word s i k n bytes h l (omega arith)) at
+    ∙ word-bit s i (n + k) (f n) new l (omega arith) (h n)
+    ∙ ap (putWord s i) (field-more k n (numberOf f n) (f n) x (number-lt n h) ∙ ap (λ v. withField k (suc n) v x) (sym (number-last n f)))
 
 -- eight bits from the border of a byte on
 pub store-byte : (s : List ℕ) (i : ℕ) {f : ℕ → ℕ} → AreBytes s → ((j : ℕ) → f j < 2) → i < length s
     → storeBits s (bitsHeld i) (listOf 8 f) ≡ set s i (numberOf f 8)
 store-byte s i {f} bytes h l =
-    ap (λ p. storeBits s p (listOf 8 f)) (sym (add-zero (bitsHeld i))) ∙ store-field s i 0 8 h l (omega arith)
-    ∙ ap (set s i) (field-whole (numberOf f 8) (getD s i 0) (bytes .each i))
+    let low = bytes .each i in
+    let v = numberOf f 8 in
+    let small = number-lt 8 h in
+    let e₀ : withField 0 8 v (wordAt s i) % 256 ≡ v = omega arith in
+    let e₁ : withField 0 8 v (wordAt s i) / 256 ≡ getD s (i + 1) 0 = omega arith in
+    ap (λ p. storeBits s p (listOf 8 f)) (sym (add-zero (bitsHeld i))) ∙ store-word s i 0 8 bytes h l (omega arith)
+    ∙ rw (e₀, e₁) (set-comm s i (i + 1) v (getD s (i + 1) 0) (λ z. absurd (omega arith)) ∙ ap (λ t. set t i v) (set-getD s (i + 1) 0))
 
--- ---- the bits of x
-
-bits-below : (x i : ℕ) → bitOf i x < 2
-bits-below x i = mod-lt (x / 2 ^ i) (omega arith)
-
-pub store-fieldBits : (s : List ℕ) (i k n x : ℕ) → i < length s → n + k ≤ bitsHeld 1
-    → storeBits s (bitsHeld i + k) (fieldBits n x) ≡ set s i (withField k n (x % 2 ^ n) (getD s i 0))
-unfolding fieldBits
-store-fieldBits s i k n x l room =
-    let e : min n 8 ≡ n = omega arith in
-    rw e (store-field s i k n (bits-below x) l room ∙ ap (λ v. set s i (withField k n v (getD s i 0))) (number-bits n x))
-
--- the first of them, and then the others
-fieldBits-split : (s : List ℕ) (p count x first : ℕ) → first ≤ min count (bitsHeld 1)
-    → storeBits s p (fieldBits count x) ≡ storeBits (storeBits s p (fieldBits first x)) (p + first) (fieldBits (min count (bitsHeld 1) - first) (x / 2 ^ first))
-unfolding fieldBits
-fieldBits-split s p count x first l =
-    let rest = min count 8 - first in
-    let e₁ : min first 8 ≡ first = omega arith in
-    let e₂ : min rest 8 ≡ rest = omega arith in
-    let e₃ : min count 8 ≡ first + rest = omega arith in
-    ap (λ n. storeBits s p (listOf n (λ i. bitOf i x))) e₃
-    ∙ ap (storeBits s p) (listOf-append first rest (λ i. bitOf i x)
-    ∙ ap (λ (l : List ℕ). listOf first (λ i. bitOf i x) ++ l) (listOf-ext rest _ _ (λ i h. sym (ap (λ y. y % 2) (shr-shr x first i)))))
-    ∙ storeBits-append s p (listOf first (λ i. bitOf i x)) (listOf rest (λ i. bitOf i (x / 2 ^ first)))
-    ∙ rw (e₁, e₂, length-listOf first (λ i. bitOf i x)) refl
-
--- stored from bit p on in the byte where they begin
-module _ (s : List ℕ) (p count x : ℕ) {byte place n first : ℕ} {t : List ℕ} (eb : byte ≡ bitByte p) (ep : place ≡ bitPlace p)
-    (en : n ≡ min count (bitsHeld 1)) (ef : first ≡ min n (bitsHeld 1 - place)) (et : t ≡ storeBits s (bitsHeld byte + place) (fieldBits first x)) where
-  start : bitsHeld byte + place ≡ p
-  start = omega arith
-
-  pub field-within : n ≤ first → t ≡ storeBits s p (fieldBits count x)
+-- the lowest bits of x from bit p on, as two bytes made those of `new`
+module _ (s : List ℕ) (p count x : ℕ) {byte place n new : ℕ} (bytes : AreBytes s) (eb : byte ≡ bitByte p) (ep : place ≡ bitPlace p)
+    (en : n ≡ min count (bitsHeld 1)) (l : byte < length s) where
+  pub field-stored : new ≡ withField place n (x % 2 ^ n) (wordAt s byte) → putWord s byte new ≡ storeBits s p (fieldBits count x)
   unfolding fieldBits
-  field-within l =
-      let e : min first 8 ≡ min count 8 = omega arith in
-      et ∙ ap₂ (λ q m. storeBits s q (listOf m (λ i. bitOf i x))) start e
+  field-stored e =
+      let at : bitsHeld byte + place ≡ p = omega arith in
+      let stored = store-word s byte place n bytes (λ i. mod-lt (x / 2 ^ i) (omega arith)) l (omega arith) in
+      ap (putWord s byte) (e ∙ ap (λ v. withField place n v (wordAt s byte)) (sym (number-bits n x))) ∙ sym stored
+      ∙ ap₂ (λ q m. storeBits s q (listOf m (λ i. bitOf i x))) at en
 
-  -- with the others in the next byte
-  pub field-across : {u : List ℕ} → first < n → u ≡ storeBits t (bitsHeld (byte + 1) + 0) (fieldBits (n - first) (x / 2 ^ first))
-      → u ≡ storeBits s p (fieldBits count x)
-  field-across l eu =
-      let next : bitsHeld (byte + 1) + 0 ≡ p + first = omega arith in
-      eu ∙ rw (next, et, start, en) (sym (fieldBits-split s p count x first (omega arith)))
+  -- where the upper byte lies past the end
+  pub field-last : length s ≤ byte + 1 → new ≡ withField place n (x % 2 ^ n) (getD s byte 0 + 256 * 0) → set s byte (new % 256) ≡ storeBits s p (fieldBits count x)
+  field-last past e =
+      let none : getD s (byte + 1) 0 ≡ 0 = List·getD-eq-default s 0 past in
+      sym (set-out (set s byte (new % 256)) (byte + 1) (new / 256) (rw (length-set s byte (new % 256)) past))
+      ∙ field-stored (e ∙ ap (λ y. withField place n (x % 2 ^ n) (getD s byte 0 + 256 * y)) (sym none))

@@ -1,6 +1,6 @@
-// A few program bits at once, the lowest bits of a byte: they lie in one byte of the program or in two.
+// A few program bits at once, the lowest bits of a byte: they lie in two bytes of the program, which are read and stored as one number.
 ghost use mathlib.Core.Path.{_≡_};
-ghost use Prim.Native.Nat.{_+_, _%_, _^_, _≤_};
+ghost use Prim.Native.Nat.{_+_, _*_, _%_, _^_, _<_, _≤_};
 ghost use Rattle.block_elements.specs.Bits.{bitsHeld, storeBits};
 ghost use Rattle.block_bits.specs.Stores.{fieldBits, withField};
 use crate::BYTE_BITS;
@@ -14,32 +14,27 @@ pub fn store_field(program: &mut [u8], start: usize, x: u8, count: u32)
     ensures { λ _. ⌜ now (program .exit) ≡ storeBits (now (program .entry)) start (fieldBits count x) ⌝ }
 {
     let byte = bit_byte(start);
-    let place = bit_place(start);
-    let n = smaller(count as usize, BYTE_BITS);
-    let first = smaller(n, BYTE_BITS - place);
-    store_within(program, byte, place, x, first);
-    if first < n {
-        store_within(program, byte + 1, 0, x >> (first as u32), n - first);
+    let place = bit_place(start) as u32;
+    let n = smaller(count as usize, BYTE_BITS) as u32;
+    if byte + 1 < program.len() {
+        let new = with_field(program[byte], program[byte + 1], place, x, n);
+        program[byte] = (new % 256) as u8;
+        program[byte + 1] = (new / 256) as u8;
+    } else if byte < program.len() {
+        let new = with_field(program[byte], 0, place, x, n);
+        program[byte] = (new % 256) as u8;
     }
 }
 
-// The n lowest bits of x from a place of a byte on, all of them in that byte.
-fn store_within(program: &mut [u8], byte: usize, place: usize, x: u8, n: usize)
-    requires { ⌜ n + place ≤ bitsHeld 1 ⌝ }
-    ensures { λ _. ⌜ now (program .exit) ≡ storeBits (now (program .entry)) (bitsHeld byte + place) (fieldBits n x) ⌝ }
+// Two bytes as one number, with the n lowest bits of x from a place of the lower one on.
+fn with_field(low: u8, high: u8, place: u32, x: u8, n: u32) -> u32
+    requires { ⌜ (n ≤ bitsHeld 1) × (place < bitsHeld 1) ⌝ }
+    ensures made { λ r. ⌜ r ≡ withField place n (x % 2 ^ n) (low + 256 * high) ⌝ }
+    ensures fits { λ r. ⌜ r < 2 ^ 16 ⌝ }
 {
-    if byte < program.len() {
-        program[byte] = with_field(program[byte], place as u32, x, n as u32);
-    }
-}
-
-// The byte `old` with the n lowest bits of x from a place on.
-pub(crate) fn with_field(old: u8, place: u32, x: u8, n: u32) -> u8
-    requires { ⌜ n + place ≤ bitsHeld 1 ⌝ }
-    ensures { λ r. ⌜ r ≡ withField place n (x % 2 ^ n) old ⌝ }
-{
+    let old = low as u32 + 256 * (high as u32);
     let mask = (1u32 << n) - 1;
-    let replaced = ((old as u32) >> place) & mask;
+    let replaced = (old >> place) & mask;
     let given = (x as u32) & mask;
-    (old as u32 - (replaced << place) + (given << place)) as u8
+    old - (replaced << place) + (given << place)
 }

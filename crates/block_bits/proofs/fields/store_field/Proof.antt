@@ -1,28 +1,40 @@
--- `block_bits::fields::store_field` meets its contract: the bits that the first byte has room for, then the others in the next byte. Assumes nothing.
+-- `block_bits::fields::store_field` meets its contract: two bytes get the bits, of which the upper may lie past the end. Assumes nothing.
+use mathlib.Core.Path.{_≡_, sym}
 use native.Mathlib.Omega.{arith}
 use borrow.Author.Needs.{needs}
-use Rattle.block_bits.proofs.FieldLaws.{field-within, field-across}
+use Rattle.block_elements.proofs.BitsLaws.{AreBytes}
+use Rattle.block_bits.specs.Stores.{fieldBits}
+use Rattle.block_bits.proofs.StoreLaws.{storeBits-past}
+use Rattle.block_bits.proofs.FieldLaws.{field-stored, field-last}
 use Rattle.block_bits.proofs.fields.store_field.Statement.{statement}
 use Rattle.block_bits.proofs.fields.store_field.Tie as tie
 
-across : tie.Need-returns
-across c =
-    let stored = c .before .before .before .before .before .before .before in
-    let sizes = stored .before .before in
-    let placed = sizes .before .before in
-    field-across _ _ _ _ (placed .before .bit-byte .ensures) (placed .bit-place .ensures) (sizes .before .smaller .ensures) (sizes .smaller2 .ensures) (stored .store-within .ensures) (omega arith) (c .before .before .store-within2 .ensures)
+two : tie.Need-returns
+two c =
+    let sized = c .before .before .before .before in
+    let placed = sized .before in
+    let found = placed .before in
+    let a = found .before .before .args in
+    field-stored (a .program .now) (a .start) (a .count) (a .x) (record { each = λ i. found .before .slice-known .given i .fits })
+    (found .bit-byte .ensures) (placed .bit-place .ensures) (sized .smaller .ensures) (omega arith) (c .with-field .ensures .0)
 
-within : tie.Need-returns-2
-within c =
-    let stored = c .before .before .before in
-    let sizes = stored .before .before in
-    let placed = sizes .before .before in
-    field-within _ _ _ _ (placed .before .bit-byte .ensures) (placed .bit-place .ensures) (sizes .before .smaller .ensures) (sizes .smaller2 .ensures) (stored .store-within .ensures) (omega arith)
+last : tie.Need-returns-2
+last c =
+    let sized = c .before .before .before .before in
+    let placed = sized .before in
+    let found = placed .before in
+    let a = found .before .before .args in
+    field-last (a .program .now) (a .start) (a .count) (a .x) (record { each = λ i. found .before .slice-known .given i .fits })
+    (found .bit-byte .ensures) (placed .bit-place .ensures) (sized .smaller .ensures) (omega arith) (omega arith) (c .with-field2 .ensures .0)
+
+past : tie.Need-returns-3
+past c = sym (storeBits-past (fieldBits _ _) _ _ (omega arith))
 
 pub store-field-spec : {M : Type 1} → statement M
 store-field-spec =
     tie.close
     (tie.spec
-    (λ c κs. search needs) (λ c κs. search needs) (λ c κs. search needs) (λ c. search needs) (λ c κs. search needs) (λ c κs. search needs)
-    (λ c. search needs) (λ c. search needs) (λ c. search needs) (λ c. search needs) (λ c. search needs) (λ c κs. search needs)
-    (λ c. search needs) across (λ c. search needs) within)
+    (λ c κs. search needs) (λ c κs. search needs) (λ c. search needs) (λ c κs. search needs) (λ c. search needs) (λ c. search needs)
+    (λ c. search needs) (λ c. search needs) (λ c. search needs) (λ c κs. search needs) (λ c. search needs) (λ c. search needs)
+    (λ c. search needs) (λ c. search needs) (λ c. search needs) (λ c. search needs) (λ c κs. search needs) (λ c. search needs)
+    (λ c. search needs) (λ c. search needs) two (λ c. search needs) last past)
