@@ -6,6 +6,7 @@ ghost use Rattle.block_elements.specs.Bits.{storeBits};
 ghost use Rattle.block_networks.specs.Permutation.{permutationCount};
 ghost use Rattle.block_loops.specs.Mappings.{IsPerm, listBits};
 ghost use Rattle.block_loops.specs.Levels.{BlockBuffers, HalfBuffers};
+use crate::four::program_four;
 use crate::level::program_level;
 use block_bits::store_bit;
 use block_sizes::permutation_count;
@@ -25,7 +26,7 @@ pub(crate) fn program_block(
     requires { ⌜ start + permutationCount level < 2 ^ 32 ⌝ }
     ensures { λ _. ⌜ now (program .exit) ≡ storeBits (now (program .entry)) start (listBits level (now (perm .entry))) ⌝ }
 {
-    if 1 < level {
+    if 2 < level {
         let below = level - 1;
         let half = perm.len() / 2;
         let part = permutation_count(half as u32);
@@ -34,15 +35,25 @@ pub(crate) fn program_block(
         program_half(scratch, perm, mark, program, upper, below, 0);
         program_half(scratch, perm, mark, program, upper + part, below, half);
     } else {
+        program_few(perm, program, start, level);
+    }
+}
+
+// The program bits of P(4) and below. Most blocks are these.
+fn program_few(perm: &[u16], program: &mut [u8], start: usize, level: usize)
+    requires { ⌜ IsPerm (now perm) × (length (now perm) ≡ 2 ^ level) × (level ≤ 2) ⌝ }
+    ensures { λ _. ⌜ now (program .exit) ≡ storeBits (now (program .entry)) start (listBits level (now (perm .entry))) ⌝ }
+{
+    if 1 < level {
+        program_four(perm, program, start);
+    } else {
         program_pair(perm, program, start, level);
     }
 }
 
-// The program bits of P(2), whose one row is crossed where its first output takes the second input, and of P(1), which has no row. Most
-// blocks are these.
+// The program bits of P(2), whose one row is crossed where its first output takes the second input, and of P(1), which has no row.
 fn program_pair(perm: &[u16], program: &mut [u8], start: usize, level: usize)
     requires { ⌜ IsPerm (now perm) × (length (now perm) ≡ 2 ^ level) × (level ≤ 1) ⌝ }
-    requires { ⌜ start + permutationCount level < 2 ^ 32 ⌝ }
     ensures { λ _. ⌜ now (program .exit) ≡ storeBits (now (program .entry)) start (listBits level (now (perm .entry))) ⌝ }
 {
     if 0 < level {

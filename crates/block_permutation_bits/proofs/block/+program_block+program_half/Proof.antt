@@ -28,7 +28,7 @@ use Rattle.block_permutation_bits.proofs.block.program_half.Reads as pr
 use Rattle.block_permutation_bits.proofs.block.program_half.Kinds as program-half-kinds
 use Rattle.block_permutation_bits.proofs.block.+program_block+program_half.Lts-program_half as program-half-lts
 use Rattle.block_permutation_bits.proofs.level.program_level.Reads as program-level-reads
-use Rattle.block_permutation_bits.proofs.block.program_pair.Reads as program-pair-reads
+use Rattle.block_permutation_bits.proofs.block.program_few.Reads as program-few-reads
 use Rattle.block_permutation_bits.proofs.block.+program_block+program_half.{statement}
 use Rattle.block_permutation_bits.proofs.block.+program_block+program_half.Tie.{close}
 
@@ -53,8 +53,8 @@ block-calls t = (
   program-level-reads.Learnt,
   and 4 program-half-kinds.ps (falls 4 program-half-kinds.ps _<_ μ-program-half t) program-half.Pre,
   program-half.Post,
-  program-pair-reads.Asked,
-  program-pair-reads.Learnt,
+  program-few-reads.Asked,
+  program-few-reads.Learnt,
 )
 
 abbrev half-calls : ℕ → program-half-lts.Claims
@@ -63,7 +63,7 @@ half-calls t = (
   program-block.Post,
 )
 
-some-below : {level : ℕ} → 1 < level → 0 < level
+some-below : {level : ℕ} → 2 < level → 0 < level
 some-below l = omega arith
 
 -- the places of a half lie in its arrays, and are small
@@ -121,7 +121,7 @@ part-size at N = omega arith
 block-falls : (level : ℕ) {t : ℕ} → 2 * level + 2 ≡ t → 2 * level + 1 < t
 block-falls level e = omega arith
 
-half-falls : {level t : ℕ} → 1 < level → 2 * level + 1 ≡ t → 2 * (level - 1) + 2 < t
+half-falls : {level t : ℕ} → 0 < level → 2 * level + 1 ≡ t → 2 * (level - 1) + 2 < t
 half-falls l e = omega arith
 
 module _ (t : ℕ) where
@@ -184,7 +184,7 @@ module _ (t : ℕ) where
   abbrev lower : Done → Lower
   lower c = kept-program c .before .before .before .before .before .before
 
-  -- a block above P(2)
+  -- a block above P(4)
   sized : (c : Halved) → Halving (start c .args .level) (length (start c .args .perm .now))
   sized c = halving (start c .args .level) (start c .pre .1 .1 .0) (some-below (c .if1 .taken))
 
@@ -223,7 +223,7 @@ module _ (t : ℕ) where
       let s = start h in
       let l = some-below (h .if1 .taken) in
       let room = s .pre .1 .1 .0 in (
-        half-falls (h .if1 .taken) (s .pre .0),
+        half-falls l (s .pre .0),
         (
           upper-perm {level = s .args .level} (s .pre .1 .0) room l (v .program-level .ensures) (scratch-size v),
           (half-buffers (s .args .level) 0 room l (upper-within (sized h)) (scratch-size v) refl (mark-size v), upper-bits-fit (sized h) (s .args .start) (s .pre .1 .1 .1)),
@@ -245,7 +245,7 @@ module _ (t : ℕ) where
       let l = some-below (h .if1 .taken) in
       let room = s .pre .1 .1 .0 in
       let half = u .program-half in (
-        half-falls (h .if1 .taken) (s .pre .0),
+        half-falls l (s .pre .0),
         (
           lower-perm {level = s .args .level} (s .pre .1 .0) room l (v .program-level .ensures) (scratch-size v)
               (half .last .0) (half .kept .0) (half .ensures .1),
@@ -283,14 +283,14 @@ module _ (t : ℕ) where
       block-stored {level = s .args .level} (s .pre .1 .0) (s .pre .1 .1 .0) (some-below (halved n .if1 .taken)) (v .program-level .ensures) (scratch-size v)
       (half .last .0) (half .kept .0) (half .ensures .1) bytes (rows n) (half .ensures .0) (w .program-half2 .ensures .0)
 
-for-pair : (t : ℕ) → program-block-lts.Need-program-pair-requires (block-calls t) (block-at t) program-block.Post
-for-pair t c κs =
+for-few : (t : ℕ) → program-block-lts.Need-program-few-requires (block-calls t) (block-at t) program-block.Post
+for-few t c κs =
     let other = c .before .before in
     let s = other .before .before .before .before .before in
-    ((s .pre .1 .0, s .pre .1 .1 .0 .size, other .if1 .left), s .pre .1 .1 .1)
+    (s .pre .1 .0, s .pre .1 .1 .0 .size, other .if1 .left)
 
-paired : (t : ℕ) → program-block-lts.Need-returns-2 (block-calls t) (block-at t) program-block.Post
-paired t c = c .before .before .program-pair .ensures
+few : (t : ℕ) → program-block-lts.Need-returns-2 (block-calls t) (block-at t) program-block.Post
+few t c = c .before .before .program-few .ensures
 
 module _ (t : ℕ) where
   -- the places of a half: what it is given, its block asked, the block done, all; and the way back from each
@@ -366,9 +366,9 @@ pub +program-block+program-half-spec : {M : Type 1} → statement M
 +program-block+program-half-spec =
     close μ-program-block μ-program-half
     (λ t. program-block-lts.spec (block-calls t) (block-at t) program-block.Post
-    (λ c. some-below (c .if1 .taken)) (half-fits t) (λ c κs. tt) (upper-place t) (for-level t) (for-upper t) (lower-fits t) (for-lower t) (for-pair t)
+    (λ c. some-below (c .if1 .taken)) (half-fits t) (λ c κs. tt) (upper-place t) (for-level t) (for-upper t) (lower-fits t) (for-lower t) (for-few t)
     (same-perm t) (same-scratch t) (same-marks t) (same-program t)
-    (stored t) (λ c. refl) (λ c. c .before .before .program-pair .kept .1 .0) (paired t))
+    (stored t) (λ c. refl) (λ c. c .before .before .program-few .kept .1 .0) (few t))
     λ t. program-half-lts.spec (half-calls t) (half-at t) program-half.Post
     (λ c. end-fits (c .before .before .before .before .pre .1 .1 .0)) (λ c. place-fits (c .before .before .before .before .pre .1 .1 .0)) (λ c. le-add-right _ _) (λ c. le-add-right _ _)
     (λ c. c .before .before .before .before .pre .1 .1 .0 .within)

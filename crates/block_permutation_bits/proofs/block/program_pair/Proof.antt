@@ -9,20 +9,20 @@ use Rattle.block_permutation_bits.proofs.block.program_pair.Tie as tie
 read : tie.Need-shared-slice-read-store-bit
 read c =
     let s = c .before .before .before .before .before in
-    let p = s .pre .0 in
+    let p = s .pre in
     pair-some (s .args .perm .now) (p .0) (p .1) (p .2) (c .before .before .if1 .taken)
 
 small : tie.Need-cast-store-bit
 small c =
     let s = c .before .before .before .before .before in
-    let p = s .pre .0 in
+    let p = s .pre in
     omega (arith, pair-first (s .args .perm .now) (p .0) (p .1) (p .2) (c .before .before .if1 .taken))
 
 stored : tie.Need-returns
 stored c =
     let taken = c .before .before .before .before .before in
     let s = taken .before .before .before in
-    let p = s .pre .0 in
+    let p = s .pre in
     c .before .before .store-bit .ensures
     ∙ pair-stored (s .args .perm .now) (p .0) (p .1) (p .2) (taken .if1 .taken) (s .args .program .now) (s .args .start)
 
