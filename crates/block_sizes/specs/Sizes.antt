@@ -15,6 +15,10 @@ maxSize = 512
 abbrev pub maxLevel : ℕ
 maxLevel = 9
 
+-- the most positions of a small block, which is worked on in smaller arrays
+abbrev pub smallSize : ℕ
+smallSize = 64
+
 -- P may have N positions: a power of two from 1 to 512
 unfoldable pub sizeAllowed : ℕ → Bool
 sizeAllowed N = leb 1 N && (leb N maxSize && eqb (ceilPower N) N)

@@ -14,6 +14,9 @@ pub const MAX_SIZE: u32 = 512;
 // That number as a length: the places of an array that serves every block.
 pub const MAX_PLACES: usize = MAX_SIZE as usize;
 
+// The places of an array that serves the blocks of at most so many positions. Most blocks of a fabric are these, and clearing takes time.
+pub const SMALL_PLACES: usize = 64;
+
 // Whether P may have n positions: a power of two from 1 to 512.
 pub fn size_allowed(n: u32) -> bool
     ensures { λ r. ⌜ r ≡ sizeAllowed n ⌝ }
