@@ -23,7 +23,7 @@ use Rattle.block_networks.specs.Permutation.{permutationCount}
 use Rattle.block_sizes.specs.Sizes.{maxSize, maxLevel, sizeAllowed, levelOf, SizeIs, SelectionSizes}
 use Rattle.block_sizes.proofs.SizesLaws.{size-is, power-allowed, few-rows, selection-sizes-allowed, selection-level-small, power-small}
 use Rattle.block_program_checks.specs.Bits.{bitsAtFault}
-use Rattle.block_program_checks.specs.Checks.{firstSource, selectedAllowed, selectedFault, notAmong, isNew, twiceFault, sourceFault, wantedFault}
+use Rattle.block_program_checks.specs.Checks.{firstSource, selectedAllowed, selectedFault, notAmong, isNew, twiceFault, Marked, sourceFault, wantedFault}
 use Rattle.block_program_checks.specs.Checks.{programFault, programAtFault, selectionWantedFault, selectionProgramFault, selectionProgramAtFault}
 use Rattle.block_program_checks.specs.Checks.{SelectionPasses}
 use Rattle.block_program_checks.proofs.BitsLaws.{bits-faultless, bits-at-front}
@@ -91,17 +91,17 @@ twice-faultless wanted = (
       (not-among wanted (getD wanted o 0) o .1 (λ p m q. absurd (omega (arith, once p o (omega arith) l q))))),
 )
 
--- ---- the marks of the inputs that the first i outputs want: input x has its mark at place x - 1
+-- inputs of a block are inputs of a larger one
+pub selected-within : {m N n : ℕ} {wanted : List ℕ} → m ≤ N → Selected m n wanted → Selected N n wanted
+selected-within l W = record { size = W .size; low = W .low; high = λ o k. omega (arith, W .high o k) }
 
-pub record Marked (wanted : List ℕ) (i : ℕ) (mark : List ℕ) : Type 0 where
-  pub size : length mark ≡ maxSize
-  pub each : (y : ℕ) → y < maxSize → getD mark y 0 ≡ cond (notAmong wanted (suc y) i) 0 1
+-- ---- the marks of the inputs that the first i outputs want
 
-pub marked-none : (wanted : List ℕ) → Marked wanted 0 (replicate maxSize 0)
+pub marked-none : (wanted : List ℕ) (places : ℕ) → Marked wanted 0 (replicate places 0)
 unfolding notAmong
-marked-none wanted = record { size = length-replicate {A = ℕ} maxSize 0; each = λ y l. getD-replicate maxSize y 0 0 l }
+marked-none wanted places = record { each = λ y l. getD-replicate places y 0 0 (rw (length-replicate {A = ℕ} places 0) at l) }
 
-module _ {wanted mark : List ℕ} {i x : ℕ} (M : Marked wanted i mark) (here : suc x ≡ getD wanted i 0) (fits : x < maxSize) where
+module _ {wanted mark : List ℕ} {i x : ℕ} (M : Marked wanted i mark) (here : suc x ≡ getD wanted i 0) (fits : x < length mark) where
   -- what a mark says of the next input
   mark-is : getD mark x 0 ≡ cond (isNew wanted i) 0 1
   mark-is = rw here at (M .each x fits)
@@ -123,10 +123,10 @@ module _ {wanted mark : List ℕ} {i x : ℕ} (M : Marked wanted i mark) (here :
   -- one more
   pub marked-more : Marked wanted (i + 1) (set mark x 1)
   unfolding notAmong
-  marked-more = record { size = simp length-set (M .size); each = λ y l. go y l (ℕ-discrete y x) }
+  marked-more = record { each = λ y l. go y (simp length-set at l) (ℕ-discrete y x) }
     where
-      go : (y : ℕ) → y < maxSize → Dec (y ≡ x) → getD (set mark x 1) y 0 ≡ cond (notAmong wanted (suc y) (i + 1)) 0 1
-      go y l (yes e) = rw (add-one i, eq-eqb (getD wanted i 0) (suc y) (omega arith), e) (getD-set-same mark x 1 0 (rw (M .size) fits))
+      go : (y : ℕ) → y < length mark → Dec (y ≡ x) → getD (set mark x 1) y 0 ≡ cond (notAmong wanted (suc y) (i + 1)) 0 1
+      go y l (yes e) = rw (add-one i, eq-eqb (getD wanted i 0) (suc y) (omega arith), e) (getD-set-same mark x 1 0 fits)
       go y l (no n) = rw (add-one i, ne-eqb (getD wanted i 0) (suc y) (λ q. n (omega arith))) (getD-set-other mark x y 1 0 n ∙ M .each y l)
 
 -- ---- P(N)

@@ -1,7 +1,8 @@
 -- Document 01, block library, programming: "Checks: 2 if P's N is not a power of two from 1 to 512, or S's m not 1 to 512; 4 if n is not 1 to
 -- 512; 12 if the list has another length; 9 if a wanted input is not in 1 to m (or N) or, in P, comes twice; 11."
-use Prim.Native.Nat.{ℕ, zero, suc, _+_, _≤_}
-use mathlib.Core.Bool.{Bool, true, _&&_, not}
+use Prim.Native.Nat.{ℕ, zero, suc, _+_, _≤_, _<_}
+use mathlib.Core.Path.{_≡_}
+use mathlib.Core.Bool.{Bool, true, cond, _&&_, not}
 use mathlib.Core.List.{List}
 use lib.Dec.{leb, eqb}
 use lib.ListN.{length, getD}
@@ -39,6 +40,10 @@ isNew wanted o = notAmong wanted (getD wanted o 0) o
 -- 9: a wanted input comes twice
 unfoldable pub twiceFault : List ℕ → ℕ
 twiceFault wanted = firstSource (isNew wanted) (length wanted)
+
+-- the marks of the inputs that the first i outputs want: input x has its mark at place x - 1
+pub record Marked (wanted : List ℕ) (i : ℕ) (mark : List ℕ) : Type 0 where
+  pub each : (y : ℕ) → y < length mark → getD mark y 0 ≡ cond (notAmong wanted (suc y) i) 0 1
 
 -- ---- P(N)
 

@@ -1,6 +1,5 @@
 -- `block_program_checks::permutation::check_sources` meets its contract: whether an input comes twice is asked where all are in range. Assumes nothing.
 use mathlib.Core.Path.{_≡_, sym}
-use native.Mathlib.Omega.{arith}
 use borrow.Author.Needs.{needs}
 use Rattle.fault.proofs.ChecksLaws.{stop, _then_, answer-passes, answer-refuses}
 use Rattle.block_program_checks.specs.Checks.{selectedFault, sourceFault}
@@ -14,9 +13,8 @@ none c = answer-passes (c .enum-told .given .1) (c .before .before .check-select
 
 in-range : tie.Need-check-once-requires
 in-range c κs =
-    let a = c .before .before .before .before .args in
-    let W = selected-faultless (a .n) (a .wanted .now) .0 (sym (none c)) in
-    record { size = W .size; low = W .low; high = λ o l. omega (arith, W .high o l) }
+    let s = c .before .before .before .before in
+    (selected-faultless (s .args .n) (s .args .wanted .now) .0 (sym (none c)), s .pre)
 
 refused : tie.Need-returns
 unfolding sourceFault
