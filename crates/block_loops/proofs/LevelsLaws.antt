@@ -11,7 +11,7 @@ use borrow.Rule.Slice.PartMut.{midOf, mid-len}
 use Rattle.lists.proofs.ListsLaws.{length-listOf}
 use Rattle.lists.specs.Lists.{listOf}
 use Rattle.block_elements.specs.Bits.{AreBits, setBit, storeBits}
-use Rattle.block_elements.proofs.BitsLaws.{AreBytes, bits-listOf}
+use Rattle.block_elements.proofs.BitsLaws.{AreBytes}
 use Rattle.block_bits.proofs.StoreLaws.{store-level}
 use Rattle.block_networks.specs.Permutation.{permutationCount, partner, iterate, walk, key, least, lowest, side, permutationBits}
 use Rattle.block_networks.specs.Wanted.{takerOf}
@@ -20,7 +20,7 @@ use Rattle.block_sizes.specs.Sizes.{maxSize, maxLevel}
 use Rattle.block_sizes.proofs.SizesLaws.{power-small}
 use Rattle.block_loops.specs.Mappings.{mapOf, IsPerm, inverseOf, listBits, inputSides, outputSides, halfList, inverseList, sidesOf, Levelled}
 use Rattle.block_loops.specs.Levels.{LevelBuffers, BlockBuffers, HalfBuffers}
-use Rattle.block_loops.proofs.MappingsLaws.{half-size, half-listed, level-bits, length-listBits, listBits-bits, sides-bits}
+use Rattle.block_loops.proofs.MappingsLaws.{half-size, half-listed, level-bits, length-listBits, listBits-bits, sides-bits, inputs-bits, bits-take}
 
 -- a block that has halves
 pub record Halving (level N : ℕ) : Type 0 where
@@ -111,8 +111,8 @@ module _ {p scratch before after : List ℕ} {start part level a b : ℕ} (P : I
         let D = listBits n (halfList 1 p (sidesOf p)) in
         let O = outputSides (sidesOf p) in
         let S = sides-bits (length p / 2) (sym (H .even)) P in
-        let hI : AreBits I = bits-listOf _ (λ j. S .each _) in
-        let hO : AreBits O = bits-listOf _ (λ j. S .each _) in
+        let hI : AreBits I = inputs-bits (inverseList p) (sidesOf p) in
+        let hO : AreBits O = bits-take (length (sidesOf p) - 1) S in
         let hU : AreBits U = listBits-bits n (half-size (length p / 2) (sym (H .even)) P 0 ∙ H .half) (half-listed (length p / 2) (sym (H .even)) P 0 (omega arith)) in
         let hD : AreBits D = listBits-bits n (half-size (length p / 2) (sym (H .even)) P 1 ∙ H .half) (half-listed (length p / 2) (sym (H .even)) P 1 (omega arith)) in
         let li : length I ≡ length p / 2 = length-listOf _ _ ∙ ap (λ k. k / 2) (length-listOf (length p) (inverseOf p)) in

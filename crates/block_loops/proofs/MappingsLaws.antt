@@ -1,31 +1,38 @@
 -- A list that is given place by place is a one-to-one mapping if its function is one, with the same program bits. So the bits of a level
 -- are those of its input rows, of the two halves' lists, and of its output rows.
 use mathlib.Core.Path.{_≡_, refl, sym, ap, _∙_, fun-ext}
+use mathlib.Core.Logic.{_⊎_, inl, inr}
 use mathlib.Core.List.{List, _++_}
 use Prim.Native.Nat.{ℕ, suc, _+_, _-_, _*_, _/_, _%_, _^_, _≤_, _<_}
 use native.Mathlib.Nat.{ne-of-lt}
-use native.Mathlib.Decide.{decLt}
+use native.Mathlib.Decide.{ℕ-discrete, decLt}
 use native.Mathlib.Omega.{arith}
-use lib.ListN.{length, getD, set, length-set}
-use lib.Seq.{ext-getD, getD-set-same, getD-set-other}
-use Rattle.lists.specs.Lists.{listOf}
-use Rattle.lists.proofs.ListsLaws.{length-listOf, getD-listOf, getD-listOf-all, listOf-ext}
+use lib.ListN.{length, getD, set, take, drop, length-set, length-append, length-take, List·getD-append, List·getD-eq-default}
+use lib.Seq.{ext-getD, getD-set-same, getD-set-other, getD-append-add, getD-take, take-at, drop-at, take-take}
+use Rattle.lists.specs.Lists.{listOf, Below}
+use Rattle.lists.proofs.ListsLaws.{length-listOf, getD-listOf, getD-listOf-all, listOf-ext, listOf-front, below-listOf}
 use Rattle.block_elements.specs.Bits.{AreBits, storeBits}
-use Rattle.block_elements.proofs.BitsLaws.{bits-listOf}
+use Rattle.block_elements.proofs.BitsLaws.{bits-append, bits-listOf}
+use Rattle.block_bits.specs.Stores.{lowBits}
+use Rattle.block_bits.proofs.PackingLaws.{lowBits-same}
 use Rattle.block_networks.specs.Permutation.{Perm, side, pick, inHalf, permutationCount, permutationBits}
-use Rattle.block_networks.proofs.Loops.{flipped, perm-inj, perm-lt}
+use Rattle.block_networks.proofs.Loops.{parity, flipped, perm-inj, perm-lt}
 use Rattle.block_networks.proofs.Halves.{half-perm, side-lt, output-sides}
 use Rattle.block_networks.proofs.Routing.{length-permutationBits, permutationBits-bits}
 use Rattle.block_networks.specs.Wanted.{takerOf}
 use Rattle.block_networks.proofs.WantedLaws.{taker-perm}
-use Rattle.block_loops.specs.Mappings.{mapOf, inverseOf, IsPerm, listBits, Paired, sideIn, inverseList, inputSides, outputSides, halfList, sidesOf, Levelled}
-use Rattle.block_loops.specs.Levels.{LevelBuffers, SidesKnown}
-use Rattle.block_loops.proofs.MarkingLaws.{read-map}
+use Rattle.block_loops.specs.Mappings.{mapOf, inverseOf, IsPerm, listBits, Paired, sideIn, pairSide, sideList, sideFrom, inverseList, inputSides, outputSides, rowSides, rowsStored, halfEntry, halfList, sidesOf, Levelled}
+use Rattle.block_loops.proofs.MarkingLaws.{read-map, side-first}
 
 -- ---- lists given place by place
 
 same-listOf : {j k : ℕ} {f g : ℕ → ℕ} → j ≡ k → ((i : ℕ) → i < k → f i ≡ g i) → listOf j f ≡ listOf k g
 same-listOf {j} {k} {f} {g} e h = ap (λ n. listOf n f) e ∙ listOf-ext k f g h
+
+take-listOf : (f : ℕ → ℕ) (j k : ℕ) → j ≤ k → take j (listOf k f) ≡ listOf j f
+take-listOf f j k l =
+    let t = listOf-front f {j = j} k l in
+    ap (take j) (t .1) ∙ take-at (listOf j f) (t .0) j (length-listOf j f)
 
 map-listOf : (n : ℕ) (f : ℕ → ℕ) → ((i : ℕ) → n ≤ i → f i ≡ i) → mapOf (listOf n f) ≡ f
 unfolding mapOf
@@ -106,28 +113,32 @@ module _ (h : ℕ) {p : List ℕ} (lp : length p ≡ 2 * h) (P : IsPerm p) where
   side-is = rw (map-inverse, halved)
 
   pub sides-bits : AreBits (sidesOf p)
-  sides-bits = bits-listOf (length p) (rw side-is (side-lt (side h (mapOf p) (inverseOf p)) (output-sides h perm₂)))
+  sides-bits = bits-listOf (length p / 2) (λ i. rw side-is (side-lt (side h (mapOf p) (inverseOf p)) (output-sides h perm₂) (2 * i)))
 
-  side-at : (x : ℕ) → x < 2 * h → getD (sidesOf p) x 0 ≡ side h (mapOf p) (inverseOf p) x
-  side-at x l = getD-listOf (length p) (sideIn p (inverseList p)) x 0 (rw lp l) ∙ ap (λ (f : ℕ → ℕ). f x) side-is
+  side-at : (i : ℕ) → i < h → getD (sidesOf p) i 0 ≡ side h (mapOf p) (inverseOf p) (2 * i)
+  side-at i l = getD-listOf (length p / 2) (pairSide p (inverseList p)) i 0 (rw halved l) ∙ ap (λ (f : ℕ → ℕ). f (2 * i)) side-is
+
+  from-is : (o : ℕ) → o < 2 * h → sideFrom (sidesOf p) o ≡ side h (mapOf p) (inverseOf p) o
+  from-is o l = ap (λ y. (y + o % 2) % 2) (side-at (o / 2) (omega arith)) ∙ sym (side-first h perm₂ o)
 
   inputs-are : inputSides (inverseList p) (sidesOf p) ≡ listOf h (λ j. side h (mapOf p) (inverseOf p) (inverseOf p (2 * j)))
   inputs-are =
       same-listOf (ap (λ n. n / 2) (length-listOf (length p) (inverseOf p)) ∙ halved) (λ j l.
-      ap (λ x. getD (sidesOf p) x 0) (getD-listOf (length p) (inverseOf p) (2 * j) 0 (omega arith))
-      ∙ side-at (inverseOf p (2 * j)) (perm-lt (flipped perm₂) (2 * j) (omega arith)))
+      ap (sideFrom (sidesOf p)) (getD-listOf (length p) (inverseOf p) (2 * j) 0 (omega arith))
+      ∙ from-is (inverseOf p (2 * j)) (perm-lt (flipped perm₂) (2 * j) (omega arith)))
 
   outputs-are : outputSides (sidesOf p) ≡ listOf (h - 1) (λ i. side h (mapOf p) (inverseOf p) (2 * i))
   outputs-are =
-      same-listOf (ap (λ n. n / 2 - 1) (length-listOf (length p) (sideIn p (inverseList p))) ∙ ap (λ n. n - 1) halved) (λ i l.
-      side-at (2 * i) (omega arith))
+      ap (λ n. take (n - 1) (sidesOf p)) (length-listOf (length p / 2) (pairSide p (inverseList p)))
+      ∙ take-listOf (pairSide p (inverseList p)) (length p / 2 - 1) (length p / 2) (omega arith)
+      ∙ same-listOf (ap (λ n. n - 1) halved) (λ i l. ap (λ (f : ℕ → ℕ). f (2 * i)) side-is)
 
   half-is : (c : ℕ) → halfList c p (sidesOf p) ≡ listOf h (inHalf (mapOf p) (side h (mapOf p) (inverseOf p)) c)
   unfolding inHalf pick
   half-is c =
       same-listOf halved (λ i l.
       let s = side h (mapOf p) (inverseOf p) (2 * i) in
-      ap (λ y. getD p (2 * i + (y + c) % 2) 0 / 2) (side-at (2 * i) (omega arith))
+      ap (λ y. getD p (2 * i + (y + c) % 2) 0 / 2) (side-at i l)
       ∙ ap (λ y. y / 2) (read-map p (2 * i + (s + c) % 2) (omega arith)))
 
   pub half-size : (c : ℕ) → length (halfList c p (sidesOf p)) ≡ h
@@ -151,27 +162,131 @@ level-bits n lp P =
     rw (inputs-are h lp P, outputs-are h lp P, half-bits h lp P n 0 (omega arith), half-bits h lp P n 1 (omega arith))
     (unfold listBits permutationBits in refl)
 
+-- ---- two lists of h entries, one behind the other, store by store
+
+pub record Filled (h : ℕ) (f g : ℕ → ℕ) (w : List ℕ) (i j : ℕ) : Type 0 where
+  pub size : length w ≡ 2 * h
+  pub upper : (x : ℕ) → x < i → getD w x 0 ≡ f x
+  pub lower : (x : ℕ) → x < j → getD w (h + x) 0 ≡ g x
+
+module _ {h : ℕ} {f g : ℕ → ℕ} {w : List ℕ} {i j : ℕ} (W : Filled h f g w i j) where
+  pub upper-more : {v : ℕ} → i < h → v ≡ f i → Filled h f g (set w i v) (i + 1) j
+  upper-more {v} l e =
+      record {
+        size = length-set w i v ∙ W .size;
+        upper = λ x d. go x d (ℕ-discrete x i);
+        lower = λ x d. getD-set-other w i (h + x) v 0 (λ c. absurd (omega arith)) ∙ W .lower x d;
+      }
+    where
+      go : (x : ℕ) → x < i + 1 → Dec (x ≡ i) → getD (set w i v) x 0 ≡ f x
+      go x d (yes c) = rw c (getD-set-same w i v 0 (omega (arith, W .size)) ∙ e)
+      go x d (no n) = getD-set-other w i x v 0 n ∙ W .upper x (omega arith)
+
+  pub lower-more : {v : ℕ} → i ≤ h → j < h → v ≡ g j → Filled h f g (set w (h + j) v) i (j + 1)
+  lower-more {v} b l e =
+      record {
+        size = length-set w (h + j) v ∙ W .size;
+        upper = λ x d. getD-set-other w (h + j) x v 0 (λ c. absurd (omega arith)) ∙ W .upper x d;
+        lower = λ x d. go x d (ℕ-discrete x j);
+      }
+    where
+      go : (x : ℕ) → x < j + 1 → Dec (x ≡ j) → getD (set w (h + j) v) (h + x) 0 ≡ g x
+      go x d (yes c) = rw c (getD-set-same w (h + j) v 0 (omega (arith, W .size)) ∙ e)
+      go x d (no n) = getD-set-other w (h + j) (h + x) v 0 (λ c. n (omega arith)) ∙ W .lower x (omega arith)
+
+  pub filled-all : h ≤ i → h ≤ j → w ≡ listOf h f ++ listOf h g
+  filled-all bi bj =
+      ext-getD 0 w (listOf h f ++ listOf h g) (W .size ∙ sym both) (λ x d. go x (rw (W .size) at d) (decLt x h))
+    where
+      lf : length (listOf h f) ≡ h
+      lf = length-listOf h f
+
+      both : length (listOf h f ++ listOf h g) ≡ 2 * h
+      both = length-append (listOf h f) (listOf h g) ∙ omega (arith, lf, length-listOf h g)
+
+      go : (x : ℕ) → x < 2 * h → Dec (x < h) → getD w x 0 ≡ getD (listOf h f ++ listOf h g) x 0
+      go x d (yes l) =
+          W .upper x (omega arith)
+          ∙ sym (List·getD-append (listOf h f) (listOf h g) 0 x (rw lf l) ∙ getD-listOf h f x 0 l)
+      go x d (no n) =
+          let k : h + (x - h) ≡ x = omega arith in
+          let k′ : length (listOf h f) + (x - h) ≡ x = omega (arith, lf) in
+          ap (λ y. getD w y 0) (sym k) ∙ W .lower (x - h) (omega arith)
+          ∙ sym (ap (λ y. getD (listOf h f ++ listOf h g) y 0) (sym k′) ∙ getD-append-add (listOf h f) (listOf h g) (x - h) 0
+          ∙ getD-listOf h g (x - h) 0 (omega arith))
+
 -- ---- what the calls of a level hand on
 
-pub sides-known : {p q m : List ℕ} {a b : ℕ} → IsPerm p → LevelBuffers (length p) a b → q ≡ inverseList p → m ≡ sidesOf p → SidesKnown q m
-sides-known {p} P room eq em =
-    let li = length-listOf (length p) (inverseOf p) in
-    let ls = length-listOf (length p) (sideIn p (inverseList p)) in
-    rw (eq, em) (record {
-      size = li ∙ sym ls;
-      some = rw ls (room .some);
-      within = λ x l. let d = rw li at l in rw (ls, getD-listOf (length p) (inverseOf p) x 0 d) (perm-lt (flipped (P .perm)) x d);
-      bits = sides-bits (length p / 2) (sym (room .even)) P;
-    })
+pub inputs-bits : (q m : List ℕ) → AreBits (inputSides q m)
+inputs-bits q m = bits-listOf (length q / 2) (λ j. omega arith)
 
-pub levelled : {p q m maps before after : List ℕ} {start part : ℕ} → q ≡ inverseList p → m ≡ sidesOf p
-    → after ≡ storeBits (storeBits before start (inputSides q m)) (start + length m / 2 + part + part) (outputSides m)
-    → maps ≡ halfList 0 p m ++ halfList 1 p m → Levelled p maps start part before after
-levelled {p} {q} {m} {maps} {before} {after} {start} {part} eq em stored halved =
-    let all = rw (em, eq) at stored in
-    record {
-      halved = rw em at halved;
-      stored =
-          all ∙ ap (λ n. storeBits (storeBits before start (inputSides (inverseList p) (sidesOf p))) (start + n / 2 + part + part) (outputSides (sidesOf p)))
-          (length-listOf (length p) (sideIn p (inverseList p)));
-    }
+pub bits-take : (n : ℕ) {m : List ℕ} → AreBits m → AreBits (take n m)
+bits-take n {m} h = record { each = λ i. go i (decLt i n) }
+  where
+    go : (i : ℕ) → Dec (i < n) → getD (take n m) i 0 < 2
+    go i (yes l) = rw (getD-take n m i 0 l) (h .each i)
+    go i (no f) = rw (List·getD-eq-default (take n m) 0 {n = i} (omega (arith, length-take n m))) (omega arith)
+
+-- an entry of a half's mapping, by the side of its pair
+pub half-entry : (c : ℕ) (p m : List ℕ) (i : ℕ) {r : ℕ} → ((getD m i 0 + c) % 2 ≡ 0 → r ≡ getD p (2 * i) 0 / 2)
+    → ((getD m i 0 + c) % 2 ≡ 1 → r ≡ getD p (2 * i + 1) 0 / 2) → r ≡ halfEntry c p m i
+half-entry c p m i {r} first second = go (parity (getD m i 0 + c))
+  where
+    go : ((getD m i 0 + c) % 2 ≡ 0) ⊎ ((getD m i 0 + c) % 2 ≡ 1) → r ≡ halfEntry c p m i
+    go (inl e) = first e ∙ ap (λ k. getD p k 0 / 2) (omega (arith, e))
+    go (inr e) = second e ∙ ap (λ k. getD p (2 * i + k) 0 / 2) (sym e)
+
+pub takers-below : {p : List ℕ} → IsPerm p → Below (length p) (inverseList p)
+takers-below {p} P = below-listOf (length p) (length p) (inverseOf p) (perm-lt (flipped (P .perm)))
+
+-- the sides as they are found: the output pairs' before the input pairs'
+pub rows-found : (p rest : List ℕ) {q m : List ℕ} → q ≡ inverseList p → m ≡ sideList p q → length (m ++ rest) ≡ length p
+    → rowSides q (take (length (m ++ rest) / 2) (m ++ rest)) ≡ rowSides (inverseList p) (sidesOf p)
+rows-found p rest {q} {m} eq em size =
+    let half : length m ≡ length (m ++ rest) / 2 = ap length em ∙ length-listOf (length p / 2) (pairSide p q) ∙ ap (λ n. n / 2) (sym size) in
+    ap (rowSides q) (take-at m rest (length (m ++ rest) / 2) half ∙ em) ∙ ap (λ l. rowSides l (sideList p l)) eq
+
+module _ {p : List ℕ} (P : IsPerm p) (even : 2 * (length p / 2) ≡ length p) where
+  abbrev h : ℕ
+  h = length p / 2
+
+  abbrev rows : List ℕ
+  rows = rowSides (inverseList p) (sidesOf p)
+
+  pub length-sides : length (sidesOf p) ≡ h
+  length-sides = length-listOf h (pairSide p (inverseList p))
+
+  length-inputs : length (inputSides (inverseList p) (sidesOf p)) ≡ h
+  length-inputs = length-listOf _ _ ∙ ap (λ n. n / 2) (length-listOf (length p) (inverseOf p))
+
+  half-rows : length rows / 2 ≡ h
+  half-rows = ap (λ n. n / 2) (length-append (sidesOf p) (inputSides (inverseList p) (sidesOf p))) ∙ omega (arith, length-sides, length-inputs)
+
+  front-rows : take h rows ≡ sidesOf p
+  front-rows = take-at (sidesOf p) (inputSides (inverseList p) (sidesOf p)) h length-sides
+
+  inputs-low : lowBits (drop h rows) ≡ inputSides (inverseList p) (sidesOf p)
+  inputs-low =
+      ap lowBits (drop-at (sidesOf p) (inputSides (inverseList p) (sidesOf p)) h length-sides)
+      ∙ lowBits-same (inputSides (inverseList p) (sidesOf p)) (inputs-bits (inverseList p) (sidesOf p))
+
+  outputs-low : lowBits (take (h - 1) rows) ≡ outputSides (sidesOf p)
+  outputs-low =
+      ap lowBits (sym (take-take (h - 1) h rows (omega arith)) ∙ ap (take (h - 1)) front-rows)
+      ∙ lowBits-same (take (h - 1) (sidesOf p)) (bits-take (h - 1) (sides-bits h (sym even) P))
+      ∙ ap (λ n. take (n - 1) (sidesOf p)) (sym length-sides)
+
+  pub rows-bits : AreBits rows
+  rows-bits = bits-append (sides-bits h (sym even) P) (inputs-bits (inverseList p) (sidesOf p))
+
+  pub levelled : {w maps before after : List ℕ} {start part n : ℕ} → n ≡ h → w ≡ rows → after ≡ rowsStored before start part w
+      → maps ≡ halfList 0 p (take n w) ++ halfList 1 p (take n w) → Levelled p maps start part before after
+  levelled {w} {maps} {before} {after} {start} {part} {n} en ew stored maps-are =
+      record {
+        halved = maps-are ∙ ap (λ m. halfList 0 p m ++ halfList 1 p m) (ap (take n) ew ∙ ap (λ k. take k rows) en ∙ front-rows);
+        stored =
+            stored ∙ ap (rowsStored before start part) ew
+            ∙ ap (λ n. storeBits (storeBits before start (lowBits (drop n rows))) (start + n + part + part) (lowBits (take (n - 1) rows))) half-rows
+            ∙ ap (λ b. storeBits (storeBits before start b) (start + h + part + part) (lowBits (take (h - 1) rows))) inputs-low
+            ∙ ap (storeBits (storeBits before start (inputSides (inverseList p) (sidesOf p))) (start + h + part + part)) outputs-low;
+      }

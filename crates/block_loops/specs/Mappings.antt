@@ -2,9 +2,10 @@
 use Prim.Native.Nat.{ℕ, _+_, _-_, _*_, _/_, _%_}
 use mathlib.Core.Path.{_≡_}
 use mathlib.Core.List.{List, _++_}
-use lib.ListN.{length, getD}
+use lib.ListN.{length, getD, take, drop}
 use Rattle.lists.specs.Lists.{listOf}
 use Rattle.block_elements.specs.Bits.{storeBits}
+use Rattle.block_bits.specs.Stores.{lowBits}
 use Rattle.block_networks.specs.Permutation.{Perm, walk, side, permutationBits}
 use Rattle.block_networks.specs.Wanted.{takerOf}
 
@@ -44,39 +45,49 @@ sideIn p q = side (length p / 2) (mapOf p) (mapOf q)
 abbrev pub inverseList : List ℕ → List ℕ
 inverseList p = listOf (length p) (inverseOf p)
 
--- the list of the outputs' halves
-abbrev pub sideList : List ℕ → List ℕ → List ℕ
-sideList p q = listOf (length p) (sideIn p q)
+-- the half of pair i's first output; its second comes through the other half
+abbrev pub pairSide : List ℕ → List ℕ → ℕ → ℕ
+pairSide p q i = sideIn p q (2 * i)
 
--- from the inverse q and the halves m: the bit of input row j, which is the half of its pair's first input
+-- the list of the output pairs' halves
+abbrev pub sideList : List ℕ → List ℕ → List ℕ
+sideList p q = listOf (length p / 2) (pairSide p q)
+
+-- the half of output o, from the pairs' halves m
+abbrev pub sideFrom : List ℕ → ℕ → ℕ
+sideFrom m o = (getD m (o / 2) 0 + o % 2) % 2
+
+-- from the inverse q and the pairs' halves m: the bit of input row j, which is the half of its pair's first input
 abbrev pub inputSide : List ℕ → List ℕ → ℕ → ℕ
-inputSide q m j = getD m (getD q (2 * j) 0) 0
+inputSide q m j = sideFrom m (getD q (2 * j) 0)
 
 -- the bits of the input rows
 abbrev pub inputSides : List ℕ → List ℕ → List ℕ
 inputSides q m = listOf (length q / 2) (inputSide q m)
 
--- the bit of output row i, which is the half of its pair's first output
-abbrev pub outputSide : List ℕ → ℕ → ℕ
-outputSide m i = getD m (2 * i) 0
+-- the halves of all rows' pairs: the output pairs', and behind them the input pairs'
+abbrev pub rowSides : List ℕ → List ℕ → List ℕ
+rowSides q m = m ++ inputSides q m
 
 -- the bits of the output rows; the last pair has no row
 abbrev pub outputSides : List ℕ → List ℕ
-outputSides m = listOf (length m / 2 - 1) (outputSide m)
+outputSides m = take (length m - 1) m
 
--- the program when a level's own rows are stored: the input rows' bits from bit `start` on, the output rows' behind two halves of `part` rows
-abbrev pub rowsStored : List ℕ → ℕ → ℕ → List ℕ → List ℕ → List ℕ
-rowsStored before start part q m = storeBits (storeBits before start (inputSides q m)) (start + length m / 2 + part + part) (outputSides m)
+-- the program when a level's own rows are stored, from the halves w of all rows' pairs: the input rows' bits from bit `start` on, the output
+-- rows' behind two halves of `part` rows
+abbrev pub rowsStored : List ℕ → ℕ → ℕ → List ℕ → List ℕ
+rowsStored before start part w =
+    storeBits (storeBits before start (lowBits (drop (length w / 2) w))) (start + length w / 2 + part + part) (lowBits (take (length w / 2 - 1) w))
 
--- from the mapping p and the halves m: entry i of the mapping that is left to the half c
+-- from the mapping p and the pairs' halves m: entry i of the mapping that is left to the half c
 abbrev pub halfEntry : ℕ → List ℕ → List ℕ → ℕ → ℕ
-halfEntry c p m i = getD p (2 * i + (getD m (2 * i) 0 + c) % 2) 0 / 2
+halfEntry c p m i = getD p (2 * i + (getD m i 0 + c) % 2) 0 / 2
 
 -- that mapping
 abbrev pub halfList : ℕ → List ℕ → List ℕ → List ℕ
 halfList c p m = listOf (length p / 2) (halfEntry c p m)
 
--- the halves of a mapping's outputs
+-- the halves of a mapping's output pairs
 abbrev pub sidesOf : List ℕ → List ℕ
 sidesOf p = sideList p (inverseList p)
 

@@ -1,34 +1,60 @@
--- `block_permutation_bits::level::half_maps` meets its contract: two lists of half the length fill the room. Assumes nothing.
+-- `block_permutation_bits::level::half_maps` meets its contract. The loop's invariant: the first i entries of both halves are stored. Assumes nothing.
 use mathlib.Core.Path.{_≡_, sym, ap, _∙_}
-use Prim.Native.Nat.{_/_}
+use mathlib.Core.List.{_++_}
+use Prim.Native.Nat.{_+_, _-_, _/_, _≤_}
+use native.Mathlib.Omega.{arith}
 use borrow.Author.Needs.{needs}
-use lib.ListN.{length}
-use lib.Seq.{sets}
-use Rattle.lists.proofs.ListsLaws.{length-listOf}
-use Rattle.block_bits.proofs.StoreLaws.{sets-halves}
-use Rattle.block_loops.specs.Mappings.{halfList, halfEntry}
+use lib.ListN.{length, length-set}
+use Rattle.lists.specs.Lists.{listOf}
+use Rattle.block_loops.specs.Mappings.{halfEntry}
+use Rattle.block_loops.proofs.MappingsLaws.{Filled, upper-more, lower-more, filled-all, half-entry}
 use Rattle.block_permutation_bits.proofs.level.half_maps.Statement.{statement}
 use Rattle.block_permutation_bits.proofs.level.half_maps.Tie as tie
 
--- the way back from the upper half's mapping to the start
-abbrev start : tie.After-half-map → tie.Start
-start c = c .before .before .before .before .before
+abbrev Inv-loop : tie.InvT-loop
+Inv-loop perm mark maps₀ pairs i₀ maps i = (i ≤ pairs) × Filled pairs (halfEntry 0 perm mark) (halfEntry 1 perm mark) maps i i
 
-both : tie.Need-returns
-both c =
-    let upper-half = c .before .before .before .before .before .before in
-    let s = start upper-half in
+abbrev μ-loop : tie.MeasureT-loop
+μ-loop perm mark maps₀ pairs i₀ maps i = pairs - i
+
+loop-holds : tie.Need-loop-holds Inv-loop μ-loop
+loop-holds c = (omega arith, record { size = omega arith; upper = λ x l. absurd (omega arith); lower = λ x l. absurd (omega arith) })
+
+slice-write-maps : tie.Need-slice-write-maps Inv-loop μ-loop
+slice-write-maps c = search needs
+
+slice-write-maps-2 : tie.Need-slice-write-maps-2 Inv-loop μ-loop
+slice-write-maps-2 c = simp length-set (omega arith)
+
+loop-again : tie.Need-loop-again Inv-loop μ-loop
+loop-again c =
+    let at = c .before .before .before .before .before .before in
+    let s = at .before .before .before .before in
     let p = s .args .perm .now in
     let m = s .args .mark .now in
-    let old = s .args .maps .now in
-    let h = length p / 2 in
-    let room = s .pre in
-    let first = upper-half .half-map in
-    let upper : first .last .1 .1 .1 .0 ≡ sets old 0 (halfList 0 p m) = first .ensures in
-    let lower : c .before .before .half-map2 .last .1 .1 .1 .0 ≡ sets (first .last .1 .1 .1 .0) h (halfList 1 p m) = c .before .before .half-map2 .ensures in
-    lower ∙ ap (λ l. sets l h (halfList 1 p m)) upper
-    ∙ sets-halves old (halfList 0 p m) (halfList 1 p m) h (room .scratchSize ∙ sym (room .even))
-    (length-listOf h (halfEntry 0 p m)) (length-listOf h (halfEntry 1 p m))
+    let i = at .loop .i in
+    let bit = s .pre .0 .each i in
+    let first = c .before .of-side .ensures in
+    let second = c .of-side2 .ensures in
+    let upper = half-entry 0 p m i (λ e. first .0 (omega arith)) (λ e. first .1 (λ z. absurd (omega arith))) in
+    let lower = half-entry 1 p m i (λ e. second .1 (λ z. absurd (omega arith))) (λ e. second .0 (omega arith)) in
+    (omega arith, lower-more (upper-more (at .loop .inv .1) (omega arith) upper) (omega arith) (omega arith) lower)
+
+same-length : tie.Need-same-length Inv-loop μ-loop
+same-length c = search needs
+
+returns : tie.Need-returns Inv-loop μ-loop
+returns c =
+    let a = c .before .before .before .before .before .args in
+    let p = a .perm .now in
+    let m = a .mark .now in
+    let e : length m ≡ length p / 2 = omega arith in
+    filled-all (c .before .loop .inv .1) (omega arith) (omega arith) ∙ ap (λ n. listOf n (halfEntry 0 p m) ++ listOf n (halfEntry 1 p m)) e
 
 pub half-maps-spec : {M : Type 1} → statement M
-half-maps-spec = tie.close (tie.spec (λ c κs. search needs) (λ c κs. search needs) (λ c. search needs) both)
+half-maps-spec =
+    tie.close
+    (tie.spec Inv-loop μ-loop
+    loop-holds (λ c. search needs) (λ c. search needs) (λ c. search needs) (λ c. search needs) (λ c. search needs) (λ c. search needs)
+    (λ c. search needs) (λ c. search needs) (λ c κs. search needs) (λ c. search needs) slice-write-maps (λ c κs. search needs) (λ c. search needs)
+    (λ c. search needs) slice-write-maps-2 (λ c. search needs) (λ c. search needs) loop-again same-length returns)

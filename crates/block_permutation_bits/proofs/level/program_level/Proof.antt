@@ -1,40 +1,59 @@
 -- `block_permutation_bits::level::program_level` meets its contract: sides, then the bits of the rows, then the halves' mappings. Assumes nothing.
-use mathlib.Core.Path.{_≡_, _∙_}
+use mathlib.Core.Path.{_≡_, sym, ap, _∙_}
+use Prim.Native.Nat.{_/_}
+use native.Mathlib.Omega.{arith}
 use borrow.Author.Needs.{needs}
 use lib.ListN.{length}
-use Rattle.block_loops.proofs.MappingsLaws.{sides-known, levelled}
+use lib.Seq.{length-take-le}
+use Rattle.block_loops.proofs.MappingsLaws.{bits-take, rows-bits, levelled}
 use Rattle.block_permutation_bits.proofs.level.program_level.Statement.{statement}
 use Rattle.block_permutation_bits.proofs.level.program_level.Tie as tie
 
--- the way back: from the halves' mappings to the stored rows; from where the sides are back to where they are found, to the start
-abbrev stored : tie.After-half-maps → tie.After-store-rows
-stored c = c .before .before .before .before .before
-
-abbrev back : tie.After-slice-known5 → tie.After-find-sides
-back c = c .before .before .before .before
-
-abbrev asked : tie.After-find-sides → tie.After-slice-known3
-asked c = c .before .before .before
+-- the way back from the stored rows to the sides, to the start
+abbrev sides : tie.After-store-rows → tie.After-find-sides
+sides c = c .before .before .before .before .before .before .before
 
 abbrev start : tie.After-find-sides → tie.Start
-start c = asked c .before .before .before .before
+start c = c .before .before .before .before .before .before .before
 
-for-rows : tie.Need-store-rows-requires
-for-rows c κs =
-    let sides = back (c .before .before .before) in
-    let s = start sides in
-    let found = sides .find-sides in
-    let marks : length (found .last .1 .1 .0) ≡ length (s .args .perm .now) = found .kept .1 .1 .0 ∙ s .pre .1 .0 .marksSize in
-    (sides-known (s .pre .0) (s .pre .1 .0) (found .ensures .0) (found .ensures .1), rw marks (s .pre .1 .1))
+-- as many marks as there were
+module _ (c : tie.After-find-sides) where
+  marks : length (c .find-sides .last .1 .1 .0) ≡ length (start c .args .mark .now)
+  marks = c .find-sides .kept .1 .1 .0
+
+front-size : tie.Need-slice-aggregate-half-maps
+front-size c =
+    let at = sides (c .before .before .before) in
+    sym (length-take-le _ _ (omega (arith, marks at)))
+
+for-halves : tie.Need-half-maps-requires
+for-halves c κs =
+    let at = sides (c .before .before .before .before) in
+    let s = start at in
+    let room = s .pre .1 .0 in
+    let n = length (s .args .mark .now) / 2 in
+    let size = length-take-le n (at .find-sides .last .1 .1 .0) (omega (arith, marks at)) in (
+      rw (at .find-sides .ensures) (bits-take n (rows-bits (s .pre .0) (room .even))),
+      record {
+        even = room .even;
+        some = room .some;
+        small = room .small;
+        scratchSize = at .find-sides .kept .1 .0 ∙ room .scratchSize;
+        marksSize = omega (arith, size, room .marksSize, room .even);
+      },
+    )
 
 done : tie.Need-returns
 done c =
-    let rows = stored (c .before .before) in
-    let found = back (rows .before .before .before .before) .find-sides .ensures in
-    levelled (found .0) (found .1) (rows .store-rows .ensures) (c .before .before .half-maps .ensures)
+    let halves = c .before .before in
+    let rows = halves .before .before .before .before .before in
+    let found = sides rows in
+    let s = start found in
+    let room = s .pre .1 .0 in
+    levelled (s .pre .0) (room .even) (ap (λ n. n / 2) (room .marksSize)) (found .find-sides .ensures) (rows .store-rows .ensures) (halves .half-maps .ensures)
 
 pub program-level-spec : {M : Type 1} → statement M
 program-level-spec =
     tie.close
     (tie.spec
-    (λ c κs. search needs) for-rows (λ c κs. search needs) (λ c. search needs) (λ c. search needs) (λ c. search needs) done)
+    (λ c κs. search needs) (λ c κs. search needs) (λ c. search needs) front-size for-halves (λ c. search needs) (λ c. search needs) (λ c. search needs) done)
