@@ -5,28 +5,35 @@ use mathlib.Core.List.{List}
 use Prim.Native.Nat.{ℕ, _+_, _-_, _≤_, _<_}
 use native.Mathlib.Decide.{ℕ-discrete, decLt}
 use native.Mathlib.Omega.{arith}
-use lib.ListN.{length, getD, set, take, drop, replicate, length-set, length-replicate, getD-replicate, List·getD-eq-default, List·getD-append}
+use lib.ListN.{length, getD, set, take, drop, replicate, length-replicate, getD-replicate, List·getD-eq-default, List·getD-append}
 use lib.Seq.{getD-set-same, getD-set-other, getD-append-add, getD-drop, take-at}
 use Rattle.lists.specs.Lists.{listOf}
 use Rattle.lists.proofs.ListsLaws.{length-listOf, getD-listOf}
 use Rattle.fault.specs.Buffers.{over}
 use Rattle.block_sizes.specs.Sizes.{maxSize}
-use Rattle.block_selection_bits.specs.Arrays.{PlacesHold, Blank}
+use Rattle.block_selection_bits.specs.Arrays.{PlacesFor, PlacesHold, Blank, ArraysFor}
 
-pub blank : Blank (replicate maxSize 0)
-blank = record { size = length-replicate {A = ℕ} maxSize 0; each = λ i. go i (decLt i maxSize) }
+pub blank : (places : ℕ) → Blank (replicate places 0)
+blank places = record { each = λ i. go i (decLt i places) }
   where
-    go : (i : ℕ) → Dec (i < maxSize) → _≡_ {A = ℕ} (getD (replicate maxSize 0) i 0) 0
-    go i (yes l) = getD-replicate maxSize i 0 0 l
-    go i (no l) = List·getD-eq-default (replicate maxSize 0) 0 {n = i} (rw (length-replicate {A = ℕ} maxSize 0) (omega arith))
+    go : (i : ℕ) → Dec (i < places) → _≡_ {A = ℕ} (getD (replicate places 0) i 0) 0
+    go i (yes l) = getD-replicate places i 0 0 l
+    go i (no l) = List·getD-eq-default (replicate places 0) 0 {n = i} (rw (length-replicate {A = ℕ} places 0) (omega arith))
+
+-- cleared arrays of so many places serve a block of no more positions
+pub cleared : {N : ℕ} (places : ℕ) → N ≤ places → places ≤ maxSize → ArraysFor N (replicate places 0) (replicate places 0) (replicate places 0)
+cleared {N} places enough most =
+    let e = length-replicate {A = ℕ} places 0 in
+    let room : PlacesFor N (length (replicate {A = ℕ} places 0)) = rw e (record { enough = enough; most = most }) in
+    record { countPlaces = room; headPlaces = room; listPlaces = room; noneCounted = blank places; noneListed = blank places }
 
 -- one place changes
-pub holds-set : {f g : ℕ → ℕ} {array : List ℕ} (i v : ℕ) → PlacesHold f array → i < maxSize → g i ≡ v → ((j : ℕ) → j ≢ i → g j ≡ f j)
+pub holds-set : {f g : ℕ → ℕ} {array : List ℕ} (i v : ℕ) → PlacesHold f array → i < length array → g i ≡ v → ((j : ℕ) → j ≢ i → g j ≡ f j)
     → PlacesHold g (set array i v)
-holds-set {f} {g} {array} i v H l here there = record { size = simp length-set (H .size); each = λ j. go j (ℕ-discrete j i) }
+holds-set {f} {g} {array} i v H l here there = record { each = λ j. go j (ℕ-discrete j i) }
   where
     go : (j : ℕ) → Dec (j ≡ i) → getD (set array i v) j 0 ≡ g j
-    go j (yes e) = rw e (getD-set-same array i v 0 (rw (H .size) l) ∙ sym here)
+    go j (yes e) = rw e (getD-set-same array i v 0 l ∙ sym here)
     go j (no d) = getD-set-other array i j v 0 d ∙ H .each j ∙ sym (there j d)
 
 -- what was written, and what stood past it

@@ -5,7 +5,7 @@ use Prim.Native.Nat.{ℕ, _+_, _≤_, _<_}
 use native.Mathlib.Nat.{add-zero, add-assoc}
 use native.Mathlib.Decide.{ℕ-discrete}
 use native.Mathlib.Omega.{arith}
-use lib.ListN.{length, getD, set, length-set}
+use lib.ListN.{length, getD, set}
 use lib.Seq.{getD-set-same, getD-set-other}
 use Rattle.lists.specs.Counting.{countOf}
 use Rattle.block_networks.specs.Wanted.{mapping}
@@ -17,16 +17,16 @@ use Rattle.block_selection_bits.specs.Arrays.{Demand, NextCopies}
 use Rattle.block_selection_bits.proofs.CountsLaws.{wanting-own, wanting-other}
 
 -- no copy is given yet
-pub copies-none : (wanted : List ℕ) {heads : List ℕ} → length heads ≡ maxSize
+pub copies-none : (wanted : List ℕ) {heads : List ℕ}
     → ((x : ℕ) → x < length wanted → getD heads (mapping wanted x) 0 ≡ headOf (mapping wanted) (length wanted) (mapping wanted x))
     → NextCopies wanted 0 heads
 unfolding wanting countOf
-copies-none wanted s h = record { size = s; each = λ l x m. h x m ∙ sym (add-zero _) }
+copies-none wanted h = record { each = λ l x m. h x m ∙ sym (add-zero _) }
 
-module _ {wanted heads : List ℕ} {o : ℕ} (W : Demand maxSize wanted) (C : NextCopies wanted o heads) where
+module _ {wanted heads : List ℕ} {o : ℕ} (W : Demand (length heads) wanted) (C : NextCopies wanted o heads) where
   -- past the wanted outputs nothing is given
   pub copies-past : length wanted ≤ o → NextCopies wanted (o + 1) heads
-  copies-past past = record { size = C .size; each = λ l x m. absurd (omega arith) }
+  copies-past past = record { each = λ l x m. absurd (omega arith) }
 
   module _ (l : o < length wanted) where
     abbrev j : ℕ
@@ -36,10 +36,10 @@ module _ {wanted heads : List ℕ} {o : ℕ} (W : Demand maxSize wanted) (C : Ne
     copy-is = C .each (omega arith) o l ∙ sym (copy-early (mapping wanted) (length wanted) o l)
 
     pub next-copy-lt : getD heads (mapping wanted o) 0 < maxSize
-    next-copy-lt = rw copy-is (omega (arith, copy-below (mapping wanted) (length wanted) o l, W .few))
+    next-copy-lt = rw copy-is (omega (arith, copy-below (mapping wanted) (length wanted) o l, W .few, W .most))
 
     pub copies-more : NextCopies wanted (o + 1) (set heads (mapping wanted o) (getD heads (mapping wanted o) 0 + 1))
-    copies-more = record { size = simp length-set (C .size); each = λ m x k. go x k (ℕ-discrete (mapping wanted x) j) }
+    copies-more = record { each = λ m x k. go x k (ℕ-discrete (mapping wanted x) j) }
       where
         want : ℕ → ℕ
         want = mapping wanted
@@ -51,7 +51,7 @@ module _ {wanted heads : List ℕ} {o : ℕ} (W : Demand maxSize wanted) (C : Ne
         new = set heads j (getD heads j 0 + 1)
 
         within : j < length heads
-        within = rw (C .size) (selected-lt (W .inputs) o l)
+        within = selected-lt (W .inputs) o l
 
         go : (x : ℕ) → x < length wanted → Dec (mapping wanted x ≡ j) → getD new (want x) 0 ≡ head (want x) + wanting want (o + 1) (want x)
         go x k (yes e) =

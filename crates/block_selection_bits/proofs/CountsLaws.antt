@@ -7,11 +7,10 @@ use native.Mathlib.Nat.{add-zero}
 use native.Mathlib.Numerals.{add-one}
 use borrow.Author.Tests.{eq-eqb, ne-eqb}
 use lib.Dec.{eqb}
-use lib.ListN.{getD, set}
+use lib.ListN.{length, getD, set}
 use Rattle.lists.specs.Counting.{countOf}
 use Rattle.lists.proofs.CountingLaws.{count-le}
 use Rattle.block_networks.specs.Selection.{wanting}
-use Rattle.block_sizes.specs.Sizes.{maxSize}
 use Rattle.block_selection_bits.specs.Arrays.{PlacesHold, Blank}
 use Rattle.block_selection_bits.proofs.ArraysLaws.{holds-set}
 
@@ -30,9 +29,9 @@ wanting-other want k j d = rw (add-one k, ne-eqb (want k) j (λ e. d (sym e))) (
 
 pub counted-none : (want : ℕ → ℕ) {counts : List ℕ} → Blank counts → PlacesHold (wanting want 0) counts
 unfolding wanting countOf
-counted-none want B = record { size = B .size; each = B .each }
+counted-none want B = record { each = B .each }
 
-pub wanting-counted : (want : ℕ → ℕ) {counts : List ℕ} (k : ℕ) → want k < maxSize → PlacesHold (wanting want k) counts
+pub wanting-counted : (want : ℕ → ℕ) {counts : List ℕ} (k : ℕ) → want k < length counts → PlacesHold (wanting want k) counts
     → PlacesHold (wanting want (k + 1)) (set counts (want k) (getD counts (want k) 0 + 1))
 wanting-counted want {counts} k l H =
     holds-set (want k) _ H l (wanting-own want k ∙ ap (λ c. c + 1) (sym (H .each (want k)))) (wanting-other want k)

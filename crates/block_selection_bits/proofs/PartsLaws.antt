@@ -30,13 +30,13 @@ use Rattle.block_networks.specs.Selection.{copies, isWanted, headOf, isHead, po
 use Rattle.block_networks.proofs.SelectionLaws.{selection-inputs-fit, selection-outputs-fit}
 use Rattle.block_networks.proofs.SelectionRouting.{selected-lt, selection-by-lists}
 use Rattle.block_networks.proofs.Heads.{head-le, first-perm, position-rule}
-use Rattle.block_sizes.specs.Sizes.{maxSize, levelOf, SizeIs}
+use Rattle.block_sizes.specs.Sizes.{levelOf, SizeIs}
 use Rattle.block_sizes.proofs.SizesLaws.{size-is, power-allowed, selection-level-small}
-use Rattle.block_program_checks.proofs.ChecksLaws.{program-at-succeeds}
+use Rattle.block_program_checks.proofs.ChecksLaws.{selected-within, program-at-succeeds}
 use Rattle.block_program_checks.specs.Checks.{SelectionPasses}
 use Rattle.block_permutation_bits.specs.ProgramCalls.{programAtResult}
 use Rattle.block_permutation_bits.proofs.ProgramLaws.{program-stored}
-use Rattle.block_selection_bits.specs.Arrays.{Demand, PlacesHold, isCounted, headBy, HeadsFit, positionBy, Positioned, NetworkRoom, PositionsFound}
+use Rattle.block_selection_bits.specs.Arrays.{Demand, PlacesFor, PlacesHold, isCounted, headBy, HeadsFit, positionBy, Positioned, NetworkRoom, PositionsFound}
 use Rattle.block_selection_bits.specs.Arrays.{networkBits, chainBitBy, chainBitsBy, firstBits, firstCount, secondNetworkBits}
 use Rattle.block_selection_bits.proofs.ArraysLaws.{over-front, over-taken}
 use Rattle.block_selection_bits.proofs.CopiesLaws.{copies-none}
@@ -81,8 +81,8 @@ module _ (want : ℕ → ℕ) (n : ℕ) {counts : List ℕ} (H : PlacesHold (cop
   head-is zero = refl
   head-is (suc j) = ap₂ _+_ (head-is j) (H .each j)
 
-  pub heads-fit : n ≤ maxSize → HeadsFit counts
-  heads-fit few = record { size = H .size; each = λ j. omega (arith, head-is j, head-le want n j) }
+  pub heads-fit : {N : ℕ} → n ≤ N → HeadsFit N counts
+  heads-fit few = record { each = λ j. omega (arith, head-is j, head-le want n j) }
 
   pub positioned : (N : ℕ) → n ≤ N → Positioned N counts
   positioned N fits =
@@ -94,30 +94,20 @@ module _ (want : ℕ → ℕ) (n : ℕ) {counts : List ℕ} (H : PlacesHold (cop
 
 -- ---- what is found
 
--- the wanted inputs of a block are wanted inputs of the largest
-pub demand-most : {N : ℕ} {wanted : List ℕ} → Demand N wanted → Demand maxSize wanted
-demand-most W = record {
-  inputs = record {
-    size = W .inputs .size;
-    low = W .inputs .low;
-    high = λ o l. omega (arith, W .inputs .high o l, W .most);
-  };
-  few = omega (arith, W .few, W .most);
-  most = omega arith;
-}
+-- the wanted inputs of a block have places
+pub demand-within : {N places : ℕ} {wanted : List ℕ} → PlacesFor N places → Demand N wanted → Demand places wanted
+demand-within P W = record { inputs = selected-within (P .enough) (W .inputs); few = omega (arith, W .few, P .enough); most = P .most }
 
 pub found : {N : ℕ} {wanted counts heads list : List ℕ} → Demand N wanted → PlacesHold (copies (mapping wanted) (length wanted)) counts
-    → (heads₀ list₀ : List ℕ) → length heads ≡ maxSize → length list ≡ maxSize
-    → heads ≡ over (listOf N (headBy counts)) heads₀ → list ≡ over (wantedOf N (takerOf N (positionBy counts N))) list₀
+    → (heads₀ list₀ : List ℕ) → heads ≡ over (listOf N (headBy counts)) heads₀ → list ≡ over (wantedOf N (takerOf N (positionBy counts N))) list₀
     → PositionsFound N wanted counts heads list
-found {N} {wanted} {counts} {heads} {list} W H heads₀ list₀ sh sl eh el =
+found {N} {wanted} {counts} {heads} {list} W H heads₀ list₀ eh el =
     let want = mapping wanted in
     let n = length wanted in record {
       counted = H;
-      headed = copies-none wanted sh (λ x l.
+      headed = copies-none wanted (λ x l.
           ap (λ a. getD a (mapping wanted x) 0) eh ∙ over-front N (headBy counts) heads₀ (mapping wanted x) (selected-lt (W .inputs) x l)
           ∙ head-is want n H (mapping wanted x));
-      listSize = sl;
       listed = over-taken N _ list₀ el ∙ ap (λ g. wantedOf N (takerOf N g)) (positions-are want n H N);
     }
 

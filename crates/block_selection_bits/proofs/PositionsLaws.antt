@@ -19,7 +19,6 @@ use Rattle.fault.specs.Buffers.{over}
 use Rattle.fault.proofs.BuffersLaws.{listOf-over}
 use Rattle.block_networks.specs.Wanted.{takerOf}
 use Rattle.block_networks.specs.Completion.{FilledBy}
-use Rattle.block_sizes.specs.Sizes.{maxSize}
 use Rattle.block_selection_bits.specs.Arrays.{PlacesHold, Blank, isCounted, headBy, HeadsFit, headInput, positionBy, Positioned, IdleFrom, NextIdle, PlacedNext}
 use Rattle.block_selection_bits.proofs.ArraysLaws.{holds-set, over-past}
 
@@ -29,28 +28,28 @@ pub head-more : (counts : List ℕ) (j : ℕ) → headBy counts j + getD counts 
 unfolding headBy
 head-more counts j = rw (add-one j)
 
-pub head-lt : {counts : List ℕ} → HeadsFit counts → (j : ℕ) → 0 < getD counts j 0 → headBy counts j < maxSize
-head-lt {counts} F j l = omega (arith, head-more counts j, F .each (j + 1))
+pub head-lt : {N : ℕ} {counts : List ℕ} → HeadsFit N counts → (j : ℕ) → 0 < getD counts j 0 → headBy counts j < N
+head-lt {counts = counts} F j l = omega (arith, head-more counts j, F .each (j + 1))
 
 pub heads-none : (counts : List ℕ) {list : List ℕ} → Blank list → PlacesHold (headInput counts 0) list
 unfolding headInput
-heads-none counts B = record { size = B .size; each = B .each }
+heads-none counts B = record { each = B .each }
 
 -- one input more
-pub heads-more : {counts list : List ℕ} → HeadsFit counts → (k : ℕ) → PlacesHold (headInput counts k) list
+pub heads-more : {N : ℕ} {counts list : List ℕ} → HeadsFit N counts → N ≤ length list → (k : ℕ) → PlacesHold (headInput counts k) list
     → PlacesHold (headInput counts (k + 1)) (cond (isCounted counts k) (set list (headBy counts k) (k + 1)) list)
 unfolding headInput
-heads-more {counts} {list} F k H = rw (add-one k) (go (passed (isCounted counts k)))
+heads-more {counts = counts} {list} F room k H = rw (add-one k) (go (passed (isCounted counts k)))
   where
     f : ℕ → ℕ
     f p = cond (isCounted counts k && eqb (headBy counts k) p) (suc k) (headInput counts k p)
 
     go : (isCounted counts k ≡ true) ⊎ (isCounted counts k ≡ false) → PlacesHold f (cond (isCounted counts k) (set list (headBy counts k) (suc k)) list)
     go (inl e) =
-        rw e (holds-set (headBy counts k) (suc k) H (head-lt F k (ltb-true 0 (getD counts k 0) e))
+        rw e (holds-set (headBy counts k) (suc k) H (omega (arith, head-lt F k (ltb-true 0 (getD counts k 0) e)))
         (rw (e, eq-eqb (headBy counts k) (headBy counts k) refl))
         (λ p d. rw (e, ne-eqb (headBy counts k) p (λ q. d (sym q)))))
-    go (inr e) = rw e (record { size = H .size; each = λ p. H .each p ∙ rw e })
+    go (inr e) = rw e (record { each = λ p. H .each p ∙ rw e })
 
 -- what stands at p once the first k inputs' heads are placed: an input whose head it is, or nothing, and no input has its head there
 pub record HeadHere (counts : List ℕ) (k p entry : ℕ) : Type 0 where
@@ -203,12 +202,12 @@ module _ {N : ℕ} {counts : List ℕ} (P : Positioned N counts) {old list : Lis
     | inr t ↦ idle-from P p l t few C
   ]
 
-  pub step-places : N ≤ maxSize → {new : List ℕ} {next : ℕ} → PlacedNext counts p from list new next
+  pub step-places : N ≤ length old → {new : List ℕ} {next : ℕ} → PlacedNext counts p from list new next
       → (Cursor counts N (p + 1) next) × (new ≡ over (listOf (p + 1) (takers counts N)) old)
   step-places few {new} {next} S = go (head-found counts N p)
     where
       more : set (over (listOf p (takers counts N)) old) p (takers counts N p) ≡ over (listOf (p + 1) (takers counts N)) old
-      more = listOf-over p (takers counts N) old (rw (H .size) (omega arith))
+      more = listOf-over p (takers counts N) old (omega arith)
 
       go : (HeadHere counts N p (headInput counts N p)) ⊎ (NoHeadHere counts N p (headInput counts N p))
           → (Cursor counts N (p + 1) next) × (new ≡ over (listOf (p + 1) (takers counts N)) old)

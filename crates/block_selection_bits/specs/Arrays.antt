@@ -22,14 +22,26 @@ pub record Demand (N : ℕ) (wanted : List ℕ) : Type 0 where
   pub few : length wanted ≤ N
   pub most : N ≤ maxSize
 
--- an array with a place for each of the largest block's positions; place i holds f i, which is 0 past the end
+-- the places of an array: one for each of N positions, and no more than the largest block has
+pub record PlacesFor (N places : ℕ) : Type 0 where
+  pub enough : N ≤ places
+  pub most : places ≤ maxSize
+
+-- place i of the array holds f i, which is 0 past the end
 pub record PlacesHold (f : ℕ → ℕ) (array : List ℕ) : Type 0 where
-  pub size : length array ≡ maxSize
   pub each : (i : ℕ) → getD array i 0 ≡ f i
 
 -- none of its places is used yet
 abbrev pub Blank : List ℕ → Type 0
 Blank array = PlacesHold (λ i. 0) array
+
+-- the arrays of a block of N positions, before anything is found
+pub record ArraysFor (N : ℕ) (counts heads list : List ℕ) : Type 0 where
+  pub countPlaces : PlacesFor N (length counts)
+  pub headPlaces : PlacesFor N (length heads)
+  pub listPlaces : PlacesFor N (length list)
+  pub noneCounted : Blank counts
+  pub noneListed : Blank list
 
 -- ---- positions, by counts: `counts` tells for each input how many outputs want it
 
@@ -42,10 +54,9 @@ unfoldable pub headBy : List ℕ → ℕ → ℕ
 headBy counts zero = 0
 headBy counts (suc j) = headBy counts j + getD counts j 0
 
--- the heads are positions
-pub record HeadsFit (counts : List ℕ) : Type 0 where
-  pub size : length counts ≡ maxSize
-  pub each : (j : ℕ) → headBy counts j ≤ maxSize
+-- the heads are among N positions, or behind the last
+pub record HeadsFit (N : ℕ) (counts : List ℕ) : Type 0 where
+  pub each : (j : ℕ) → headBy counts j ≤ N
 
 -- which of the first k inputs has its head at p, counted from 1; 0 where none has
 unfoldable pub headInput : List ℕ → ℕ → ℕ → ℕ
@@ -117,7 +128,6 @@ secondNetworkBits N wanted = wantedBits (levelOf N) (wantedOf N (copyOf (mapping
 
 -- after the first o outputs, the position of the next copy of an input stands at the input's place; here of the input that output x wants
 pub record NextCopies (wanted : List ℕ) (o : ℕ) (heads : List ℕ) : Type 0 where
-  pub size : length heads ≡ maxSize
   pub each : o ≤ length wanted → (x : ℕ) → x < length wanted → let j : ℕ = mapping wanted x in
       getD heads j 0 ≡ headOf (mapping wanted) (length wanted) j + wanting (mapping wanted) o j
 
@@ -127,5 +137,4 @@ pub record NextCopies (wanted : List ℕ) (o : ℕ) (heads : List ℕ) : Type 0 
 pub record PositionsFound (N : ℕ) (wanted counts heads list : List ℕ) : Type 0 where
   pub counted : PlacesHold (copies (mapping wanted) (length wanted)) counts
   pub headed : NextCopies wanted 0 heads
-  pub listSize : length list ≡ maxSize
   pub listed : take N list ≡ wantedOf N (takerOf N (positionOf (mapping wanted) (length wanted) N))

@@ -9,13 +9,13 @@ ghost use Rattle.lists.specs.Lists.{listOf};
 ghost use Rattle.fault.specs.Buffers.{over};
 ghost use Rattle.block_networks.specs.Wanted.{takerOf, wantedOf};
 ghost use Rattle.block_sizes.specs.Sizes.{maxSize};
-ghost use Rattle.block_selection_bits.specs.Arrays.{PlacesHold, Blank, headBy, HeadsFit, headInput, positionBy, Positioned, IdleFrom, NextIdle, PlacedNext};
+ghost use Rattle.block_selection_bits.specs.Arrays.{PlacesFor, PlacesHold, Blank, headBy, HeadsFit, headInput, positionBy, Positioned, IdleFrom, NextIdle, PlacedNext};
 use block_rows::wide;
 
 // The head of each of `size` inputs, in `heads`; and at the head of each wanted one the input, counted from 1, in `list`.
 pub(crate) fn place_heads(size: usize, counts: &[u16], heads: &mut [u16], list: &mut [u16])
-    requires { ⌜ HeadsFit (now counts) ⌝ }
-    requires { ⌜ (size ≤ maxSize) × (length (now heads) ≡ maxSize) × Blank (now list) ⌝ }
+    requires { ⌜ HeadsFit size (now counts) × Blank (now list) ⌝ }
+    requires { ⌜ PlacesFor size (length (now counts)) × PlacesFor size (length (now heads)) × PlacesFor size (length (now list)) ⌝ }
     ensures headed { λ _. ⌜ now (heads .exit) ≡ over (listOf size (headBy (now (counts .entry)))) (now (heads .entry)) ⌝ }
     ensures listed { λ _. ⌜ PlacesHold (headInput (now (counts .entry)) size) (now (list .exit)) ⌝ }
 {
@@ -42,7 +42,7 @@ fn place_head(list: &mut [u16], count: usize, head: usize, j: usize)
 
 // The idle ones of `size` inputs, in rising order, where no head is.
 pub(crate) fn place_idle(size: usize, counts: &[u16], list: &mut [u16])
-    requires { ⌜ (size ≤ maxSize) × (length (now counts) ≡ maxSize) ⌝ }
+    requires { ⌜ PlacesFor size (length (now counts)) × PlacesFor size (length (now list)) ⌝ }
     requires { ⌜ Positioned size (now counts) ⌝ }
     requires { ⌜ PlacesHold (headInput (now counts) size) (now list) ⌝ }
     ensures { λ _. ⌜ now (list .exit) ≡ over (wantedOf size (takerOf size (positionBy (now (counts .entry)) size))) (now (list .entry)) ⌝ }
@@ -57,7 +57,7 @@ pub(crate) fn place_idle(size: usize, counts: &[u16], list: &mut [u16])
 
 // The next idle input from `from` on at position p, unless a head is there. Gives where the idle inputs go on.
 fn place_next(counts: &[u16], list: &mut [u16], p: usize, from: usize) -> usize
-    requires { ⌜ (length (now counts) ≡ maxSize) × (p < length (now list)) × (getD (now list) p 0 ≡ 0 → IdleFrom (now counts) from) ⌝ }
+    requires { ⌜ (length (now counts) ≤ maxSize) × (p < length (now list)) × (getD (now list) p 0 ≡ 0 → IdleFrom (now counts) from) ⌝ }
     ensures { λ r. ⌜ PlacedNext (now (counts .entry)) p from (now (list .entry)) (now (list .exit)) r ⌝ }
 {
     if list[p] != 0 {

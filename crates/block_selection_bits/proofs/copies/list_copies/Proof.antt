@@ -1,5 +1,5 @@
 -- `block_selection_bits::copies::list_copies` meets its contract. The loop's invariant: the first o outputs have their positions. Assumes nothing.
-use mathlib.Core.Path.{_≡_, refl, sym, ap, ap₂, _∙_}
+use mathlib.Core.Path.{_≡_, refl, ap, ap₂, _∙_}
 use Prim.Native.Nat.{suc, _-_, _≤_}
 use native.Mathlib.Numerals.{add-one}
 use native.Mathlib.Omega.{arith}
@@ -17,19 +17,20 @@ use Rattle.block_selection_bits.proofs.copies.list_copies.Tie as tie
 abbrev Inv-loop : tie.InvT-loop
 Inv-loop size wanted heads₀ list₀ o₀ heads list o =
     (o ≤ size) × NextCopies wanted o heads × (length list ≡ length list₀) × (list ≡ over (wantedOf o (copyOf (mapping wanted) (length wanted))) list₀)
+    × (length heads ≡ length heads₀)
 
 abbrev μ-loop : tie.MeasureT-loop
 μ-loop size wanted heads₀ list₀ o₀ heads list o = size - o
 
 holds : tie.Need-loop-holds Inv-loop μ-loop
 unfolding listOf
-holds c = (omega arith, c .before .before .before .pre .1 .0, refl, refl)
+holds c = (omega arith, c .before .before .before .pre .1, refl, refl, refl)
 
 for-copy : tie.Need-next-copy-requires Inv-loop μ-loop
 for-copy c κs =
     let at = c .before .before in
     let s = at .before .before .before .before in
-    (s .pre .0 .0, at .loop .inv .1, omega (arith, s .pre .0 .1))
+    (rw (at .loop .inv .4) (s .pre .0 .0), at .loop .inv .1, omega (arith, s .pre .0 .1))
 
 fits : tie.Need-add-list Inv-loop μ-loop
 fits c = omega (arith, c .before .before .next-copy .ensures .0 .1)
@@ -38,7 +39,7 @@ stored : tie.Need-slice-write-list Inv-loop μ-loop
 stored c =
     let at = c .before .before .before .before .before in
     let s = at .before .before .before .before in
-    omega (arith, at .loop .inv .2, s .pre .1 .1, s .pre .0 .1)
+    omega (arith, at .loop .inv .2, s .pre .0 .1)
 
 again : tie.Need-loop-again Inv-loop μ-loop
 again c =
@@ -51,11 +52,9 @@ again c =
       copy .ensures .1,
       simp length-set (at .loop .inv .2),
       ap₂ (λ l v. set l o v) (at .loop .inv .3) (add-one (copy .result) ∙ ap suc (copy .ensures .0 .0))
-          ∙ listOf-over o (λ x. suc (copyOf (mapping wanted) (length wanted) x)) (s .args .list .now) (omega (arith, s .pre .1 .1, s .pre .0 .1)),
+          ∙ listOf-over o (λ x. suc (copyOf (mapping wanted) (length wanted) x)) (s .args .list .now) (omega (arith, s .pre .0 .1)),
+      copy .kept .1 .0 ∙ at .loop .inv .4,
     )
-
-same-heads : tie.Need-same-length Inv-loop μ-loop
-same-heads c = c .before .loop .inv .1 .size ∙ sym (c .before .before .before .before .before .pre .1 .0 .size)
 
 all : tie.Need-returns Inv-loop μ-loop
 all c =
@@ -67,4 +66,4 @@ pub list-copies-spec : {M : Type 1} → statement M
 list-copies-spec =
     tie.close
     (tie.spec Inv-loop μ-loop
-    holds for-copy fits (λ c. search needs) stored (λ c. search needs) (λ c. search needs) again same-heads (λ c. c .before .loop .inv .2) all)
+    holds for-copy fits (λ c. search needs) stored (λ c. search needs) (λ c. search needs) again (λ c. c .before .loop .inv .4) (λ c. c .before .loop .inv .2) all)

@@ -27,10 +27,10 @@ for-next c κs =
     let at = c .before .before in
     let s = at .before .before .before in
     let inv = at .loop .inv in
-    let (small, size) = s .pre .0 in (
-      size,
-      omega (arith, inv .1, s .pre .1 .1 .size),
-      λ z. step-asks (s .pre .1 .0) (s .pre .1 .1) (at .loop .p) (c .before .loop-test .taken) (inv .3) (inv .2) (rw size small) z,
+    let (counts, list) = s .pre .0 in (
+      counts .most,
+      omega (arith, inv .1, list .enough),
+      λ z. step-asks (s .pre .1 .0) (s .pre .1 .1) (at .loop .p) (c .before .loop-test .taken) (inv .3) (inv .2) (counts .enough) z,
     )
 
 again : tie.Need-loop-again Inv-loop μ-loop
@@ -40,7 +40,7 @@ again c =
     let s = at .before .before .before in
     let inv = at .loop .inv in
     let l = c .before .before .before .before .loop-test .taken in
-    let step = step-places (s .pre .1 .0) (s .pre .1 .1) (at .loop .p) l (inv .3) (inv .2) (s .pre .0 .0) (placed .ensures) in
+    let step = step-places (s .pre .1 .0) (s .pre .1 .1) (at .loop .p) l (inv .3) (inv .2) (s .pre .0 .1 .enough) (placed .ensures) in
     (omega arith, placed .kept .1 .0 ∙ inv .1, step .0, step .1)
 
 all : tie.Need-returns Inv-loop μ-loop

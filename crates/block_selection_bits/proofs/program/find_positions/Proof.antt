@@ -1,10 +1,8 @@
 -- `block_selection_bits::program::find_positions` meets its contract: counts, heads and positions, one from the other. Assumes nothing.
-use mathlib.Core.Path.{_∙_}
-use native.Mathlib.Omega.{arith}
 use borrow.Author.Needs.{needs}
 use lib.ListN.{length}
 use Rattle.block_networks.specs.Wanted.{mapping}
-use Rattle.block_selection_bits.proofs.PartsLaws.{demand-most, heads-fit, positioned, found}
+use Rattle.block_selection_bits.proofs.PartsLaws.{demand-within, heads-fit, positioned, found}
 use Rattle.block_selection_bits.proofs.program.find_positions.Statement.{statement}
 use Rattle.block_selection_bits.proofs.program.find_positions.Tie as tie
 
@@ -19,7 +17,7 @@ abbrev start : tie.After-count-wanted → tie.Start
 start c = c .before .before .before .before .before .before
 
 for-counts : tie.Need-count-wanted-requires
-for-counts c κs = let s = c .before .before .before .before .before in (demand-most (s .pre .0), s .pre .1 .0)
+for-counts c κs = let s = c .before .before .before .before .before in (demand-within (s .pre .1 .countPlaces) (s .pre .0), s .pre .1 .noneCounted)
 
 for-heads : tie.Need-place-heads-requires
 for-heads c κs =
@@ -27,8 +25,10 @@ for-heads c κs =
     let count = counted .count-wanted in
     let s = start counted in
     let wanted = s .args .wanted .now in
-    let W = s .pre .0 in
-    (heads-fit (mapping wanted) (length wanted) (count .ensures) (omega (arith, W .few, W .most)), (W .most, s .pre .1 .1, s .pre .1 .2))
+    let A = s .pre .1 in (
+      (heads-fit (mapping wanted) (length wanted) (count .ensures) (s .pre .0 .few), A .noneListed),
+      (rw (count .kept .1 .0) (A .countPlaces), A .headPlaces, A .listPlaces),
+    )
 
 for-idle : tie.Need-place-idle-requires
 for-idle c κs =
@@ -38,8 +38,10 @@ for-idle c κs =
     let count = counted .count-wanted in
     let s = start counted in
     let wanted = s .args .wanted .now in
-    let W = s .pre .0 in
-    ((W .most, count .ensures .size), (positioned (mapping wanted) (length wanted) (count .ensures) (s .args .size) (W .few), heads .ensures .1))
+    let A = s .pre .1 in (
+      (rw (count .kept .1 .0) (A .countPlaces), rw (heads .kept .1 .1 .1 .0) (A .listPlaces)),
+      (positioned (mapping wanted) (length wanted) (count .ensures) (s .args .size) (s .pre .0 .few), heads .ensures .1),
+    )
 
 all : tie.Need-returns
 all c =
@@ -50,8 +52,7 @@ all c =
     let counted = early headed in
     let count = counted .count-wanted in
     let s = start counted in
-    found (s .pre .0) (count .ensures) (s .args .heads .now) (heads .last .1 .1 .1 .0)
-    (heads .kept .1 .1 .0 ∙ s .pre .1 .1) (idle .kept .1 .1 .0 ∙ heads .ensures .1 .size) (heads .ensures .0) (idle .ensures)
+    found (s .pre .0) (count .ensures) (s .args .heads .now) (heads .last .1 .1 .1 .0) (heads .ensures .0) (idle .ensures)
 
 pub find-positions-spec : {M : Type 1} → statement M
 find-positions-spec =

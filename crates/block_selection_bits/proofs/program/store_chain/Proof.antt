@@ -31,7 +31,7 @@ for-bit c κs =
     let s = at .before .before .before .before in
     let i = at .loop .i in
     let W = s .pre .0 .1 in
-    (W .low (i + 1) (omega arith), omega (arith, W .high (i + 1) (omega arith), s .pre .0 .0 .most, s .pre .1 .0))
+    (W .low (i + 1) (omega arith), omega (arith, W .high (i + 1) (omega arith), s .pre .1 .0))
 
 again : tie.Need-loop-again Inv-loop μ-loop
 again c =

@@ -11,7 +11,7 @@ use Rattle.block_networks.specs.Wanted.{mapping, takerOf}
 use Rattle.block_networks.specs.Selection.{copyOf}
 use Rattle.block_networks.proofs.Heads.{second-perm}
 use Rattle.block_selection_bits.proofs.ArraysLaws.{over-taken}
-use Rattle.block_selection_bits.proofs.PartsLaws.{demand-most, network-room, network-bits}
+use Rattle.block_selection_bits.proofs.PartsLaws.{demand-within, network-room, network-bits}
 use Rattle.block_selection_bits.proofs.program.store_second.Statement.{statement}
 use Rattle.block_selection_bits.proofs.program.store_second.Tie as tie
 
@@ -25,14 +25,15 @@ start c = asked c .before .before .before .before .before .before
 for-copies : tie.Need-list-copies-requires
 for-copies c κs =
     let s = c .before .before .before .before .before .before in
-    ((demand-most (s .pre .0 .1), s .pre .0 .0 .most), s .pre .1 .0)
+    let (heads, list, copies) = s .pre .1 .0 in
+    ((demand-within heads (s .pre .0 .1), list), copies)
 
 part : tie.Need-slice-aggregate-store-network
 part c =
     let copied = c .before .before .before .before .before in
     let copies = copied .list-copies in
     let s = start copied in
-    sym (length-take-le (s .args .size) (copies .last .1 .1 .1 .0) (omega (arith, copies .kept .1 .1 .1 .0, s .pre .0 .0 .most, s .pre .1 .0 .1)))
+    sym (length-take-le (s .args .size) (copies .last .1 .1 .1 .0) (omega (arith, copies .kept .1 .1 .1 .0, s .pre .1 .0 .1)))
 
 -- the positions are one to one
 perm : (s : tie.Start) → let wanted = s .args .wanted .now in
