@@ -1,5 +1,6 @@
 // Writing P: its rows into the lent table, its output wires into the second buffer. Checks come first and touch no buffer.
 ghost use mathlib.Core.Path.{_≡_};
+ghost use Prim.Native.Nat.{suc};
 ghost use lib.ListN.{length};
 ghost use Rattle.fault.specs.Number.{answerNumber};
 ghost use Rattle.fault.specs.Buffers.{over};
@@ -8,10 +9,18 @@ ghost use Rattle.block_networks.specs.Permutation.{permutationRows, permutation
 ghost use Rattle.block_sizes.specs.Sizes.{levelOf};
 ghost use Rattle.block_write_checks.specs.WriteChecks.{WritePasses, writeFault};
 ghost use Rattle.block_permutation_rows.specs.WriteCalls.{writtenRows, writtenOutputs};
-use crate::level::write_level;
+ghost use Rattle.block_permutation_rows.specs.Levels.{outsList, NetworkRoom, OutsRoom};
+use crate::level::LevelOuts;
+use crate::level::size_at;
+use crate::level::write_inner;
 use block_rows::copy_wires;
+use block_rows::put_pairs;
+use block_rows::put_wires;
+use block_rows::row_place;
 use block_write_checks::check_permutation_write;
 use elements::FabricWire;
+use elements::Kind;
+use elements::MAX_WIRES;
 use fault::Answer;
 
 // P(n) on the input wires, where `next` is the next unmade wire.
@@ -35,7 +44,7 @@ pub fn write_permutation(
     }
 }
 
-// P(n) where all checks pass. The outputs' buffer holds the input wires first.
+// P(n) where all checks pass. P(1) is a wire.
 fn write_checked_permutation(
     n: u32,
     inputs: &[u16],
@@ -47,6 +56,33 @@ fn write_checked_permutation(
     ensures { λ _. ⌜ now (rows .exit) ≡ over (flat (permutationRows (levelOf n) (now (inputs .entry)) (next .0))) (now (rows .entry)) ⌝ }
     ensures { λ _. ⌜ now (outputs .exit) ≡ over (permutationOuts (levelOf n) (now (inputs .entry)) (next .0)) (now (outputs .entry)) ⌝ }
 {
-    copy_wires(inputs, outputs);
-    write_level(powers::ceil_log(n), next, rows, outputs);
+    let level = powers::ceil_log(n);
+    if level == 0 {
+        copy_wires(inputs, outputs);
+    } else {
+        write_network(level - 1, inputs, next, rows, outputs);
+    }
+}
+
+// P at level n + 1: the input rows on the wires of the list, and behind them all others, on wires that are numbers.
+fn write_network(n: u32, inputs: &[u16], next: FabricWire, rows: &mut [u16], outputs: &mut [u16])
+    requires { ⌜ NetworkRoom n (length (now inputs)) (next .0) (length (now rows)) (length (now outputs)) ⌝ }
+    ensures { λ _. ⌜ now (rows .exit) ≡ over (flat (permutationRows (suc n) (now (inputs .entry)) (next .0))) (now (rows .entry)) ⌝ }
+    ensures { λ _. ⌜ now (outputs .exit) ≡ over (permutationOuts (suc n) (now (inputs .entry)) (next .0)) (now (outputs .entry)) ⌝ }
+{
+    let half = size_at(n);
+    let inner = row_place(half);
+    put_pairs(rows, Kind::X, half, inputs, &inputs[1..], 2);
+    let outs = write_inner(n, next, &mut rows[inner..]);
+    put_outs(outputs, 2 * (half as usize - 1), outs);
+}
+
+// The output wires of P into the first places of a list: so many that rise, then the last pair.
+fn put_outs(outputs: &mut [u16], rising: usize, outs: LevelOuts)
+    requires { ⌜ OutsRoom rising outs (length (now outputs)) ⌝ }
+    ensures { λ _. ⌜ now (outputs .exit) ≡ over (outsList rising outs) (now (outputs .entry)) ⌝ }
+{
+    put_wires(outputs, rising, outs.first, 1);
+    outputs[rising] = (outs.upper.0 as usize % MAX_WIRES) as u16;
+    outputs[rising + 1] = (outs.lower.0 as usize % MAX_WIRES) as u16;
 }

@@ -6,8 +6,8 @@ use native.Mathlib.Nat.{mod-eq-of-lt}
 use native.Mathlib.Numerals.{add-one}
 use native.Mathlib.Omega.{arith}
 use borrow.Author.Tests.{le-leb}
-use lib.ListN.{length, getD}
-use Rattle.lists.specs.Lists.{listOf}
+use lib.ListN.{length, getD, set}
+use Rattle.lists.specs.Lists.{listOf, every-none, every-more}
 use Rattle.lists.proofs.ListsLaws.{length-listOf, every-listOf}
 use Rattle.fault.specs.Buffers.{over, partOf, withPart}
 use Rattle.fault.proofs.PartsLaws.{over-part}
@@ -44,23 +44,38 @@ pub length-pairRows : (kind : Kind) (count : ℕ) (lefts rights : List ℕ) (ste
 unfolding pairRows
 length-pairRows kind count lefts rights step = length-listOf count _
 
+-- rows that are given place by place, each of this family
+module _ (row : ℕ → Row) (family : (i : ℕ) → InFamily (row i)) where
+  pub length-flat-list : (n : ℕ) → length (flat (listOf n row)) ≡ stride * n
+  length-flat-list n = length-flat (every-listOf n row (λ i l. family i)) ∙ ap (λ k. stride * k) (length-listOf n row)
+
+  -- one row more
+  pub list-more : (i n : ℕ) (L P F : List ℕ) → n ≡ stride * i → stride * (i + 1) ≤ length L → P ≡ over (flat (listOf i row)) L
+      → F ≡ over (entries (row i)) (partOf n P) → withPart n P F ≡ over (flat (listOf (i + 1) row)) L
+  unfolding listOf flat
+  list-more i n L P F at h before part =
+      let rows = listOf i row in
+      let one : length (entries (row i)) ≡ stride * 1 = rw (append-nil (entries (row i))) at (length-flat (every-more (family i) every-none)) in
+      rw (add-one i, flat-append rows (row i ∷ []), append-nil (entries (row i)))
+      (over-part (flat rows) L P n (length-flat-list i ∙ sym at) (omega arith) before (entries (row i)) F (omega arith) part)
+
 pub length-flat-pairs : (kind : Kind) (count : ℕ) (lefts rights : List ℕ) (step : ℕ) → length (flat (pairRows kind count lefts rights step)) ≡ stride * count
 unfolding pairRows
-length-flat-pairs kind count lefts rights step =
-    length-flat (every-listOf count _ (λ i l. kind-family kind _ _)) ∙ ap (λ k. stride * k) (length-listOf count _)
+length-flat-pairs kind count lefts rights step = length-flat-list _ (λ i. kind-family kind _ _) count
 
--- one row more
 pub pairs-more : (kind : Kind) (lefts rights : List ℕ) (step i n : ℕ) (L P F : List ℕ) → n ≡ stride * i → stride * (i + 1) ≤ length L
     → P ≡ over (flat (pairRows kind i lefts rights step)) L
     → F ≡ over (entries (rowOf (kindNumber kind) (getD lefts (step * i) 0) (getD rights (step * i) 0))) (partOf n P)
     → withPart n P F ≡ over (flat (pairRows kind (i + 1) lefts rights step)) L
-unfolding listOf flat pairRows
-pairs-more kind lefts rights step i n L P F at h before part =
-    let rows = pairRows kind i lefts rights step in
-    let row = rowOf (kindNumber kind) (getD lefts (step * i) 0) (getD rights (step * i) 0) in
-    let e = kind-entries kind (getD lefts (step * i) 0) (getD rights (step * i) 0) in
-    rw (add-one i, flat-append rows (row ∷ []), append-nil (entries row))
-    (over-part (flat rows) L P n (length-flat-pairs kind i lefts rights step ∙ sym at) (omega arith) before (entries row) F (omega (arith, ap length e)) part)
+unfolding pairRows
+pairs-more kind lefts rights step = list-more _ (λ i. kind-family kind _ _)
+
+-- three entries are stored at the front
+pub row-stored : (l : List ℕ) (k a b : ℕ) → stride ≤ length l → set (set (set l 0 k) 1 a) 2 b ≡ over (k ∷ a ∷ b ∷ []) l
+row-stored [] k a b h = absurd (omega arith)
+row-stored (x ∷ []) k a b h = absurd (omega arith)
+row-stored (x ∷ y ∷ []) k a b h = absurd (omega arith)
+row-stored (x ∷ y ∷ z ∷ l) k a b h = refl
 
 -- rows that have room
 pub rows-put : (rows : List Row) (old : List ℕ) → stride * length rows ≤ length old → rowsPut rows old ≡ over (flat rows) old

@@ -1,32 +1,47 @@
--- `block_permutation_rows::writing::write_checked_permutation` meets its contract: the level is written from the copied input wires. Assumes nothing.
-use mathlib.Core.Path.{refl}
+-- `block_permutation_rows::writing::write_checked_permutation` meets its contract: P(1) is a wire, and a larger P is written by its level. Assumes nothing.
+use native.Mathlib.Omega.{arith}
+use mathlib.Core.Path.{_≡_, sym, ap, _∙_}
+use Prim.Native.Nat.{suc, _-_}
 use borrow.Author.Needs.{needs}
-use Rattle.block_permutation_rows.proofs.WriteLaws.{level-room, permutation-rows-put, permutation-outputs-put}
+use Rattle.fault.specs.Buffers.{over}
+use Rattle.block_elements.specs.Rows.{flat}
+use Rattle.block_networks.specs.Permutation.{permutationOuts, permutationRows}
+use Rattle.block_sizes.specs.Sizes.{levelOf}
+use Rattle.block_permutation_rows.proofs.NetworkLaws.{wire-written, network-room}
 use Rattle.block_permutation_rows.proofs.writing.write_checked_permutation.Statement.{statement}
 use Rattle.block_permutation_rows.proofs.writing.write_checked_permutation.Tie as tie
 
-room : tie.Need-write-level-requires
-room c κs =
-    let level = c .before .before in
-    let copied = level .before .before .before in
-    let start = copied .before .before .before .before .before in
-    level-room (start .args .n) (start .args .inputs .now) (start .args .next .0) _ _ (level .ceil-log .result) (start .args .outputs .now) _
-    (start .pre) (level .ceil-log .ensures) refl (copied .copy-wires .ensures)
+abbrev start : tie.After-ceil-log → tie.Start
+start c = c .before .before .before .before
 
-written : tie.Need-returns
+room : tie.Need-write-network-requires
+room c κs =
+    let else = c .before .before in
+    let level = else .before in
+    let s = start level in
+    network-room (s .args .n) (s .args .inputs .now) (s .args .next .0) _ _ (level .ceil-log .result) (s .pre) (level .ceil-log .ensures) (else .if1 .left)
+
+wire : tie.Need-returns
+wire c =
+    let copied = c .before .before in
+    let then = copied .before .before in
+    let s = start (then .before) in
+    wire-written (levelOf (s .args .n)) (s .args .inputs .now) (s .args .next .0) (s .args .rows .now) (s .args .outputs .now) _
+    (sym (then .before .ceil-log .ensures) ∙ then .if1 .taken) (omega arith) (copied .copy-wires .ensures)
+
+written : tie.Need-returns-2
 written c =
-    let done = c .before .before .before .before in
-    let level = done .before .before .before in
-    let copied = level .before .before .before in
-    let start = copied .before .before .before .before .before in
-    let a = start .args in (
-      permutation-rows-put (a .n) (a .inputs .now) (a .next .0) _ _ (level .ceil-log .result) (a .outputs .now) _ (start .pre) (level .ceil-log .ensures)
-          refl (copied .copy-wires .ensures) _ _ (done .write-level .ensures .0),
-      permutation-outputs-put (a .n) (a .inputs .now) (a .next .0) _ _ (level .ceil-log .result) (a .outputs .now) _ (start .pre) (level .ceil-log .ensures)
-          refl (copied .copy-wires .ensures) _ (done .write-level .ensures .1),
+    let put = c .before .before .before .before in
+    let else = put .before .before .before in
+    let level = else .before in
+    let a = start level .args in
+    let above : suc (level .ceil-log .result - 1) ≡ levelOf (a .n) = omega arith in (
+      put .write-network .ensures .0 ∙ ap (λ k. over (flat (permutationRows k (a .inputs .now) (a .next .0))) (a .rows .now)) above,
+      put .write-network .ensures .1 ∙ ap (λ k. over (permutationOuts k (a .inputs .now) (a .next .0)) (a .outputs .now)) above,
     )
 
 pub write-checked-permutation-spec : {M : Type 1} → statement M
 write-checked-permutation-spec =
     tie.close
-    (tie.spec (λ c κs. search needs) (λ c κs. search needs) room (λ c. search needs) (λ c. search needs) written)
+    (tie.spec
+    (λ c κs. search needs) (λ c κs. search needs) (λ c. search needs) room (λ c. search needs) wire (λ c. search needs) (λ c. search needs) written)

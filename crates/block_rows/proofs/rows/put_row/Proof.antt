@@ -1,29 +1,23 @@
 -- `block_rows::rows::put_row` meets its contract: three stores at the front. Assumes nothing.
 use native.Mathlib.Omega.{arith}
-use mathlib.Core.Path.{_≡_, refl}
-use mathlib.Core.List.{List, [], _∷_}
+use mathlib.Core.Path.{_≡_}
+use mathlib.Core.List.{List}
 use Prim.Native.Nat.{ℕ, _%_, _<_, _≤_}
 use borrow.Author.Tests.{le-leb, lt-leb}
 use lib.ListN.{length, set, length-set}
 use borrow.Author.Needs.{needs}
-use Rattle.fault.specs.Buffers.{over}
 use Rattle.elements.specs.Elements.{maxWires}
 use Rattle.block_elements.specs.Rows.{stride}
 use Rattle.block_rows.specs.Rows.{rowPut}
+use Rattle.block_rows.proofs.RowsLaws.{row-stored}
 use Rattle.block_rows.proofs.rows.put_row.Statement.{statement}
 use Rattle.block_rows.proofs.rows.put_row.Tie as tie
-
-three : (l : List ℕ) (k a b : ℕ) → stride ≤ length l → set (set (set l 0 k) 1 a) 2 b ≡ over (k ∷ a ∷ b ∷ []) l
-three [] k a b h = absurd (omega arith)
-three (x ∷ []) k a b h = absurd (omega arith)
-three (x ∷ y ∷ []) k a b h = absurd (omega arith)
-three (x ∷ y ∷ z ∷ l) k a b h = refl
 
 -- the three stores, where there is room, of a kind that has this number
 put : (l : List ℕ) (k kind left right : ℕ) → stride ≤ length l → k ≡ kind
     → set (set (set l 0 k) 1 (left % maxWires)) 2 (right % maxWires) ≡ rowPut kind left right l
 unfolding rowPut
-put l k kind left right h e = rw (le-leb stride (length l) h, e) (three l kind (left % maxWires) (right % maxWires) h)
+put l k kind left right h e = rw (le-leb stride (length l) h, e) (row-stored l kind (left % maxWires) (right % maxWires) h)
 
 kept : (l : List ℕ) (kind left right : ℕ) → length l < stride → l ≡ rowPut kind left right l
 unfolding rowPut
