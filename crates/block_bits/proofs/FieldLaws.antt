@@ -3,7 +3,7 @@
 use mathlib.Core.Path.{_≡_, refl, sym, ap, ap₂, _∙_}
 use mathlib.Core.List.{List, _++_}
 use Prim.Native.Nat.{ℕ, zero, suc, _+_, _-_, _*_, _/_, _%_, _^_, _≤_, _<_, min}
-use native.Mathlib.Nat.{mul-add-div-right, mul-add-mod-self-right, add-comm, one-mul, pow-suc, mod-lt, mul-assoc, add-zero, suc-add, zero-add}
+use native.Mathlib.Nat.{not-suc-le-zero, le-of-suc-le-suc, mul-add-div-right, mul-add-mod-self-right, add-comm, one-mul, pow-suc, mod-lt, mul-assoc, add-zero, suc-add, zero-add}
 use native.Mathlib.Numerals.{add-one, one-add}
 use native.Mathlib.Decide.{decLt}
 use native.Mathlib.Omega.{arith}
@@ -13,8 +13,8 @@ use lib.Pow.{pow-pos, pow-add, shr-shr, shr-lt, shl-exact, high, low, split, mod
 use lib.Arith.{digits-lt}
 use lib.Bits.{bitAnd, and-mask}
 use Rattle.lists.specs.Lists.{listOf}
-use Rattle.lists.proofs.ListsLaws.{length-listOf, listOf-ext}
-use Rattle.block_elements.specs.Bits.{bitByte, bitPlace, bitOf, withBit, setBit, storeBits, bitsHeld}
+use Rattle.lists.proofs.ListsLaws.{listOf-ext, listOf-getD}
+use Rattle.block_elements.specs.Bits.{bitByte, bitPlace, bitOf, withBit, setBit, storeBits, AreBits, bitsHeld}
 use Rattle.block_elements.proofs.BitsLaws.{AreBytes, storeBits-append}
 use Rattle.block_bits.specs.Stores.{fieldBits, numberOf, withField, wordAt, putWord}
 use Rattle.block_bits.proofs.StoreLaws.{listOf-append, store-more}
@@ -32,6 +32,34 @@ pub number-lt : (n : ℕ) {f : ℕ → ℕ} → ((i : ℕ) → f i < 2) → numb
 unfolding numberOf
 number-lt zero h = omega arith
 number-lt (suc n) {f} h = omega (arith, number-lt n (λ i. h (suc i)), h 0, pow-suc 2 n)
+
+pub number-ext : (n : ℕ) {f g : ℕ → ℕ} → ((i : ℕ) → f i ≡ g i) → numberOf f n ≡ numberOf g n
+unfolding numberOf
+number-ext zero e = refl
+number-ext (suc n) e = ap₂ (λ b v. b + 2 * v) (e 0) (number-ext n (λ i. e (suc i)))
+
+-- its bits are those that it is made of
+number-bit : (n i : ℕ) {f : ℕ → ℕ} → ((j : ℕ) → f j < 2) → i < n → bitOf i (numberOf f n) ≡ f i
+unfolding numberOf
+number-bit zero i h l = absurd (not-suc-le-zero l)
+number-bit (suc n) zero h l = omega (arith, h 0)
+number-bit (suc n) (suc i) {f} h l =
+    let v = numberOf (λ j. f (suc j)) n in
+    let half : (f 0 + 2 * v) / 2 ≡ v = omega (arith, h 0) in
+    ap (λ w. w % 2) (ap (λ j. (f 0 + 2 * v) / 2 ^ j) (sym (one-add i)) ∙ sym (shr-shr (f 0 + 2 * v) 1 i) ∙ ap (λ w. w / 2 ^ i) half)
+    ∙ number-bit n i (λ j. h (suc j)) (le-of-suc-le-suc l)
+
+-- the bits of a number that is made of at most eight
+pub fieldBits-number : (n : ℕ) {f : ℕ → ℕ} → ((j : ℕ) → f j < 2) → n ≤ bitsHeld 1 → fieldBits n (numberOf f n) ≡ listOf n f
+unfolding fieldBits
+fieldBits-number n {f} h l =
+    let e : min n 8 ≡ n = omega arith in
+    rw e (listOf-ext n (λ i. bitOf i (numberOf f n)) f (λ i m. number-bit n i h m))
+
+-- the same for a list of bits that is written out
+pub fieldBits-list : (bs : List ℕ) (x : ℕ) → AreBits bs → length bs ≤ bitsHeld 1 → x ≡ numberOf (λ i. getD bs i 0) (length bs)
+    → fieldBits (length bs) x ≡ bs
+fieldBits-list bs x h l e = rw e (fieldBits-number (length bs) (h .each) l ∙ listOf-getD bs 0)
 
 -- the lowest bits of x are the number of its bits
 pub number-bits : (n x : ℕ) → numberOf (λ i. bitOf i x) n ≡ x % 2 ^ n
