@@ -253,7 +253,7 @@ module _ {p : List ℕ} (P : IsPerm p) (even : 2 * (length p / 2) ≡ length p) 
   abbrev rows : List ℕ
   rows = rowSides (inverseList p) (sidesOf p)
 
-  pub length-sides : length (sidesOf p) ≡ h
+  length-sides : length (sidesOf p) ≡ h
   length-sides = length-listOf h (pairSide p (inverseList p))
 
   length-inputs : length (inputSides (inverseList p) (sidesOf p)) ≡ h

@@ -1,13 +1,13 @@
 -- `block_permutation_bits::level::find_sides` meets its contract: the inverse first, then the output pairs' sides by it, then the input pairs'.
 -- Assumes nothing.
-use mathlib.Core.Path.{_≡_, sym, ap, _∙_}
+use mathlib.Core.Path.{_≡_, sym, _∙_}
 use mathlib.Core.List.{List, _++_}
 use Prim.Native.Nat.{ℕ, _/_}
 use native.Mathlib.Omega.{arith}
 use borrow.Author.Needs.{needs}
-use lib.ListN.{length, take, drop, length-append, length-drop}
+use lib.ListN.{length, drop, length-append, length-drop}
 use lib.Seq.{length-take-le}
-use Rattle.block_loops.specs.Mappings.{Paired, sideList, inverseList}
+use Rattle.block_loops.specs.Mappings.{Paired, inverseList}
 use Rattle.block_loops.proofs.MappingsLaws.{paired, takers-below, rows-found}
 use Rattle.block_permutation_bits.proofs.level.find_sides.Statement.{statement}
 use Rattle.block_permutation_bits.proofs.level.find_sides.Tie as tie

@@ -1,6 +1,6 @@
 -- `block_permutation_bits::marking::mark_loop` meets its contract. The loop's invariant: the walk has come to o after `steps` steps, is not back yet, and
 -- has marked the pairs that it passed. The measure is what is left of the number of outputs. Assumes nothing.
-use mathlib.Core.Path.{_≡_, _∙_}
+use mathlib.Core.Path.{_∙_}
 use Prim.Native.Nat.{suc, _-_, _/_, _%_, _≤_, _<_}
 use native.Mathlib.Omega.{arith}
 use borrow.Author.Needs.{needs}
