@@ -6,6 +6,7 @@ pub use block_bits::fill_bytes;
 pub use block_bits::read_bit;
 pub use block_bits::smaller;
 pub use block_bits::store_bit;
+pub use block_bits::store_field;
 pub use block_counts::count_permutation;
 pub use block_counts::count_selection;
 pub use block_permutation_bits::program_permutation;

@@ -1,15 +1,20 @@
 -- The plan's gates, loaded one after another.
 use mathlib.Core.Path.{_≡_, sym, ap, _∙_}
 use mathlib.Core.List.{List}
-use Prim.Native.Nat.{ℕ, _+_, _*_, _≤_, _<_}
+use Prim.Native.Nat.{ℕ, suc, _+_, _*_, _-_, _/_, _%_, _^_, _≤_, _<_}
+use native.Mathlib.Nat.{mod-lt}
+use native.Mathlib.Numerals.{add-one}
 use native.Mathlib.Omega.{arith}
 use lib.ListN.{length, set}
+use lib.Pow.{high, pow-pos, mod-pow-add, mod-mod-pow}
 use Rattle.lists.specs.Lists.{listOf}
+use Rattle.lists.proofs.ListsLaws.{listOf-ext}
 use Rattle.fault.specs.Buffers.{over}
 use Rattle.fault.proofs.BuffersLaws.{list-step}
-use Rattle.blocks.specs.Elements.{operands}
+use Rattle.blocks.specs.Elements.{operands, bitOf, fieldBits, gateBits}
 use Rattle.plan.specs.declared.record.Plan.{Plan}
 use Rattle.plan.specs.Record.{maxGates, gateAt}
+use Rattle.fabric_universal.specs.Universal.{tableProgram}
 use Rattle.fabric_universal.specs.Fabric.{planGates}
 use Rattle.fabric_universal.proofs.PlanValues.{padded-own, first-operand, second-operand}
 use Rattle.fabric_lists.specs.GateLists.{loadedGates}
@@ -39,3 +44,17 @@ module _ (p : Plan) where
       → l ≡ over (listOf i (planGates p .table)) old
       → set l i (gateAt p i .table) ≡ over (listOf (i + 1) (planGates p .table)) old
   table-step old i h room held = list-step old i (planGates p .table) held (ap (λ g. g .table) (sym (padded-own p i h))) (omega arith)
+
+-- the bits of a number's lowest bits
+low-bit : (q d t : ℕ) → bitOf q (t % 2 ^ (suc d + q)) ≡ bitOf q t
+low-bit q d t =
+    ap (λ x. x / 2 ^ q % 2) (mod-pow-add t (suc d) q) ∙ ap (λ x. x % 2) (high (t / 2 ^ q % 2 ^ suc d) q (mod-lt t (pow-pos q)))
+    ∙ ap (λ e. t / 2 ^ q % 2 ^ e % 2) (sym (add-one d)) ∙ mod-mod-pow (t / 2 ^ q) d 1
+
+-- a table's bits are those of its lowest byte
+pub table-byte : (t : ℕ) → fieldBits gateBits (t % 256) ≡ tableProgram t
+unfolding fieldBits tableProgram
+table-byte t =
+    listOf-ext gateBits (λ i. bitOf i (t % 256)) (λ i. bitOf i t) (λ i l.
+    let e : suc (7 - i) + i ≡ 8 = omega arith in
+    ap (λ n. bitOf i (t % 2 ^ n)) (sym e) ∙ low-bit i (7 - i) t)

@@ -4,7 +4,7 @@ ghost use Rattle.blocks.specs.Elements.{storeBits};
 ghost use Rattle.fabric_universal.specs.Universal.{tableProgram};
 ghost use Rattle.fabric_lists.specs.GateLists.{LoadedCount, loadedOperands, loadedTables};
 use blocks::smaller;
-use blocks::store_bit;
+use blocks::store_field;
 use elements::GATE_BITS;
 use plan::Plan;
 
@@ -39,13 +39,5 @@ fn loaded_gates(gates: u16, operand_places: usize, table_places: usize) -> usize
 pub fn store_table(table: u16, program: &mut [u8], start: u32)
     ensures { λ _. ⌜ now (program .exit) ≡ storeBits (now (program .entry)) start (tableProgram table) ⌝ }
 {
-    let mut i: u32 = 0;
-    while i < GATE_BITS {
-        store_bit(
-            program,
-            start as usize + i as usize,
-            ((table >> i) & 1) as u8,
-        );
-        i += 1;
-    }
+    store_field(program, start as usize, (table % 256) as u8, GATE_BITS);
 }
