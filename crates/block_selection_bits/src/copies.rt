@@ -1,7 +1,7 @@
 // The positions that the second network gives to the outputs: to an output that wants input j the head of j plus the number of earlier
 // outputs that want it, and to an output past the wanted ones its own.
 ghost use mathlib.Core.Path.{_≡_};
-ghost use Prim.Native.Nat.{_+_, _<_, _≤_};
+ghost use Prim.Native.Nat.{_+_, _<_};
 ghost use lib.ListN.{length};
 ghost use Rattle.fault.specs.Buffers.{over};
 ghost use Rattle.block_networks.specs.Wanted.{mapping, wantedOf};

@@ -13,14 +13,14 @@ use Rattle.powers.proofs.PowersLaws.{ceilLog-power}
 use Rattle.block_elements.specs.Rows.{stride, flat, decode}
 use Rattle.block_elements.proofs.RowsLaws.{length-flat, decode-flat}
 use Rattle.block_networks.specs.Selection.{selectionLevel, padded, wholeRows, wholeOuts, selectionRows, selectionOuts, selectionCount, selectionWires}
-use Rattle.block_networks.proofs.SelectionLaws.{selection-outputs-fit, length-padded, getD-padded, below-padded, length-wholeOuts}
+use Rattle.block_networks.proofs.SelectionLaws.{selection-inputs-fit, selection-outputs-fit, length-padded, getD-padded, below-padded, length-wholeOuts}
 use Rattle.block_networks.proofs.SelectionLaws.{length-selectionRows, selection-totals, length-selectionOuts}
-use Rattle.block_sizes.specs.Sizes.{maxSize, levelOf}
-use Rattle.block_sizes.proofs.SizesLaws.{size-is, power-allowed, power-small, selection-level-small}
+use Rattle.block_sizes.specs.Sizes.{levelOf}
+use Rattle.block_sizes.proofs.SizesLaws.{size-is, power-allowed, selection-level-small}
 use Rattle.block_write_checks.specs.WriteChecks.{SelectionWritePasses, selectionWriteFault}
 use Rattle.block_write_checks.proofs.WriteChecksLaws.{some-wire}
 use Rattle.block_selection_rows.specs.WriteCalls.{selectionWrittenRows, selectionWrittenOutputs}
-use Rattle.block_selection_rows.specs.Block.{BlockRoom}
+use Rattle.block_selection_rows.specs.Block.{BlockRoom, zeroWires, ListsFor}
 
 -- ---- what is written
 
@@ -46,10 +46,6 @@ module _ (m n : ℕ) (ins : List ℕ) (next : ℕ) (rows outputs : List ℕ) whe
       }
 
 -- ---- the core of the call
-
--- a list of n places that all hold wire 0
-abbrev pub zeroWires : ℕ → List ℕ
-zeroWires k = replicate k 0
 
 -- the input wires are stored before zeros: an input past them is wire 0
 copied-padded : (k : ℕ) (ins : List ℕ) → length ins ≤ k → over ins (zeroWires k) ≡ padded k ins
@@ -80,22 +76,23 @@ unfolding padded
 padded-again N k ins h = listOf-ext N _ _ (λ i l. getD-listOf k _ i 0 (omega arith))
 
 -- N is the block's size, and A holds the input wires before zeros
-module _ (m n : ℕ) (ins : List ℕ) (next rows outputs N : ℕ) (A : List ℕ) (passes : SelectionWritePasses m n ins next rows outputs)
-    (size : N ≡ 2 ^ selectionLevel m n) (copied : A ≡ over (take maxSize ins) (zeroWires maxSize)) where
+module _ (m n : ℕ) (ins : List ℕ) (next rows outputs N : ℕ) (A from : List ℕ) (to : ℕ) (passes : SelectionWritePasses m n ins next rows outputs)
+    (size : N ≡ 2 ^ selectionLevel m n) (lists : ListsFor (2 ^ selectionLevel m n) from to) (copied : A ≡ over (take (length from) ins) from) where
   abbrev level : ℕ
   level = selectionLevel m n
 
   level-is : levelOf N ≡ level
   level-is = ap levelOf size ∙ ceilLog-power level
 
-  few : N ≤ maxSize
-  few = rw size (power-small level (selection-level-small (passes .sizes)))
+  abbrev places : ℕ
+  places = length from
 
-  wires-are : A ≡ padded maxSize ins
+  wires-are : A ≡ padded places ins
   wires-are =
-      copied ∙ ap (λ l. over l (zeroWires maxSize)) (take-all maxSize ins (omega arith)) ∙ copied-padded maxSize ins (omega arith)
+      let fits : length ins ≤ places = omega (arith, passes .inputs, selection-inputs-fit m n, lists .fromRoom) in
+      copied ∙ ap (λ l. over l from) (take-all places ins fits) ∙ ap (over ins) (lists .cleared) ∙ copied-padded places ins fits
 
-  pub block-room : BlockRoom N A next rows maxSize
+  pub block-room : BlockRoom N A next rows to
   unfolding selectionWires selectionCount
   block-room = record {
     made = record {
@@ -103,14 +100,14 @@ module _ (m n : ℕ) (ins : List ℕ) (next rows outputs N : ℕ) (A : List ℕ)
       wires = rw level-is (passes .wires);
     };
     some = some-wire passes;
-    fed = rw wires-are (below-padded maxSize (some-wire passes) (passes .made));
+    fed = rw wires-are (below-padded places (some-wire passes) (passes .made));
     rowRoom = rw level-is (passes .rowRoom);
-    fromRoom = rw (ap length wires-are ∙ length-padded maxSize ins) few;
-    toRoom = few;
+    fromRoom = rw (size, ap length wires-are, length-padded places ins) (lists .fromRoom);
+    toRoom = rw size (lists .toRoom);
   }
 
   inputs-are : padded (2 ^ level) A ≡ padded (2 ^ level) ins
-  inputs-are = ap (padded (2 ^ level)) wires-are ∙ padded-again (2 ^ level) maxSize ins (omega (arith, few))
+  inputs-are = ap (padded (2 ^ level)) wires-are ∙ padded-again (2 ^ level) places ins (lists .fromRoom)
 
   pub selection-rows-put : (R₀ R : List ℕ) → R ≡ over (flat (wholeRows (levelOf N) A next)) R₀ → R ≡ over (flat (selectionRows m n ins next)) R₀
   unfolding wholeRows selectionRows

@@ -2,7 +2,7 @@
 use Prim.Native.Nat.{ℕ, _+_, _-_, _*_, _^_, _≤_, _<_}
 use mathlib.Core.Path.{_≡_}
 use mathlib.Core.List.{List}
-use lib.ListN.{length}
+use lib.ListN.{length, replicate}
 use Rattle.lists.specs.Lists.{Below}
 use Rattle.elements.specs.Elements.{maxWires}
 use Rattle.block_elements.specs.Rows.{stride}
@@ -32,6 +32,16 @@ pub record BlockRoom (N : ℕ) (from : List ℕ) (next rows to : ℕ) : Type 0 w
   pub some : 0 < next
   pub fed : Below next from
   pub rowRoom : stride * wholeCount (levelOf N) ≤ rows
+  pub fromRoom : N ≤ length from
+  pub toRoom : N ≤ to
+
+-- a list of k places that all hold wire 0
+abbrev pub zeroWires : ℕ → List ℕ
+zeroWires k = replicate k 0
+
+-- two lists with a place for each of N positions: the first holds wire 0 throughout
+pub record ListsFor (N : ℕ) (from : List ℕ) (to : ℕ) : Type 0 where
+  pub cleared : from ≡ zeroWires (length from)
   pub fromRoom : N ≤ length from
   pub toRoom : N ≤ to
 

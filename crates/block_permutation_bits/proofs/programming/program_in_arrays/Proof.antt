@@ -1,11 +1,10 @@
 -- `block_permutation_bits::programming::program_in_arrays` meets its contract: the loaded mapping's bits, stored in the part from the first bit's byte on,
 -- are the bits stored from the first bit on. Assumes nothing.
-use mathlib.Core.Path.{_≡_, sym, ap, _∙_}
-use Prim.Native.Nat.{_+_, _-_, _*_, _/_, _%_, _^_}
+use mathlib.Core.Path.{sym, ap, _∙_}
+use Prim.Native.Nat.{_^_}
 use native.Mathlib.Omega.{arith}
 use borrow.Author.Needs.{needs}
-use borrow.Rule.Slice.PartMut.{midOf, putMid}
-use lib.ListN.{length, take}
+use lib.ListN.{take}
 use lib.Seq.{length-take-le}
 use Rattle.block_elements.specs.Bits.{storeBits}
 use Rattle.block_bits.proofs.StoreLaws.{store-from-byte}
