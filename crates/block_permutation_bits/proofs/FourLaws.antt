@@ -1,4 +1,4 @@
--- P(4)'s five bits as one word for each mapping: a test of the table at every list of four places, which the checker computes, is the rule at each
+-- P(4)'s five bits as one word for each mapping: a test of the word of every list of four places, which the checker computes, is the rule at each
 -- permutation.
 use mathlib.Core.Path.{_≡_, refl, sym, ap, _∙_}
 use mathlib.Core.Bool.{Bool, true, cond}
@@ -19,22 +19,11 @@ use Rattle.block_networks.specs.Permutation.{permutationCount, partner, iterate
 use Rattle.block_networks.specs.Wanted.{takerOf}
 use Rattle.block_loops.specs.Mappings.{mapOf, inverseOf, IsPerm, listBits}
 use Rattle.block_loops.proofs.MappingsLaws.{entry-lt, length-listBits}
-
--- the code's table
-unfoldable pub words : List ℕ
-words =
-    0 ∷ 0 ∷ 0 ∷ 0 ∷ 0 ∷ 0 ∷ 4 ∷ 6 ∷ 0 ∷ 20 ∷ 0 ∷ 14 ∷ 0 ∷ 22 ∷ 12 ∷ 0
-    ∷ 0 ∷ 0 ∷ 5 ∷ 7 ∷ 0 ∷ 0 ∷ 0 ∷ 0 ∷ 21 ∷ 0 ∷ 0 ∷ 15 ∷ 23 ∷ 0 ∷ 13 ∷ 0
-    ∷ 0 ∷ 1 ∷ 0 ∷ 24 ∷ 0 ∷ 0 ∷ 0 ∷ 25 ∷ 0 ∷ 0 ∷ 0 ∷ 0 ∷ 8 ∷ 9 ∷ 0 ∷ 0
-    ∷ 0 ∷ 3 ∷ 26 ∷ 0 ∷ 2 ∷ 0 ∷ 27 ∷ 0 ∷ 10 ∷ 11 ∷ 0 ∷ 0 ∷ 0 ∷ 0 ∷ 0 ∷ 0 ∷ []
-
--- the place of a mapping's word
-abbrev pub wordPlace : List ℕ → ℕ
-wordPlace p = getD p 0 0 + 4 * getD p 1 0 + 16 * getD p 2 0
+use Rattle.block_permutation_bits.specs.Four.{sidesWord, fourWord}
 
 -- its word
 abbrev wordOf : List ℕ → ℕ
-wordOf p = getD words (wordPlace p) 0
+wordOf p = fourWord (getD p 0 0) (getD p 1 0) (getD p 2 0)
 
 -- output o's input goes back to o
 returns : List ℕ → ℕ → Bool
@@ -53,7 +42,7 @@ places : ℕ → List ℕ
 places k = k % 4 ∷ k / 4 % 4 ∷ k / 4 / 4 % 4 ∷ k / 4 / 4 / 4 ∷ []
 
 all-right : countOf (λ k. right (places k)) 256 ≡ 256
-unfolding right returns holds places words countOf listBits permutationBits mapOf inverseOf takerOf listOf side lowest least key walk partner iterate pick inHalf
+unfolding right returns holds places sidesWord fourWord countOf listBits permutationBits mapOf inverseOf takerOf listOf side lowest least key walk partner iterate pick inHalf
 all-right = refl
 
 number : {a b c d : ℕ} → a < 4 → b < 4 → c < 4 → places (((d * 4 + c) * 4 + b) * 4 + a) ≡ a ∷ b ∷ c ∷ d ∷ []
@@ -82,14 +71,8 @@ module _ {p : List ℕ} (ok : IsPerm p) (size : length p ≡ 4) where
       let there : countOf (returns p) 4 ≡ 4 = each-passes (returns p) 4 (λ o l. eq-eqb _ o (ok .perm .to o)) in
       eqb-true _ 5 (rw (eq-eqb _ 4 there) at is-right)
 
-  -- the word at a place, which is that of the mapping
-  module _ {place : ℕ} (is : place ≡ wordPlace p) where
-    pub place-lt : place < 64
-    place-lt = omega (arith, entry 0 (omega arith), entry 1 (omega arith), entry 2 (omega arith))
-
-    pub word-bits : fieldBits 5 (getD words place 0) ≡ listBits 2 p
-    unfolding holds fieldBits permutationCount
-    word-bits =
-        ap (λ j. fieldBits 5 (getD words j 0)) is
-        ∙ listOf-ext 5 (λ i. bitOf i (wordOf p)) (λ i. getD (listBits 2 p) i 0) (λ i l. eqb-true _ _ (all-pass (holds p) 5 tested i l))
-        ∙ ap (λ n. listOf n (λ i. getD (listBits 2 p) i 0)) (sym (length-listBits 2 p)) ∙ listOf-getD (listBits 2 p) 0
+  pub word-bits : fieldBits 5 (wordOf p) ≡ listBits 2 p
+  unfolding holds fieldBits permutationCount
+  word-bits =
+      listOf-ext 5 (λ i. bitOf i (wordOf p)) (λ i. getD (listBits 2 p) i 0) (λ i l. eqb-true _ _ (all-pass (holds p) 5 tested i l))
+      ∙ ap (λ n. listOf n (λ i. getD (listBits 2 p) i 0)) (sym (length-listBits 2 p)) ∙ listOf-getD (listBits 2 p) 0

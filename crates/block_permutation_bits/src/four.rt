@@ -1,80 +1,11 @@
-// P(4)'s five program bits at once, from a table of all mappings of four places.
+// P(4)'s five program bits at once, by arithmetic on the mapping of its four places. A table of them would be an array that the call holds.
 ghost use mathlib.Core.Path.{_≡_};
-ghost use lib.ListN.{length};
+ghost use Prim.Native.Nat.{_<_, _≤_};
+ghost use lib.ListN.{length, getD};
 ghost use Rattle.block_elements.specs.Bits.{storeBits};
-ghost use Rattle.block_bits.specs.Stores.{fieldBits};
 ghost use Rattle.block_loops.specs.Mappings.{IsPerm, listBits};
+ghost use Rattle.block_permutation_bits.specs.Four.{sidesWord, fourWord};
 use block_bits::store_field;
-use block_rows::wide;
-
-// The bits of P(4) for the mapping p0, p1, p2, p3 at place p0 + 4 p1 + 16 p2, the first row's lowest. Three entries tell the fourth; where
-// they are no mapping the word is 0.
-const FOUR: [u8; 64] = [
-    0,
-    0,
-    0,
-    0,
-    0,
-    0,
-    4,
-    6,
-    0,
-    20,
-    0,
-    14,
-    0,
-    22,
-    12,
-    0,
-    0,
-    0,
-    5,
-    7,
-    0,
-    0,
-    0,
-    0,
-    21,
-    0,
-    0,
-    15,
-    23,
-    0,
-    13,
-    0,
-    0,
-    1,
-    0,
-    24,
-    0,
-    0,
-    0,
-    25,
-    0,
-    0,
-    0,
-    0,
-    8,
-    9,
-    0,
-    0,
-    0,
-    3,
-    26,
-    0,
-    2,
-    0,
-    27,
-    0,
-    10,
-    11,
-    0,
-    0,
-    0,
-    0,
-    0,
-    0,
-];
 
 // The rows of P(4).
 const FOUR_ROWS: u32 = 5;
@@ -87,10 +18,25 @@ pub(crate) fn program_four(perm: &[u16], program: &mut [u8], start: usize)
     store_field(program, start, four_word(perm), FOUR_ROWS);
 }
 
-// Those bits as one number, the first row's lowest.
+// Those bits as one number, the first row's lowest. The last pair is straight, so that its first output comes through the upper half, and of that
+// output's input pair the other input through the lower.
 fn four_word(perm: &[u16]) -> u8
-    requires { ⌜ IsPerm (now perm) × (length (now perm) ≡ 4) ⌝ }
-    ensures { λ r. ⌜ fieldBits 5 r ≡ listBits 2 (now (perm .entry)) ⌝ }
+    requires { ⌜ 3 ≤ length (now perm) ⌝ }
+    ensures { λ r. ⌜ r ≡ fourWord (getD (now (perm .entry)) 0 0) (getD (now (perm .entry)) 1 0) (getD (now (perm .entry)) 2 0) ⌝ }
 {
-    FOUR[wide(perm[0]) + 4 * wide(perm[1]) + 16 * wide(perm[2])]
+    let first = perm[0];
+    let second = perm[1];
+    let third = perm[2];
+    if first / 2 == third / 2 {
+        return 16 + sides_word(third, second, first);
+    }
+    sides_word(third, first, second)
+}
+
+// The bits but for the output row's, where the third output's input and `upper` go through the upper half, and `lower` through the lower.
+fn sides_word(third: u16, upper: u16, lower: u16) -> u8
+    ensures { λ r. ⌜ (r ≡ sidesWord third upper lower) × (r < 17) ⌝ }
+{
+    let inputs = third % 2 + third / 3 % 2 + (upper % 2 + upper / 3 % 2);
+    (inputs + 4 * (upper / 2 % 2) + 8 * (lower / 2 % 2)) as u8
 }
