@@ -49,17 +49,17 @@ number-bit (suc n) (suc i) {f} h l =
     ap (λ w. w % 2) (ap (λ j. (f 0 + 2 * v) / 2 ^ j) (sym (one-add i)) ∙ sym (shr-shr (f 0 + 2 * v) 1 i) ∙ ap (λ w. w / 2 ^ i) half)
     ∙ number-bit n i (λ j. h (suc j)) (le-of-suc-le-suc l)
 
--- the bits of a number that is made of at most eight
-pub fieldBits-number : (n : ℕ) {f : ℕ → ℕ} → ((j : ℕ) → f j < 2) → n ≤ bitsHeld 1 → fieldBits n (numberOf f n) ≡ listOf n f
+-- the first of the bits that a number is made of
+pub fieldBits-number : (n m : ℕ) {f : ℕ → ℕ} → ((j : ℕ) → f j < 2) → n ≤ m → n ≤ bitsHeld 1 → fieldBits n (numberOf f m) ≡ listOf n f
 unfolding fieldBits
-fieldBits-number n {f} h l =
+fieldBits-number n m {f} h l room =
     let e : min n 8 ≡ n = omega arith in
-    rw e (listOf-ext n (λ i. bitOf i (numberOf f n)) f (λ i m. number-bit n i h m))
+    rw e (listOf-ext n (λ i. bitOf i (numberOf f m)) f (λ i k. number-bit m i h (omega arith)))
 
 -- the same for a list of bits that is written out
 pub fieldBits-list : (bs : List ℕ) (x : ℕ) → AreBits bs → length bs ≤ bitsHeld 1 → x ≡ numberOf (λ i. getD bs i 0) (length bs)
     → fieldBits (length bs) x ≡ bs
-fieldBits-list bs x h l e = rw e (fieldBits-number (length bs) (h .each) l ∙ listOf-getD bs 0)
+fieldBits-list bs x h l e = rw e (fieldBits-number (length bs) (length bs) (h .each) (omega arith) l ∙ listOf-getD bs 0)
 
 -- the lowest bits of x are the number of its bits
 pub number-bits : (n x : ℕ) → numberOf (λ i. bitOf i x) n ≡ x % 2 ^ n

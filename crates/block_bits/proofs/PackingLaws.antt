@@ -2,13 +2,13 @@
 -- the program.
 use mathlib.Core.Path.{_≡_, refl, sym, ap, ap₂, _∙_}
 use mathlib.Core.List.{List}
-use Prim.Native.Nat.{ℕ, suc, _+_, _-_, _*_, _/_, _%_, _^_, _≤_, _<_}
-use native.Mathlib.Nat.{add-zero, zero-add, add-comm, sub-self, sub-zero, mod-eq-of-lt, mod-lt}
+use Prim.Native.Nat.{ℕ, zero, suc, _+_, _-_, _*_, _/_, _%_, _^_, _≤_, _<_}
+use native.Mathlib.Nat.{pow-suc, mul-assoc, suc-add, add-zero, zero-add, add-comm, sub-self, sub-zero, mod-eq-of-lt, mod-lt}
 use native.Mathlib.Omega.{arith}
 use borrow.Rule.Slice.PartMut.{midOf, putMid}
-use lib.ListN.{length, getD, set, take, drop, length-drop}
-use lib.Seq.{take-all, length-take-le, getD-take, getD-drop}
-use lib.Pow.{pow-mono}
+use lib.ListN.{length, getD, set, drop, length-drop}
+use lib.Seq.{take-all, getD-drop}
+use lib.Pow.{pow-mono, high}
 use lib.Arith.{digits-div, digits-mod}
 use lib.Bits.{bitAnd, and-block, and-mask}
 use Rattle.lists.specs.Lists.{listOf}
@@ -36,6 +36,32 @@ number-none f n = rw (sub-self n) refl
 pub number-all : (f : ℕ → ℕ) {i : ℕ} (n : ℕ) → i ≡ 0 → numberOf (λ j. f (i + j)) (n - i) ≡ numberOf f n
 number-all f n e = rw (e, sub-zero n) (number-ext n (λ j. ap f (zero-add j)))
 
+-- the first m, and the others above them
+number-append : (m n : ℕ) (f : ℕ → ℕ) → numberOf f (m + n) ≡ numberOf (λ j. f (m + j)) n * 2 ^ m + numberOf f m
+unfolding numberOf
+number-append zero n f = rw (zero-add n) (omega (arith, number-ext n (λ j. ap f (zero-add j))))
+number-append (suc m) n f =
+    let same = number-ext n (λ j. ap f (suc-add m j)) in
+    let above = numberOf (λ j. f (suc (m + j))) n in
+    let p : above * 2 ^ suc m ≡ above * 2 ^ m * 2 = rw (pow-suc 2 m) (sym (mul-assoc above (2 ^ m) 2)) in
+    rw (suc-add m n, same) (omega (arith, number-append m n (λ j. f (suc j)), p))
+
+-- the first four and the last four
+pub number-overlap : (f : ℕ → ℕ) (n : ℕ) {first last : ℕ} → ((j : ℕ) → f j < 2) → 4 ≤ n → n ≤ 8
+    → first ≡ numberOf f 4 → last ≡ numberOf (λ j. f (n - 4 + j)) 4 → first + 16 * (last / 2 ^ (8 - n)) ≡ numberOf f n
+number-overlap f n {first} {last} h l room e₁ e₂ =
+    let k = n - 4 in
+    let a = 8 - n in
+    let upper = numberOf (λ j. f (4 + j)) k in
+    let size : a + k ≡ 4 = omega arith in
+    let whole : 4 + k ≡ n = omega arith in
+    let same = number-ext k (λ j. ap f {x = k + (a + j)} {y = 4 + j} (omega arith)) in
+    let cut : last / 2 ^ a ≡ upper =
+    ap (λ v. v / 2 ^ a) (e₂ ∙ ap (numberOf (λ j. f (k + j))) (sym size) ∙ number-append a k (λ j. f (k + j)))
+    ∙ high _ a (number-lt a (λ j. h (k + j))) ∙ same in
+    let joined : numberOf f n ≡ upper * 2 ^ 4 + numberOf f 4 = ap (numberOf f) (sym whole) ∙ number-append 4 k f in
+    rw (cut, e₁) (omega (arith, joined))
+
 -- one bit more, below the others
 module _ (f : ℕ → ℕ) (i n : ℕ) {x : ℕ} (some : 0 < i) (l : i ≤ n) (e : x ≡ numberOf (λ j. f (i + j)) (n - i)) where
   pub number-more : 2 * x + f (i - 1) ≡ numberOf (λ j. f (i - 1 + j)) (n - (i - 1))
@@ -50,7 +76,11 @@ module _ (f : ℕ → ℕ) (i n : ℕ) {x : ℕ} (some : 0 < i) (l : i ≤ n) (e
 
 pub few-bits : (l : List ℕ) (x : ℕ) → length l ≤ bitsHeld 1 → x ≡ numberOf (lowBit l) (length l) → fieldBits (length l) x ≡ lowBits l
 unfolding lowBits
-few-bits l x room e = rw e (fieldBits-number (length l) (low-lt l) room)
+few-bits l x room e = rw e (fieldBits-number (length l) (length l) (low-lt l) (omega arith) room)
+
+-- the first n of eight
+pub first-bits : (l : List ℕ) (n : ℕ) {x : ℕ} → n ≤ 8 → x ≡ numberOf (λ j. lowBit l (0 + j)) 8 → fieldBits n x ≡ listOf n (lowBit l)
+first-bits l n room e = rw (e, number-ext 8 (λ j. ap (lowBit l) (zero-add j))) (fieldBits-number n 8 (low-lt l) room room)
 
 -- ---- four bits by a product
 
@@ -100,10 +130,6 @@ byte-step s₀ {s} l i {v} bytes room held e =
     ∙ storeBits-append s₀ 0 done eight)
 
 -- ---- the first k and the others
-
-pub lowBits-take : (l : List ℕ) (k : ℕ) → k ≤ length l → lowBits (take k l) ≡ listOf k (lowBit l)
-unfolding lowBits
-lowBits-take l k h = rw (length-take-le k l h) (listOf-ext k (lowBit (take k l)) (lowBit l) (λ i m. ap (λ x. x % 2) (getD-take k l i 0 m)))
 
 rest-bits : (l : List ℕ) (k : ℕ) → lowBits (midOf k (length l - k) l) ≡ listOf (length l - k) (λ j. lowBit l (k + j))
 unfolding lowBits

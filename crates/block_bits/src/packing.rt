@@ -17,26 +17,24 @@ pub fn store_bits(program: &mut [u8], start: usize, bits: &[u8])
     ensures { λ _. ⌜ now (program .exit) ≡ storeBits (now (program .entry)) start (lowBits (now (bits .entry))) ⌝ }
 {
     let byte = bit_byte(start);
-    if byte < program.len() {
-        store_from(&mut program[byte..], bit_place(start), bits);
+    if bits.len() <= BYTE_BITS {
+        store_few(program, start, bits);
+    } else if byte < program.len() {
+        store_many(&mut program[byte..], bit_place(start), bits);
     }
 }
 
-// The same from a place of the first byte on.
-fn store_from(program: &mut [u8], place: usize, bits: &[u8])
-    requires { ⌜ (place < bitsHeld 1) × (0 < length (now program)) ⌝ }
+// More than eight bits, from a place of the first byte on.
+fn store_many(program: &mut [u8], place: usize, bits: &[u8])
+    requires { ⌜ (place < bitsHeld 1) × (0 < length (now program)) × (bitsHeld 1 < length (now bits)) ⌝ }
     ensures { λ _. ⌜ now (program .exit) ≡ storeBits (now (program .entry)) place (lowBits (now (bits .entry))) ⌝ }
 {
     let room = BYTE_BITS - place;
-    if bits.len() <= room {
-        store_few(program, place, bits);
-    } else {
-        store_few(program, place, &bits[..room]);
-        store_bytes(&mut program[1..], &bits[room..]);
-    }
+    store_field(program, place, byte_from(bits, 0), room as u32);
+    store_bytes(&mut program[1..], &bits[room..]);
 }
 
-// The same from the border of the first byte on.
+// Any number of bits, from the border of the first byte on.
 fn store_bytes(program: &mut [u8], bits: &[u8])
     ensures { λ _. ⌜ now (program .exit) ≡ storeBits (now (program .entry)) 0 (lowBits (now (bits .entry))) ⌝ }
 {
@@ -86,8 +84,23 @@ fn store_few(program: &mut [u8], start: usize, bits: &[u8])
     store_field(program, start, number_of(bits), bits.len() as u32);
 }
 
-// The number of at most eight bits, the lowest first.
+// The number of at most eight bits, the lowest first: the first four and the last four, without those that they share.
 fn number_of(bits: &[u8]) -> u8
+    requires { ⌜ length (now bits) ≤ bitsHeld 1 ⌝ }
+    ensures { λ r. ⌜ r ≡ numberOf (lowBit (now (bits .entry))) (length (now (bits .entry))) ⌝ }
+{
+    let n = bits.len();
+    if n < 4 {
+        return number_by_bit(bits);
+    }
+    let at = n - 4;
+    let first = four_bits(bits[0], bits[1], bits[2], bits[3]);
+    let last = four_bits(bits[at], bits[at + 1], bits[at + 2], bits[at + 3]);
+    (first + 16 * (last >> ((BYTE_BITS - n) as u32))) as u8
+}
+
+// The same bit by bit.
+fn number_by_bit(bits: &[u8]) -> u8
     requires { ⌜ length (now bits) ≤ bitsHeld 1 ⌝ }
     ensures { λ r. ⌜ r ≡ numberOf (lowBit (now (bits .entry))) (length (now (bits .entry))) ⌝ }
 {

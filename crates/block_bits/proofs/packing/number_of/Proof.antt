@@ -1,49 +1,52 @@
--- `block_bits::packing::number_of` meets its contract. The loop's invariant: x is the number of the bits from i on. Assumes nothing.
-use mathlib.Core.Path.{_≡_, refl, sym, ap, _∙_}
-use Prim.Native.Nat.{_+_, _-_, _*_, _<_, _≤_}
+-- `block_bits::packing::number_of` meets its contract: the first four bits and the last four, of which a shift leaves those above the first.
+-- Assumes nothing.
+use mathlib.Core.Path.{_≡_, sym, ap, _∙_}
+use Prim.Native.Nat.{ℕ, _+_, _-_, _*_, _/_, _^_, _≤_}
+use native.Mathlib.Nat.{add-zero}
 use native.Mathlib.Omega.{arith}
 use borrow.Author.Needs.{needs}
 use mir.Facts.{fits-below}
-use lib.ListN.{length, getD}
+use lib.ListN.{length}
+use lib.Pow.{shr-le}
 use Rattle.block_bits.specs.Stores.{lowBit, numberOf}
-use Rattle.block_bits.proofs.PackingLaws.{low-lt, number-none, number-all, number-more, number-room}
+use Rattle.block_bits.proofs.PackingLaws.{low-lt, number-overlap}
 use Rattle.block_bits.proofs.packing.number_of.Statement.{statement}
 use Rattle.block_bits.proofs.packing.number_of.Tie as tie
 
-abbrev Inv-loop : tie.InvT-loop
-Inv-loop bits x₀ i₀ x i = (i ≤ length bits) × (x ≡ numberOf (λ j. lowBit bits (i + j)) (length bits - i))
+-- the bits' number is a byte
+module _ (c : tie.After-four-bits2) where
+  small : let n = length (c .before .before .before .before .before .before .before .before .before .before .before .before .args .bits .now) in
+      c .before .before .before .before .before .four-bits .result + 16 * (c .four-bits2 .result / 2 ^ (8 - n)) ≤ 255
+  small =
+      let n = length (c .before .before .before .before .before .before .before .before .before .before .before .before .args .bits .now) in
+      omega (arith, c .before .before .before .before .before .four-bits .ensures, c .four-bits2 .ensures, shr-le (c .four-bits2 .result) (8 - n))
 
-abbrev μ-loop : tie.MeasureT-loop
-μ-loop bits x₀ i₀ x i = i
+shifted : tie.Need-mul-result
+shifted c = fits-below {n = 255} tt (omega (arith, small c))
 
-holds : tie.Need-loop-holds Inv-loop μ-loop
-holds c = let l = c .args .bits .now in (omega arith, number-none (λ j. lowBit l (length l + j)) (length l))
+joins : tie.Need-add-result
+joins c = fits-below {n = 255} tt (small c)
 
-double : tie.Need-mul-x Inv-loop μ-loop
-double c =
-    let l = c .before .before .args .bits .now in
-    let at = c .before .loop in
-    let small = number-room (lowBit l) (at .i) (length l) (omega arith) (at .inv .0) (at .inv .1) (low-lt l) (omega arith) in
-    fits-below {n = 255} tt (omega arith)
+fits : tie.Need-cast-result-3
+fits c = fits-below {n = 255} tt (small c)
 
-more : tie.Need-add-x Inv-loop μ-loop
-more c =
-    let l = c .before .before .before .args .bits .now in
-    let at = c .before .before .loop in
-    let small = number-room (lowBit l) (at .i) (length l) (omega arith) (at .inv .0) (at .inv .1) (low-lt l) (omega arith) in
-    fits-below {n = 255} tt (omega arith)
-
-again : tie.Need-loop-again Inv-loop μ-loop
-again c =
-    let l = c .before .before .before .args .bits .now in
-    let at = c .before .before .loop in
-    (omega arith, number-more (lowBit l) (at .i) (length l) (omega arith) (at .inv .0) (at .inv .1))
-
-all : tie.Need-returns Inv-loop μ-loop
-all c = let l = c .before .before .args .bits .now in c .before .loop .inv .1 ∙ number-all (lowBit l) (length l) (omega arith)
+made : tie.Need-returns-2
+unfolding numberOf
+made c =
+    let l = c .before .before .before .before .before .before .before .before .before .before .before .before .args .bits .now in
+    let n = length l in
+    let first = c .before .before .before .before .before .four-bits in
+    let last = c .four-bits2 in
+    let at = ap (lowBit l) (add-zero (n - 4)) in
+    let low : first .result ≡ numberOf (lowBit l) 4 = omega (arith, first .ensures) in
+    let high : last .result ≡ numberOf (λ j. lowBit l (n - 4 + j)) 4 = omega (arith, at, last .ensures) in
+    number-overlap (lowBit l) n (low-lt l) (omega arith) (omega arith) low high
 
 pub number-of-spec : {M : Type 1} → statement M
 number-of-spec =
     tie.close
-    (tie.spec Inv-loop μ-loop
-    holds (λ c. search needs) double (λ c. search needs) more (λ c. search needs) again all)
+    (tie.spec
+    (λ c κs. search needs) (λ c. search needs) (λ c. search needs) (λ c. search needs) (λ c. search needs) (λ c. search needs)
+    (λ c κs. search needs) (λ c. search needs) (λ c. search needs) (λ c. search needs) (λ c. search needs) (λ c. search needs)
+    (λ c. search needs) (λ c. search needs) (λ c κs. search needs) (λ c. search needs) (λ c. search needs) (λ c. search needs)
+    (λ c. search needs) shifted joins fits made)
