@@ -106,16 +106,16 @@ module _ {p scratch before after : List ℕ} {start part level a b : ℕ} (P : I
     block-stored {upper} {lower} bytes ep eu el =
         let n = level - 1 in
         let H = halving level room l in
-        let I = inputSides (inverseList p) (sidesOf p) in
+        let I = inputSides p (inverseList p) in
         let U = listBits n (halfList 0 p (sidesOf p)) in
         let D = listBits n (halfList 1 p (sidesOf p)) in
         let O = outputSides (sidesOf p) in
         let S = sides-bits (length p / 2) (sym (H .even)) P in
-        let hI : AreBits I = inputs-bits (inverseList p) (sidesOf p) in
+        let hI : AreBits I = inputs-bits (length p / 2) (sym (H .even)) P in
         let hO : AreBits O = bits-take (length (sidesOf p) - 1) S in
         let hU : AreBits U = listBits-bits n (half-size (length p / 2) (sym (H .even)) P 0 ∙ H .half) (half-listed (length p / 2) (sym (H .even)) P 0 (omega arith)) in
         let hD : AreBits D = listBits-bits n (half-size (length p / 2) (sym (H .even)) P 1 ∙ H .half) (half-listed (length p / 2) (sym (H .even)) P 1 (omega arith)) in
-        let li : length I ≡ length p / 2 = length-listOf _ _ ∙ ap (λ k. k / 2) (length-listOf (length p) (inverseOf p)) in
+        let li : length I ≡ length p / 2 = length-listOf _ _ in
         let all : listBits level p ≡ I ++ (U ++ (D ++ O)) =
         ap (λ k. listBits k p) (omega arith) ∙ level-bits n {p = p} (sym (H .even) ∙ ap (λ k. 2 * k) (H .half)) P in
         el ∙ ap (λ t. storeBits upper (start + length p / 2 + part) (listBits n t)) lower-is

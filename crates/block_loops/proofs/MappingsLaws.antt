@@ -9,8 +9,8 @@ use native.Mathlib.Decide.{ℕ-discrete, decLt}
 use native.Mathlib.Omega.{arith}
 use lib.ListN.{length, getD, set, take, drop, length-set, length-append, length-take, List·getD-append, List·getD-eq-default}
 use lib.Seq.{ext-getD, getD-set-same, getD-set-other, getD-append-add, getD-take, take-at, drop-at, take-take}
-use Rattle.lists.specs.Lists.{listOf, Below}
-use Rattle.lists.proofs.ListsLaws.{length-listOf, getD-listOf, getD-listOf-all, listOf-ext, listOf-front, below-listOf}
+use Rattle.lists.specs.Lists.{listOf}
+use Rattle.lists.proofs.ListsLaws.{length-listOf, getD-listOf, getD-listOf-all, listOf-ext, listOf-front}
 use Rattle.block_elements.specs.Bits.{AreBits, storeBits}
 use Rattle.block_elements.proofs.BitsLaws.{bits-append, bits-listOf}
 use Rattle.block_bits.specs.Stores.{lowBits}
@@ -21,8 +21,8 @@ use Rattle.block_networks.proofs.Halves.{half-perm, side-lt, output-sides}
 use Rattle.block_networks.proofs.Routing.{length-permutationBits, permutationBits-bits}
 use Rattle.block_networks.specs.Wanted.{takerOf}
 use Rattle.block_networks.proofs.WantedLaws.{taker-perm}
-use Rattle.block_loops.specs.Mappings.{mapOf, inverseOf, IsPerm, listBits, Paired, sideIn, pairSide, sideList, sideFrom, inverseList, inputSides, outputSides, rowSides, rowsStored, halfEntry, halfList, sidesOf, Levelled}
-use Rattle.block_loops.proofs.MarkingLaws.{read-map, side-first}
+use Rattle.block_loops.specs.Mappings.{mapOf, inverseOf, IsPerm, listBits, Paired, sideIn, pairSide, inverseList, inputSide, inputSides, outputSides, rowSides, rowsStored, halfEntry, halfList, sidesOf, Levelled}
+use Rattle.block_loops.proofs.MarkingLaws.{read-map}
 
 -- ---- lists given place by place
 
@@ -74,7 +74,7 @@ module _ {p : List ℕ} (P : IsPerm p) where
   pub entry-lt : (o : ℕ) → o < length p → getD p o 0 < length p
   entry-lt o l = rw (read-map p o l) (perm-lt (P .perm) o l)
 
-  pub inverted-more : {q : List ℕ} {i : ℕ} → i < length p → Inverted p q i → Inverted p (set q (getD p i 0) i) (i + 1)
+  inverted-more : {q : List ℕ} {i : ℕ} → i < length p → Inverted p q i → Inverted p (set q (getD p i 0) i) (i + 1)
   inverted-more {q} {i} l W = rw (read-map p i l) record {
     size = length-set q (mapOf p i) i ∙ W .size;
     done = λ o d. go o d (decLt o i);
@@ -85,6 +85,13 @@ module _ {p : List ℕ} (P : IsPerm p) where
       go o d (no n) =
           let e : o ≡ i = omega arith in
           rw e (getD-set-same q (mapOf p i) i 0 (rw (W .size) (perm-lt (P .perm) i l)))
+
+  -- a pair of outputs
+  pub inverted-pair : {q : List ℕ} {i a b : ℕ} → i < length p / 2 → a ≡ getD p (2 * i) 0 → b ≡ getD p (2 * i + 1) 0 → Inverted p q (2 * i)
+      → Inverted p (set (set q a (2 * i)) b (2 * i + 1)) (2 * (i + 1))
+  inverted-pair {q} {i} l ea eb W =
+      let e : 2 * (i + 1) ≡ 2 * i + 1 + 1 = omega arith in
+      rw (ea, eb, e) (inverted-more (omega arith) (inverted-more (omega arith) W))
 
   pub inverted-all : {q : List ℕ} {i : ℕ} → length p ≤ i → Inverted p q i → q ≡ inverseList p
   inverted-all {q} {i} l W =
@@ -115,17 +122,14 @@ module _ (h : ℕ) {p : List ℕ} (lp : length p ≡ 2 * h) (P : IsPerm p) where
   pub sides-bits : AreBits (sidesOf p)
   sides-bits = bits-listOf (length p / 2) (λ i. rw side-is (side-lt (side h (mapOf p) (inverseOf p)) (output-sides h perm₂) (2 * i)))
 
+  pub inputs-bits : AreBits (inputSides p (inverseList p))
+  inputs-bits = bits-listOf (length p / 2) (λ j. rw side-is (side-lt (side h (mapOf p) (inverseOf p)) (output-sides h perm₂) (mapOf (inverseList p) (2 * j))))
+
   side-at : (i : ℕ) → i < h → getD (sidesOf p) i 0 ≡ side h (mapOf p) (inverseOf p) (2 * i)
   side-at i l = getD-listOf (length p / 2) (pairSide p (inverseList p)) i 0 (rw halved l) ∙ ap (λ (f : ℕ → ℕ). f (2 * i)) side-is
 
-  from-is : (o : ℕ) → o < 2 * h → sideFrom (sidesOf p) o ≡ side h (mapOf p) (inverseOf p) o
-  from-is o l = ap (λ y. (y + o % 2) % 2) (side-at (o / 2) (omega arith)) ∙ sym (side-first h perm₂ o)
-
-  inputs-are : inputSides (inverseList p) (sidesOf p) ≡ listOf h (λ j. side h (mapOf p) (inverseOf p) (inverseOf p (2 * j)))
-  inputs-are =
-      same-listOf (ap (λ n. n / 2) (length-listOf (length p) (inverseOf p)) ∙ halved) (λ j l.
-      ap (sideFrom (sidesOf p)) (getD-listOf (length p) (inverseOf p) (2 * j) 0 (omega arith))
-      ∙ from-is (inverseOf p (2 * j)) (perm-lt (flipped perm₂) (2 * j) (omega arith)))
+  inputs-are : inputSides p (inverseList p) ≡ listOf h (λ j. side h (mapOf p) (inverseOf p) (inverseOf p (2 * j)))
+  inputs-are = same-listOf halved (λ j l. ap (λ (f : ℕ → ℕ). f (mapOf (inverseList p) (2 * j))) side-is ∙ ap (λ (g : ℕ → ℕ). side h (mapOf p) (inverseOf p) (g (2 * j))) map-inverse)
 
   outputs-are : outputSides (sidesOf p) ≡ listOf (h - 1) (λ i. side h (mapOf p) (inverseOf p) (2 * i))
   outputs-are =
@@ -155,70 +159,14 @@ module _ (h : ℕ) {p : List ℕ} (lp : length p ≡ 2 * h) (P : IsPerm p) where
 -- input rows, upper, lower, output rows
 pub level-bits : (n : ℕ) {p : List ℕ} → length p ≡ 2 * 2 ^ n → IsPerm p
     → listBits (suc n) p
-    ≡ inputSides (inverseList p) (sidesOf p)
+    ≡ inputSides p (inverseList p)
     ++ (listBits n (halfList 0 p (sidesOf p)) ++ (listBits n (halfList 1 p (sidesOf p)) ++ outputSides (sidesOf p)))
 level-bits n lp P =
     let h = 2 ^ n in
     rw (inputs-are h lp P, outputs-are h lp P, half-bits h lp P n 0 (omega arith), half-bits h lp P n 1 (omega arith))
     (unfold listBits permutationBits in refl)
 
--- ---- two lists of h entries, one behind the other, store by store
-
-pub record Filled (h : ℕ) (f g : ℕ → ℕ) (w : List ℕ) (i j : ℕ) : Type 0 where
-  pub size : length w ≡ 2 * h
-  pub upper : (x : ℕ) → x < i → getD w x 0 ≡ f x
-  pub lower : (x : ℕ) → x < j → getD w (h + x) 0 ≡ g x
-
-module _ {h : ℕ} {f g : ℕ → ℕ} {w : List ℕ} {i j : ℕ} (W : Filled h f g w i j) where
-  pub upper-more : {v : ℕ} → i < h → v ≡ f i → Filled h f g (set w i v) (i + 1) j
-  upper-more {v} l e =
-      record {
-        size = length-set w i v ∙ W .size;
-        upper = λ x d. go x d (ℕ-discrete x i);
-        lower = λ x d. getD-set-other w i (h + x) v 0 (λ c. absurd (omega arith)) ∙ W .lower x d;
-      }
-    where
-      go : (x : ℕ) → x < i + 1 → Dec (x ≡ i) → getD (set w i v) x 0 ≡ f x
-      go x d (yes c) = rw c (getD-set-same w i v 0 (omega (arith, W .size)) ∙ e)
-      go x d (no n) = getD-set-other w i x v 0 n ∙ W .upper x (omega arith)
-
-  pub lower-more : {v : ℕ} → i ≤ h → j < h → v ≡ g j → Filled h f g (set w (h + j) v) i (j + 1)
-  lower-more {v} b l e =
-      record {
-        size = length-set w (h + j) v ∙ W .size;
-        upper = λ x d. getD-set-other w (h + j) x v 0 (λ c. absurd (omega arith)) ∙ W .upper x d;
-        lower = λ x d. go x d (ℕ-discrete x j);
-      }
-    where
-      go : (x : ℕ) → x < j + 1 → Dec (x ≡ j) → getD (set w (h + j) v) (h + x) 0 ≡ g x
-      go x d (yes c) = rw c (getD-set-same w (h + j) v 0 (omega (arith, W .size)) ∙ e)
-      go x d (no n) = getD-set-other w (h + j) (h + x) v 0 (λ c. n (omega arith)) ∙ W .lower x (omega arith)
-
-  pub filled-all : h ≤ i → h ≤ j → w ≡ listOf h f ++ listOf h g
-  filled-all bi bj =
-      ext-getD 0 w (listOf h f ++ listOf h g) (W .size ∙ sym both) (λ x d. go x (rw (W .size) at d) (decLt x h))
-    where
-      lf : length (listOf h f) ≡ h
-      lf = length-listOf h f
-
-      both : length (listOf h f ++ listOf h g) ≡ 2 * h
-      both = length-append (listOf h f) (listOf h g) ∙ omega (arith, lf, length-listOf h g)
-
-      go : (x : ℕ) → x < 2 * h → Dec (x < h) → getD w x 0 ≡ getD (listOf h f ++ listOf h g) x 0
-      go x d (yes l) =
-          W .upper x (omega arith)
-          ∙ sym (List·getD-append (listOf h f) (listOf h g) 0 x (rw lf l) ∙ getD-listOf h f x 0 l)
-      go x d (no n) =
-          let k : h + (x - h) ≡ x = omega arith in
-          let k′ : length (listOf h f) + (x - h) ≡ x = omega (arith, lf) in
-          ap (λ y. getD w y 0) (sym k) ∙ W .lower (x - h) (omega arith)
-          ∙ sym (ap (λ y. getD (listOf h f ++ listOf h g) y 0) (sym k′) ∙ getD-append-add (listOf h f) (listOf h g) (x - h) 0
-          ∙ getD-listOf h g (x - h) 0 (omega arith))
-
 -- ---- what the calls of a level hand on
-
-pub inputs-bits : (q m : List ℕ) → AreBits (inputSides q m)
-inputs-bits q m = bits-listOf (length q / 2) (λ j. omega arith)
 
 pub bits-take : (n : ℕ) {m : List ℕ} → AreBits m → AreBits (take n m)
 bits-take n {m} h = record { each = λ i. go i (decLt i n) }
@@ -236,39 +184,29 @@ half-entry c p m i {r} first second = go (parity (getD m i 0 + c))
     go (inl e) = first e ∙ ap (λ k. getD p k 0 / 2) (omega (arith, e))
     go (inr e) = second e ∙ ap (λ k. getD p (2 * i + k) 0 / 2) (sym e)
 
-pub takers-below : {p : List ℕ} → IsPerm p → Below (length p) (inverseList p)
-takers-below {p} P = below-listOf (length p) (length p) (inverseOf p) (perm-lt (flipped (P .perm)))
-
--- the sides as they are found: the output pairs' before the input pairs'
-pub rows-found : (p rest : List ℕ) {q m : List ℕ} → q ≡ inverseList p → m ≡ sideList p q → length (m ++ rest) ≡ length p
-    → rowSides q (take (length (m ++ rest) / 2) (m ++ rest)) ≡ rowSides (inverseList p) (sidesOf p)
-rows-found p rest {q} {m} eq em size =
-    let half : length m ≡ length (m ++ rest) / 2 = ap length em ∙ length-listOf (length p / 2) (pairSide p q) ∙ ap (λ n. n / 2) (sym size) in
-    ap (rowSides q) (take-at m rest (length (m ++ rest) / 2) half ∙ em) ∙ ap (λ l. rowSides l (sideList p l)) eq
-
 module _ {p : List ℕ} (P : IsPerm p) (even : 2 * (length p / 2) ≡ length p) where
   abbrev h : ℕ
   h = length p / 2
 
   abbrev rows : List ℕ
-  rows = rowSides (inverseList p) (sidesOf p)
+  rows = rowSides p (inverseList p)
 
   length-sides : length (sidesOf p) ≡ h
   length-sides = length-listOf h (pairSide p (inverseList p))
 
-  length-inputs : length (inputSides (inverseList p) (sidesOf p)) ≡ h
-  length-inputs = length-listOf _ _ ∙ ap (λ n. n / 2) (length-listOf (length p) (inverseOf p))
+  length-inputs : length (inputSides p (inverseList p)) ≡ h
+  length-inputs = length-listOf h (inputSide p (inverseList p))
 
   half-rows : length rows / 2 ≡ h
-  half-rows = ap (λ n. n / 2) (length-append (sidesOf p) (inputSides (inverseList p) (sidesOf p))) ∙ omega (arith, length-sides, length-inputs)
+  half-rows = ap (λ n. n / 2) (length-append (sidesOf p) (inputSides p (inverseList p))) ∙ omega (arith, length-sides, length-inputs)
 
   front-rows : take h rows ≡ sidesOf p
-  front-rows = take-at (sidesOf p) (inputSides (inverseList p) (sidesOf p)) h length-sides
+  front-rows = take-at (sidesOf p) (inputSides p (inverseList p)) h length-sides
 
-  inputs-low : lowBits (drop h rows) ≡ inputSides (inverseList p) (sidesOf p)
+  inputs-low : lowBits (drop h rows) ≡ inputSides p (inverseList p)
   inputs-low =
-      ap lowBits (drop-at (sidesOf p) (inputSides (inverseList p) (sidesOf p)) h length-sides)
-      ∙ lowBits-same (inputSides (inverseList p) (sidesOf p)) (inputs-bits (inverseList p) (sidesOf p))
+      ap lowBits (drop-at (sidesOf p) (inputSides p (inverseList p)) h length-sides)
+      ∙ lowBits-same (inputSides p (inverseList p)) (inputs-bits h (sym even) P)
 
   outputs-low : lowBits (take (h - 1) rows) ≡ outputSides (sidesOf p)
   outputs-low =
@@ -277,7 +215,7 @@ module _ {p : List ℕ} (P : IsPerm p) (even : 2 * (length p / 2) ≡ length p) 
       ∙ ap (λ n. take (n - 1) (sidesOf p)) (sym length-sides)
 
   pub rows-bits : AreBits rows
-  rows-bits = bits-append (sides-bits h (sym even) P) (inputs-bits (inverseList p) (sidesOf p))
+  rows-bits = bits-append (sides-bits h (sym even) P) (inputs-bits h (sym even) P)
 
   pub levelled : {w maps before after : List ℕ} {start part n : ℕ} → n ≡ h → w ≡ rows → after ≡ rowsStored before start part w
       → maps ≡ halfList 0 p (take n w) ++ halfList 1 p (take n w) → Levelled p maps start part before after
@@ -288,5 +226,5 @@ module _ {p : List ℕ} (P : IsPerm p) (even : 2 * (length p / 2) ≡ length p) 
             stored ∙ ap (rowsStored before start part) ew
             ∙ ap (λ n. storeBits (storeBits before start (lowBits (drop n rows))) (start + n + part + part) (lowBits (take (n - 1) rows))) half-rows
             ∙ ap (λ b. storeBits (storeBits before start b) (start + h + part + part) (lowBits (take (h - 1) rows))) inputs-low
-            ∙ ap (storeBits (storeBits before start (inputSides (inverseList p) (sidesOf p))) (start + h + part + part)) outputs-low;
+            ∙ ap (storeBits (storeBits before start (inputSides p (inverseList p))) (start + h + part + part)) outputs-low;
       }

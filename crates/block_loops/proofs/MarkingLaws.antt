@@ -4,28 +4,39 @@ use mathlib.Core.Path.{_≡_, refl, sym, ap, _∙_}
 use mathlib.Core.Logic.{_≢_, _⊎_, inl, inr}
 use mathlib.Core.List.{List, _++_, append-nil}
 use Prim.Native.Nat.{ℕ, zero, suc, _+_, _-_, _*_, _/_, _%_, _≤_, _<_, zero-le, suc-le-suc}
-use native.Mathlib.Nat.{not-suc-le-zero, le-suc-iff}
+use native.Mathlib.Nat.{not-suc-le-zero, le-refl, le-suc-iff}
 use native.Mathlib.Numerals.{add-one}
 use native.Mathlib.Decide.{ℕ-discrete, decLt, decLe}
 use native.Mathlib.Omega.{arith}
-use lib.ListN.{length, getD, drop, replicate, length-set, length-replicate, getD-replicate}
+use borrow.Author.Tests.{lt-ltb, le-ltb}
+use lib.ListN.{length, getD, set, length-set}
 use lib.Seq.{getD-set-same, getD-set-other, ext-getD, drop-length}
 use Rattle.lists.proofs.ListsLaws.{getD-any, length-listOf, getD-listOf}
 use Rattle.block_networks.specs.Permutation.{Perm, partner, iterate, walk, key, lowest, side}
-use Rattle.block_networks.proofs.Orbits.{Reach, reach-trans, once-round, Attained}
-use Rattle.block_networks.proofs.Loops.{parity, partner-partner, partner-half, partner-even, partner-lt, same-pair, key-at, key-inj, key-partner, key-last, key-other, KeyAt, in-last, elsewhere, perm-lt}
+use Rattle.block_networks.proofs.Orbits.{Reach, reach-one, reach-trans, once-round, Attained}
+use Rattle.block_networks.proofs.Loops.{parity, partner-partner, partner-half, partner-even, partner-lt, same-pair, key-at, key-inj, key-partner, key-last, key-other, KeyAt, in-last, elsewhere, flipped, perm-lt}
 use Rattle.block_networks.proofs.Loops.{walk-lt, walk-closes, walk-sym, walk-mirror, lowest-at, lowest-low, lowest-same, lowest-partner, side-along, side-partner}
 use Rattle.block_networks.proofs.Halves.{side-lt, output-sides}
-use Rattle.block_loops.specs.Mappings.{mapOf, Paired, walkIn, sideIn, pairSide, sideList}
-use Rattle.block_loops.specs.Marking.{unmarked, pairMarked, visitPair, loopOf, loopIn, Leads, Traced, Visited}
+use Rattle.block_loops.proofs.FillingLaws.{Filled, filled-all}
+use Rattle.block_loops.specs.Mappings.{mapOf, Paired, walkIn, sideIn, pairSide, inputSide, rowSides}
+use Rattle.block_loops.specs.Marking.{unmarked, marked, visitPair, loopOf, outputOf, rowSide, loopIn, Leads, Traced, Unmarked, Visited}
 
 -- ---- loops
 
--- pair i is that of one of the first j places of the walk from a
-pub record Passed (f : ℕ → ℕ) (j a i : ℕ) : Type 0 where
+-- output y marks x: its pair, or behind the h output pairs the pair of the input that it takes
+pub data Marks (h : ℕ) (π : ℕ → ℕ) (x y : ℕ) : Type 0 where
+  its-pair : x ≡ y / 2 → Marks h π x y
+  its-input : x ≡ h + π y / 2 → Marks h π x y
+
+-- one of the first j places of the walk from a marks x
+pub record Passed (f : ℕ → ℕ) (h : ℕ) (π : ℕ → ℕ) (j a x : ℕ) : Type 0 where
   pub steps : ℕ
   pub few : steps < j
-  pub pair : i ≡ iterate f steps a / 2
+  pub marks : Marks h π x (iterate f steps a)
+
+second-partner : (x : ℕ) → x % 2 ≡ 1 → 2 * (x / 2) ≡ partner x
+unfolding partner
+second-partner x e = omega arith
 
 module _ (h : ℕ) {π ρ : ℕ → ℕ} (P : Perm (2 * h) π ρ) where
   loop-along : {a b : ℕ} → Reach (walk π ρ) a b → loopOf h π ρ a ≡ loopOf h π ρ b
@@ -66,18 +77,58 @@ module _ (h : ℕ) {π ρ : ℕ → ℕ} (P : Perm (2 * h) π ρ) where
       go (inl p) = inl (reach-trans (u .reached) (walk-sym h P (rw p at (t .reached))))
       go (inr p) = inr (reach-trans (u .reached) (walk-sym h P (rw (p, partner-partner (u .place)) at (walk-mirror h P (t .reached)))))
 
-  -- a walk that is back after suc p steps has passed each pair of its loop
-  passes-all : (a p i : ℕ) → iterate (walk π ρ) (suc p) a ≡ a → loopOf h π ρ (2 * i) ≡ loopOf h π ρ a → Passed (walk π ρ) (suc p) a i
-  passes-all a p i c e = go (same-loop a (2 * i) e)
+  -- the output that takes the first of the two inputs where o takes one: o itself, or the partner of the next output
+  taker-is : (o : ℕ) → ((π o % 2 ≡ 0) × (ρ (2 * (π o / 2)) ≡ o)) ⊎ ((π o % 2 ≡ 1) × (ρ (2 * (π o / 2)) ≡ partner (walk π ρ o)))
+  unfolding walk
+  taker-is o = go (parity (π o))
     where
-      within : (y : ℕ) → Reach (walk π ρ) a y → y / 2 ≡ i → Passed (walk π ρ) (suc p) a i
-      within y r q =
-          let t = once-round (walk π ρ) a p (r .steps) c in
-          record { steps = t .steps; few = suc-le-suc (t .few); pair = sym q ∙ ap (λ z. z / 2) (sym (t .ends ∙ r .ends)) }
+      go : (π o % 2 ≡ 0) ⊎ (π o % 2 ≡ 1) → ((π o % 2 ≡ 0) × (ρ (2 * (π o / 2)) ≡ o)) ⊎ ((π o % 2 ≡ 1) × (ρ (2 * (π o / 2)) ≡ partner (partner (ρ (partner (π o))))))
+      go (inl e) = inl (e, ap ρ (omega (arith, e)) ∙ P .to o)
+      go (inr e) = inr (e, ap ρ (second-partner (π o) e) ∙ sym (partner-partner (ρ (partner (π o)))))
 
-      go : (Reach (walk π ρ) a (2 * i)) ⊎ (Reach (walk π ρ) a (partner (2 * i))) → Passed (walk π ρ) (suc p) a i
-      go (inl r) = within (2 * i) r (omega arith)
-      go (inr r) = within (partner (2 * i)) r (partner-half (2 * i) ∙ omega arith)
+  taker-loop : (o : ℕ) → loopOf h π ρ (ρ (2 * (π o / 2))) ≡ loopOf h π ρ o
+  taker-loop o = go (taker-is o)
+    where
+      go : ((π o % 2 ≡ 0) × (ρ (2 * (π o / 2)) ≡ o)) ⊎ ((π o % 2 ≡ 1) × (ρ (2 * (π o / 2)) ≡ partner (walk π ρ o))) → loopOf h π ρ (ρ (2 * (π o / 2))) ≡ loopOf h π ρ o
+      go (inl e) = ap (loopOf h π ρ) (e .1)
+      go (inr e) = ap (loopOf h π ρ) (e .1) ∙ loop-partner (walk π ρ o) ∙ sym (loop-along (reach-one (walk π ρ) o))
+
+  taker-side : (o : ℕ) → side h π ρ o ≡ 0 → side h π ρ (ρ (2 * (π o / 2))) ≡ π o % 2
+  taker-side o s = go (taker-is o)
+    where
+      go : ((π o % 2 ≡ 0) × (ρ (2 * (π o / 2)) ≡ o)) ⊎ ((π o % 2 ≡ 1) × (ρ (2 * (π o / 2)) ≡ partner (walk π ρ o))) → side h π ρ (ρ (2 * (π o / 2))) ≡ π o % 2
+      go (inl e) = ap (side h π ρ) (e .1) ∙ s ∙ sym (e .0)
+      go (inr e) = ap (side h π ρ) (e .1) ∙ omega (arith, e .0, s, side-along h P (reach-one (walk π ρ) o), side-partner h P (walk π ρ o))
+
+  -- a walk that is back after suc p steps has marked each pair of its loop
+  module _ (a p : ℕ) (back : iterate (walk π ρ) (suc p) a ≡ a) where
+    within : (x y : ℕ) → Reach (walk π ρ) a y → Marks h π x y → Passed (walk π ρ) h π (suc p) a x
+    within x y r q =
+        let t = once-round (walk π ρ) a p (r .steps) back in
+        record { steps = t .steps; few = suc-le-suc (t .few); marks = rw (t .ends ∙ r .ends) q }
+
+    passes-pair : (i : ℕ) → loopOf h π ρ (2 * i) ≡ loopOf h π ρ a → Passed (walk π ρ) h π (suc p) a i
+    passes-pair i e = go (same-loop a (2 * i) e)
+      where
+        go : (Reach (walk π ρ) a (2 * i)) ⊎ (Reach (walk π ρ) a (partner (2 * i))) → Passed (walk π ρ) h π (suc p) a i
+        go (inl r) = within i (2 * i) r (its-pair (omega arith))
+        go (inr r) = within i (partner (2 * i)) r (its-pair (omega (arith, partner-half (2 * i))))
+
+    passes-input : (j : ℕ) → loopOf h π ρ (ρ (2 * j)) ≡ loopOf h π ρ a → Passed (walk π ρ) h π (suc p) a (h + j)
+    unfolding walk
+    passes-input j e = go (same-loop a (ρ (2 * j)) e)
+      where
+        y : ℕ
+        y = ρ (partner (2 * j))
+
+        next : walk π ρ y ≡ partner (ρ (2 * j))
+        next = ap (λ z. partner (ρ (partner z))) (P .fro (partner (2 * j))) ∙ ap (λ z. partner (ρ z)) (partner-partner (2 * j))
+
+        go : (Reach (walk π ρ) a (ρ (2 * j))) ⊎ (Reach (walk π ρ) a (partner (ρ (2 * j)))) → Passed (walk π ρ) h π (suc p) a (h + j)
+        go (inl r) = within (h + j) (ρ (2 * j)) r (its-input (omega (arith, P .fro (2 * j))))
+        go (inr r) =
+            within (h + j) y (reach-trans r (walk-sym h P (rw next at (reach-one (walk π ρ) y))))
+            (its-input (omega (arith, P .fro (partner (2 * j)), partner-half (2 * j))))
 
   -- where x's loop is led by o's pair, it is o's loop
   loop-led : (o x : ℕ) → loopOf h π ρ x ≡ key h o / 2 → loopOf h π ρ x ≡ loopOf h π ρ o
@@ -131,15 +182,27 @@ module _ {p q : List ℕ} (G : Paired p q) where
 
 -- ---- a walk round a loop
 
--- the walk from pair i's first output has come to o after j steps, not yet back, and has marked the pairs that it passed
+pair-output : (p q : List ℕ) (x : ℕ) → x < length p / 2 → outputOf p q x ≡ 2 * x
+pair-output p q x l = rw (lt-ltb x (length p / 2) l)
+
+input-output : (p q : List ℕ) (j : ℕ) → outputOf p q (length p / 2 + j) ≡ mapOf q (2 * j)
+input-output p q j = rw (le-ltb (length p / 2 + j) (length p / 2) (omega arith)) (ap (λ k. mapOf q (2 * k)) (omega arith))
+
+-- the walk from pair i's first output has come to o after j steps, not yet back, and has marked what it passed
 pub record Walked (p q : List ℕ) (i : ℕ) (m₀ m : List ℕ) (o j : ℕ) : Type 0 where
   pub here : o ≡ iterate (walkIn p q) j (2 * i)
   pub size : length m ≡ length m₀
   pub away : (k : ℕ) → 1 ≤ k → k ≤ j → iterate (walkIn p q) k (2 * i) ≢ 2 * i
-  pub done : (x : ℕ) → Passed (walkIn p q) j (2 * i) x → getD m x 0 ≡ pairSide p q x
+  pub done : (x : ℕ) → Passed (walkIn p q) (length p / 2) (mapOf p) j (2 * i) x → getD m x 0 ≡ rowSide p q x
   pub kept : (x : ℕ) → loopIn p q x ≢ loopIn p q i → getD m x 0 ≡ getD m₀ x 0
 
-module _ {p q : List ℕ} (G : Paired p q) (i : ℕ) (L : Leads p q i) (m₀ : List ℕ) (ms : length m₀ ≡ length p / 2) where
+module _ {p q : List ℕ} (G : Paired p q) (i : ℕ) (L : Leads p q i) (m₀ : List ℕ) (ms : length m₀ ≡ length p) where
+  abbrev h : ℕ
+  h = length p / 2
+
+  abbrev loop : ℕ → ℕ
+  loop = loopOf h (mapOf p) (mapOf q)
+
   pub walked-none : Walked p q i m₀ m₀ (2 * i) 0
   unfolding iterate
   walked-none =
@@ -150,10 +213,10 @@ module _ {p q : List ℕ} (G : Paired p q) (i : ℕ) (L : Leads p q i) (m₀ : L
   on-walk j = record { steps = j; ends = refl }
 
   on-side : (j : ℕ) → sideIn p q (iterate (walkIn p q) j (2 * i)) ≡ 0
-  on-side j = sym (side-along (length p / 2) (G .perm) (on-walk j)) ∙ L .straight
+  on-side j = sym (side-along h (G .perm) (on-walk j)) ∙ L .straight
 
   pub walked-below : {m : List ℕ} {o j : ℕ} → Walked p q i m₀ m o j → o < length p
-  walked-below {m} {o} {j} W = rw (W .here, ← G .even) (walk-lt (length p / 2) (G .perm) j (2 * i) (omega (arith, L .below)))
+  walked-below {m} {o} {j} W = rw (W .here, ← G .even) (walk-lt h (G .perm) j (2 * i) (omega (arith, L .below)))
 
   -- it is back within as many steps as there are outputs
   pub walked-short : {m : List ℕ} {o j : ℕ} → Walked p q i m₀ m o j → j ≤ length p
@@ -162,75 +225,107 @@ module _ {p q : List ℕ} (G : Paired p q) (i : ℕ) (L : Leads p q i) (m₀ : L
       go : Dec (j ≤ length p) → j ≤ length p
       go (yes l) = l
       go (no f) =
-          let c = walk-closes (length p / 2) (G .perm) (2 * i) in
+          let c = walk-closes h (G .perm) (2 * i) in
           absurd (W .away (suc (c .rest)) (suc-le-suc zero-le) (omega (arith, c .bound, G .even)) (c .back))
 
   module _ {m : List ℕ} {o j : ℕ} (W : Walked p q i m₀ m o j) where
-    -- the pair of o is marked too
-    done-more : (x : ℕ) → Passed (walkIn p q) (suc j) (2 * i) x → getD (pairMarked m o) x 0 ≡ pairSide p q x
-    done-more x t = go (ℕ-discrete x (o / 2))
+    -- the input that o takes
+    abbrev v : ℕ
+    v = mapOf p o
+
+    below : o / 2 < h
+    below = omega (arith, G .even, walked-below W)
+
+    -- o's pair and its input's pair are marked too
+    done-more : (x : ℕ) → Passed (walkIn p q) h (mapOf p) (suc j) (2 * i) x → getD (marked h m o v) x 0 ≡ rowSide p q x
+    done-more x t = go (ℕ-discrete x (h + v / 2)) (ℕ-discrete x (o / 2))
       where
-        within : o / 2 < length m
-        within = omega (arith, W .size, ms, G .even, walked-below W)
+        even-size : length m ≡ 2 * h
+        even-size = W .size ∙ ms ∙ sym (G .even)
 
-        first : pairSide p q (o / 2) ≡ o % 2
-        first =
-            omega (
-              arith,
-              side-first (length p / 2) (G .perm) o,
-              ap (sideIn p q) (W .here) ∙ on-side j,
-              side-lt (sideIn p q) (output-sides (length p / 2) (G .perm)) (2 * (o / 2)),
-            )
+        upper : sideIn p q o ≡ 0
+        upper = ap (sideIn p q) (W .here) ∙ on-side j
 
-        earlier : x ≢ o / 2 → (t .steps ≡ j) ⊎ (t .steps < j) → getD m x 0 ≡ pairSide p q x
-        earlier n (inl e) = absurd (n (t .pair ∙ ap (λ k. iterate (walkIn p q) k (2 * i) / 2) e ∙ ap (λ y. y / 2) (sym (W .here))))
-        earlier n (inr l) = W .done x (record { steps = t .steps; few = l; pair = t .pair })
+        pair-side : rowSide p q (o / 2) ≡ o % 2
+        pair-side =
+            ap (sideIn p q) (pair-output p q (o / 2) below)
+            ∙ omega (arith, side-first h (G .perm) o, upper, side-lt (sideIn p q) (output-sides h (G .perm)) (2 * (o / 2)))
 
-        go : Dec (x ≡ o / 2) → getD (pairMarked m o) x 0 ≡ pairSide p q x
-        go (yes e) = rw e (getD-set-same m (o / 2) (o % 2) 0 within ∙ sym first)
-        go (no n) =
-            getD-set-other m (o / 2) x (o % 2) 0 n
-            ∙ earlier n (elim (decLt (t .steps) j) [ yes l ↦ inr l | no f ↦ inl (let b = t .few in omega arith) ])
+        input-side : rowSide p q (h + v / 2) ≡ v % 2
+        input-side = ap (sideIn p q) (input-output p q (v / 2)) ∙ taker-side h (G .perm) o upper
 
-    kept-more : (x : ℕ) → loopIn p q x ≢ loopIn p q i → getD (pairMarked m o) x 0 ≡ getD m₀ x 0
+        input-below : h + v / 2 < length (set m (o / 2) (o % 2))
+        input-below = omega (arith, length-set m (o / 2) (o % 2), even-size, perm-lt (G .perm) o (rw (G .even) (walked-below W)))
+
+        marks-it : Marks h (mapOf p) x (iterate (walkIn p q) j (2 * i)) → x ≢ h + v / 2 → x ≢ o / 2 → ⊥
+        marks-it (its-pair e) n f = f (e ∙ ap (λ y. y / 2) (sym (W .here)))
+        marks-it (its-input e) n f = n (e ∙ ap (λ y. h + mapOf p y / 2) (sym (W .here)))
+
+        earlier : x ≢ h + v / 2 → x ≢ o / 2 → (t .steps ≡ j) ⊎ (t .steps < j) → getD m x 0 ≡ rowSide p q x
+        earlier n f (inl e) = absurd (marks-it (rw e at (t .marks)) n f)
+        earlier n f (inr l) = W .done x (record { steps = t .steps; few = l; marks = t .marks })
+
+        go : Dec (x ≡ h + v / 2) → Dec (x ≡ o / 2) → getD (marked h m o v) x 0 ≡ rowSide p q x
+        go (yes e) d = rw e (getD-set-same (set m (o / 2) (o % 2)) (h + v / 2) (v % 2) 0 input-below ∙ sym input-side)
+        go (no n) (yes e) =
+            getD-set-other (set m (o / 2) (o % 2)) (h + v / 2) x (v % 2) 0 n
+            ∙ rw e (getD-set-same m (o / 2) (o % 2) 0 (omega (arith, even-size, below)) ∙ sym pair-side)
+        go (no n) (no f) =
+            getD-set-other (set m (o / 2) (o % 2)) (h + v / 2) x (v % 2) 0 n ∙ getD-set-other m (o / 2) x (o % 2) 0 f
+            ∙ earlier n f (elim (decLt (t .steps) j) [ yes l ↦ inr l | no g ↦ inl (let b = t .few in omega arith) ])
+
+    kept-more : (x : ℕ) → loopIn p q x ≢ loopIn p q i → getD (marked h m o v) x 0 ≡ getD m₀ x 0
     kept-more x n =
-        getD-set-other m (o / 2) x (o % 2) 0 (λ e. n (loop-pair (length p / 2) (G .perm) (2 * x) o (omega arith)
-        ∙ ap (loopOf (length p / 2) (mapOf p) (mapOf q)) (W .here) ∙ sym (loop-along (length p / 2) (G .perm) (on-walk j))))
+        getD-set-other (set m (o / 2) (o % 2)) (h + v / 2) x (v % 2) 0 (λ e. n (ap (loopIn p q) e
+        ∙ ap loop (input-output p q (v / 2)) ∙ taker-loop h (G .perm) o ∙ this-loop))
+        ∙ getD-set-other m (o / 2) x (o % 2) 0 (λ e. n (ap (loopIn p q) e
+        ∙ ap loop (pair-output p q (o / 2) below) ∙ loop-pair h (G .perm) (2 * (o / 2)) o (omega arith) ∙ this-loop))
         ∙ W .kept x n
+      where
+        this-loop : loop o ≡ loopIn p q i
+        this-loop = ap loop (W .here) ∙ sym (loop-along h (G .perm) (on-walk j)) ∙ ap loop (sym (pair-output p q i (L .below)))
+
+    all-passed : (x : ℕ) → iterate (walkIn p q) (suc j) (2 * i) ≡ 2 * i → loopIn p q x ≡ loopIn p q i → Passed (walkIn p q) h (mapOf p) (suc j) (2 * i) x
+    all-passed x back e = go (decLt x h)
+      where
+        led : loopIn p q x ≡ loop (2 * i)
+        led = e ∙ ap loop (pair-output p q i (L .below))
+
+        go : Dec (x < h) → Passed (walkIn p q) h (mapOf p) (suc j) (2 * i) x
+        go (yes l) = passes-pair h (G .perm) (2 * i) j back x (ap loop (sym (pair-output p q x l)) ∙ led)
+        go (no f) =
+            let k : h + (x - h) ≡ x = omega arith in
+            rw k at (passes-input h (G .perm) (2 * i) j back (x - h) (ap loop (sym (input-output p q (x - h))) ∙ ap (loopIn p q) k ∙ led))
 
     next-is : {o′ : ℕ} → o′ ≡ walkIn p q o → o′ ≡ iterate (walkIn p q) (suc j) (2 * i)
     unfolding iterate
     next-is e = e ∙ ap (walkIn p q) (W .here)
 
+    marked-size : length (marked h m o v) ≡ length m₀
+    marked-size = length-set (set m (o / 2) (o % 2)) (h + v / 2) (v % 2) ∙ length-set m (o / 2) (o % 2) ∙ W .size
+
     -- one more step, which does not come back to the start
-    pub walked-more : {o′ : ℕ} → o′ ≡ walkIn p q o → o′ ≢ 2 * i → Walked p q i m₀ (pairMarked m o) o′ (j + 1)
-    walked-more {o′} e n =
-        rw (add-one j) record {
-          here = next-is e;
-          size = length-set m (o / 2) (o % 2) ∙ W .size;
-          away = λ k a b. far k a (le-suc-iff .0 b);
-          done = done-more;
-          kept = kept-more;
-        }
+    pub walked-more : {o′ x : ℕ} → x ≡ v → o′ ≡ walkIn p q o → o′ ≢ 2 * i → Walked p q i m₀ (marked h m o x) o′ (j + 1)
+    walked-more {o′} ev e n =
+        rw (ev, add-one j) record { here = next-is e; size = marked-size; away = λ k a b. far k a (le-suc-iff .0 b); done = done-more; kept = kept-more }
       where
         far : (k : ℕ) → 1 ≤ k → (k ≤ j) ⊎ (k ≡ suc j) → iterate (walkIn p q) k (2 * i) ≢ 2 * i
         far k a (inl l) = W .away k a l
         far k a (inr c) = λ r. n (next-is e ∙ ap (λ t. iterate (walkIn p q) t (2 * i)) (sym c) ∙ r)
 
     -- the step that comes back
-    pub walked-round : {o′ : ℕ} → o′ ≡ walkIn p q o → o′ ≡ 2 * i → Traced p q i m₀ (pairMarked m o)
-    walked-round e b =
-        record {
-          size = length-set m (o / 2) (o % 2) ∙ W .size;
-          done = λ x c. done-more x (passes-all (length p / 2) (G .perm) (2 * i) j x (sym (next-is e) ∙ b) c);
-          kept = kept-more;
-        }
+    pub walked-round : {o′ x : ℕ} → x ≡ v → o′ ≡ walkIn p q o → o′ ≡ 2 * i → Traced p q i m₀ (marked h m o x)
+    walked-round ev e b =
+        rw ev record { size = marked-size; done = λ x c. done-more x (all-passed x (sym (next-is e) ∙ b) c); kept = kept-more }
 
 -- ---- all loops
 
--- every byte is filled
-pub filled-whole : (b : ℕ) {n : ℕ} (old : List ℕ) → length old ≡ n → replicate n b ++ drop n old ≡ replicate n b
-filled-whole b old e = rw (← e, drop-length old) (append-nil (replicate (length old) b))
+pub unmarked-more : {m : List ℕ} {i : ℕ} → i < length m → Unmarked i m → Unmarked (i + 1) (set m i unmarked)
+unmarked-more {m} {i} l u = record { each = λ x d. go x d (ℕ-discrete x i) }
+  where
+    go : (x : ℕ) → x < i + 1 → Dec (x ≡ i) → getD (set m i unmarked) x 0 ≡ unmarked
+    go x d (yes e) = rw e (getD-set-same m i unmarked 0 l)
+    go x d (no n) = getD-set-other m i x unmarked 0 n ∙ u .each x (omega arith)
 
 visit-lt : (h k : ℕ) → k < h → visitPair h k < h
 unfolding visitPair
@@ -252,16 +347,12 @@ key-lt h x l = go (key-at h x)
 
 -- the loops that are led by the first k pairs taken are marked, and no others
 pub record Swept (p q : List ℕ) (k : ℕ) (m : List ℕ) : Type 0 where
-  pub size : length m ≡ length p / 2
-  pub done : (x : ℕ) → x < length p / 2 → loopIn p q x < k → getD m x 0 ≡ pairSide p q x
+  pub size : length m ≡ length p
+  pub done : (x : ℕ) → x < length p → loopIn p q x < k → getD m x 0 ≡ rowSide p q x
   pub left : (x : ℕ) → x < length p / 2 → k ≤ loopIn p q x → getD m x 0 ≡ unmarked
 
-pub swept-none : (p q : List ℕ) {m : List ℕ} → m ≡ replicate (length p / 2) unmarked → Swept p q 0 m
-swept-none p q e = rw e record {
-  size = length-replicate (length p / 2) 2;
-  done = λ x l d. absurd (not-suc-le-zero d);
-  left = λ x l d. getD-replicate (length p / 2) x 2 0 l;
-}
+pub swept-none : {p m : List ℕ} (q : List ℕ) → length m ≡ length p → Unmarked (length p / 2) m → Swept p q 0 m
+swept-none q e u = record { size = e; done = λ x l d. absurd (not-suc-le-zero d); left = λ x l d. u .each x l }
 
 module _ {p q : List ℕ} (G : Paired p q) where
   -- pair i is the next to be taken, as number k
@@ -272,13 +363,22 @@ module _ {p q : List ℕ} (G : Paired p q) where
     pub visit-below : i < length p / 2
     visit-below = rw ei (visit-lt (length p / 2) k kh)
 
+    i-loop : loopIn p q i ≡ loopOf (length p / 2) (mapOf p) (mapOf q) (2 * i)
+    i-loop = ap (loopOf (length p / 2) (mapOf p) (mapOf q)) (pair-output p q i visit-below)
+
     -- if it is unmarked, it leads its loop
     lowest-is : getD m i 0 ≡ unmarked → lowest (length p / 2) (mapOf p) (mapOf q) (2 * i) ≡ 2 * k
     unfolding loopOf
     lowest-is e = go (decLt (lowest (length p / 2) (mapOf p) (mapOf q) (2 * i)) (2 * k))
       where
         go : Dec (lowest (length p / 2) (mapOf p) (mapOf q) (2 * i) < 2 * k) → lowest (length p / 2) (mapOf p) (mapOf q) (2 * i) ≡ 2 * k
-        go (yes l) = absurd (omega (arith, e, S .done i visit-below (omega arith), side-lt (sideIn p q) (output-sides (length p / 2) (G .perm)) (2 * i)))
+        go (yes l) =
+            absurd (omega (
+              arith,
+              e,
+              S .done i (omega (arith, visit-below)) (omega (arith, i-loop)),
+              side-lt (sideIn p q) (output-sides (length p / 2) (G .perm)) (outputOf p q i),
+            ))
         go (no f) = omega (arith, i-key, lowest-le (length p / 2) (G .perm) (2 * i))
 
     pub leads : getD m i 0 ≡ unmarked → Leads p q i
@@ -287,11 +387,12 @@ module _ {p q : List ℕ} (G : Paired p q) where
 
     loop-is : getD m i 0 ≡ unmarked → loopIn p q i ≡ k
     unfolding loopOf
-    loop-is e = omega (arith, lowest-is e)
+    loop-is e = i-loop ∙ omega (arith, lowest-is e)
 
     -- if it is marked, it leads none
     no-loop : getD m i 0 ≢ unmarked → (x : ℕ) → loopIn p q x ≢ k
-    no-loop n x e = n (S .left i visit-below (omega (arith, e, loop-led (length p / 2) (G .perm) (2 * i) (2 * x) (omega (arith, i-key)))))
+    no-loop n x e =
+        n (S .left i visit-below (omega (arith, e, i-loop, loop-led (length p / 2) (G .perm) (2 * i) (outputOf p q x) (omega (arith, e, i-key)))))
 
     pub swept-more : {m′ : List ℕ} → Visited p q i m m′ → Swept p q (k + 1) m′
     swept-more {m′} T = go (ℕ-discrete (getD m i 0) unmarked)
@@ -311,13 +412,23 @@ module _ {p q : List ℕ} (G : Paired p q) where
           left = λ x l d. S .left x l (omega arith);
         }
 
-  pub swept-all : {k : ℕ} {m : List ℕ} → length p / 2 ≤ k → Swept p q k m → m ≡ sideList p q
+  -- every loop is led by one of the pairs
+  led : (y : ℕ) → y < 2 * (length p / 2) → loopOf (length p / 2) (mapOf p) (mapOf q) y < length p / 2
   unfolding loopOf
-  swept-all {k} {m} l S =
-      ext-getD 0 m (sideList p q) (S .size ∙ sym (length-listOf (length p / 2) (pairSide p q))) (λ x d.
-      let b : x < length p / 2 = rw (S .size) at d in
-      S .done x b (omega (arith, lowest-le (length p / 2) (G .perm) (2 * x), key-lt (length p / 2) (2 * x) (omega arith)))
-      ∙ sym (getD-listOf (length p / 2) (pairSide p q) x 0 b))
+  led y l = omega (arith, lowest-le (length p / 2) (G .perm) y, key-lt (length p / 2) y l)
+
+  pub swept-all : {k : ℕ} {m : List ℕ} → length p / 2 ≤ k → Swept p q k m → m ≡ rowSides p q
+  swept-all {k} {m} l S = filled-all filled (le-refl (length p / 2)) (le-refl (length p / 2))
+    where
+      right : (x y : ℕ) → x < length p → y < 2 * (length p / 2) → outputOf p q x ≡ y → getD m x 0 ≡ sideIn p q y
+      right x y d b e = S .done x d (omega (arith, ap (loopOf (length p / 2) (mapOf p) (mapOf q)) e, led y b)) ∙ ap (sideIn p q) e
+
+      filled : Filled (length p / 2) (pairSide p q) (inputSide p q) m (length p / 2) (length p / 2)
+      filled = record {
+        size = S .size ∙ sym (G .even);
+        upper = λ x d. right x (2 * x) (omega (arith, G .even)) (omega arith) (pair-output p q x d);
+        lower = λ x d. right (length p / 2 + x) (mapOf q (2 * x)) (omega (arith, G .even)) (perm-lt (flipped (G .perm)) (2 * x) (omega arith)) (input-output p q x);
+      }
 
 pub visit-first : (h : ℕ) → h - 1 ≡ visitPair h 0
 unfolding visitPair

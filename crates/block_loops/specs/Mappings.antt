@@ -53,21 +53,17 @@ pairSide p q i = sideIn p q (2 * i)
 abbrev pub sideList : List ℕ → List ℕ → List ℕ
 sideList p q = listOf (length p / 2) (pairSide p q)
 
--- the half of output o, from the pairs' halves m
-abbrev pub sideFrom : List ℕ → ℕ → ℕ
-sideFrom m o = (getD m (o / 2) 0 + o % 2) % 2
-
--- from the inverse q and the pairs' halves m: the bit of input row j, which is the half of its pair's first input
+-- the half of input pair j's first input: that of the output that takes it
 abbrev pub inputSide : List ℕ → List ℕ → ℕ → ℕ
-inputSide q m j = sideFrom m (getD q (2 * j) 0)
+inputSide p q j = sideIn p q (mapOf q (2 * j))
 
 -- the bits of the input rows
 abbrev pub inputSides : List ℕ → List ℕ → List ℕ
-inputSides q m = listOf (length q / 2) (inputSide q m)
+inputSides p q = listOf (length p / 2) (inputSide p q)
 
 -- the halves of all rows' pairs: the output pairs', and behind them the input pairs'
 abbrev pub rowSides : List ℕ → List ℕ → List ℕ
-rowSides q m = m ++ inputSides q m
+rowSides p q = sideList p q ++ inputSides p q
 
 -- the bits of the output rows; the last pair has no row
 abbrev pub outputSides : List ℕ → List ℕ
@@ -95,4 +91,4 @@ sidesOf p = sideList p (inverseList p)
 -- where a half has `part` rows
 pub record Levelled (p scratch : List ℕ) (start part : ℕ) (before after : List ℕ) : Type 0 where
   pub halved : scratch ≡ halfList 0 p (sidesOf p) ++ halfList 1 p (sidesOf p)
-  pub stored : after ≡ storeBits (storeBits before start (inputSides (inverseList p) (sidesOf p))) (start + length p / 2 + part + part) (outputSides (sidesOf p))
+  pub stored : after ≡ storeBits (storeBits before start (inputSides p (inverseList p))) (start + length p / 2 + part + part) (outputSides (sidesOf p))

@@ -3,12 +3,12 @@ ghost use mathlib.Core.Path.{_≡_};
 ghost use mathlib.Core.Logic.{_≢_};
 ghost use mathlib.Core.List.{_++_};
 ghost use Prim.Native.Nat.{_+_, _*_, _/_, _^_, _<_, _≤_};
-ghost use lib.ListN.{length, take};
-ghost use Rattle.lists.specs.Lists.{Below};
+ghost use lib.ListN.{length};
 ghost use Rattle.block_elements.specs.Bits.{AreBits};
-ghost use Rattle.block_sizes.specs.Sizes.{maxSize};
-ghost use Rattle.block_loops.specs.Mappings.{IsPerm, inverseList, sidesOf, rowSides, rowsStored, halfList, Levelled};
+ghost use Rattle.block_loops.specs.Mappings.{IsPerm, inverseList, rowSides, rowsStored, halfList, Levelled};
+ghost use Rattle.block_loops.specs.Marking.{Unmarked};
 ghost use Rattle.block_loops.specs.Levels.{LevelBuffers};
+use crate::marking::UNMARKED;
 use crate::marking::mark_sides;
 use block_bits::store_bits;
 use block_rows::wide;
@@ -37,41 +37,28 @@ pub(crate) fn program_level(
 fn find_sides(perm: &[u16], inverse: &mut [u16], mark: &mut [u8])
     requires { ⌜ IsPerm (now perm) ⌝ }
     requires { ⌜ LevelBuffers (length (now perm)) (length (now inverse)) (length (now mark)) ⌝ }
-    ensures { λ _. ⌜ now (mark .exit) ≡ rowSides (inverseList (now (perm .entry))) (sidesOf (now (perm .entry))) ⌝ }
+    ensures { λ _. ⌜ now (mark .exit) ≡ rowSides (now (perm .entry)) (inverseList (now (perm .entry))) ⌝ }
 {
-    let pairs = mark.len() / 2;
-    invert(perm, inverse);
-    mark_sides(perm, inverse, &mut mark[..pairs]);
-    input_sides(inverse, mark);
+    invert(perm, inverse, mark);
+    mark_sides(perm, inverse, mark);
 }
 
-// The inverse of the mapping.
-fn invert(perm: &[u16], inverse: &mut [u16])
+// The inverse of the mapping, pair by pair, and each output pair unmarked.
+fn invert(perm: &[u16], inverse: &mut [u16], mark: &mut [u8])
     requires { ⌜ IsPerm (now perm) ⌝ }
-    requires { ⌜ length (now perm) ≤ maxSize ⌝ }
-    requires { ⌜ length (now inverse) ≡ length (now perm) ⌝ }
-    ensures { λ _. ⌜ now (inverse .exit) ≡ inverseList (now (perm .entry)) ⌝ }
+    requires { ⌜ LevelBuffers (length (now perm)) (length (now inverse)) (length (now mark)) ⌝ }
+    ensures inverted { λ _. ⌜ now (inverse .exit) ≡ inverseList (now (perm .entry)) ⌝ }
+    ensures cleared { λ _. ⌜ Unmarked (length (now (perm .entry)) / 2) (now (mark .exit)) ⌝ }
 {
+    let pairs = perm.len() / 2;
     let mut i: usize = 0;
-    while i < perm.len() {
-        let x = wide(perm[i]);
-        inverse[x] = i as u16;
+    while i < pairs {
+        let first = wide(perm[2 * i]);
+        let second = wide(perm[2 * i + 1]);
+        inverse[first] = (2 * i) as u16;
+        inverse[second] = (2 * i + 1) as u16;
+        mark[i] = UNMARKED;
         i += 1;
-    }
-}
-
-// The sides of the input pairs, behind those of the output pairs: of a pair's first input that of the output that takes it.
-fn input_sides(inverse: &[u16], mark: &mut [u8])
-    requires { ⌜ Below (length (now mark)) (now inverse) ⌝ }
-    requires { ⌜ (length (now inverse) ≡ length (now mark)) × (2 * (length (now mark) / 2) ≡ length (now mark)) × (length (now mark) ≤ maxSize) ⌝ }
-    ensures { λ _. ⌜ now (mark .exit) ≡ rowSides (now (inverse .entry)) (take (length (now (mark .entry)) / 2) (now (mark .entry))) ⌝ }
-{
-    let pairs = inverse.len() / 2;
-    let mut j: usize = 0;
-    while j < pairs {
-        let o = wide(inverse[2 * j]);
-        mark[pairs + j] = (mark[o / 2] % 2 + (o % 2) as u8) % 2;
-        j += 1;
     }
 }
 

@@ -7,7 +7,8 @@ use borrow.Author.Needs.{needs}
 use lib.ListN.{length, length-set}
 use Rattle.lists.specs.Lists.{listOf}
 use Rattle.block_loops.specs.Mappings.{halfEntry}
-use Rattle.block_loops.proofs.MappingsLaws.{Filled, upper-more, lower-more, filled-all, half-entry}
+use Rattle.block_loops.proofs.FillingLaws.{Filled, upper-more, lower-more, filled-all}
+use Rattle.block_loops.proofs.MappingsLaws.{half-entry}
 use Rattle.block_permutation_bits.proofs.level.half_maps.Statement.{statement}
 use Rattle.block_permutation_bits.proofs.level.half_maps.Tie as tie
 
