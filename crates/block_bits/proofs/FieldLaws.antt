@@ -16,8 +16,8 @@ use Rattle.lists.specs.Lists.{listOf}
 use Rattle.lists.proofs.ListsLaws.{listOf-ext, listOf-getD}
 use Rattle.block_elements.specs.Bits.{bitByte, bitPlace, bitOf, withBit, setBit, storeBits, AreBits, bitsHeld}
 use Rattle.block_elements.proofs.BitsLaws.{AreBytes, storeBits-append}
-use Rattle.block_bits.specs.Stores.{fieldBits, numberOf, withField, wordAt, putWord}
-use Rattle.block_bits.proofs.StoreLaws.{listOf-append, store-more}
+use Rattle.block_bits.specs.Stores.{fieldBits, numberOf, withField, twoBytes, putTwoBytes}
+use Rattle.block_bits.proofs.StoreLaws.{store-more}
 
 -- ---- the number of some bits
 
@@ -169,14 +169,14 @@ bit-in-high q b w =
 -- ---- in the bytes
 
 -- a bit more in two bytes that are made those of w; the upper one may lie past the end
-word-bit : (s : List ℕ) (i p b w : ℕ) → i < length s → p < 16 → b < 2 → setBit (putWord s i w) (bitsHeld i + p) b ≡ putWord s i (withBit p b w)
+word-bit : (s : List ℕ) (i p b w : ℕ) → i < length s → p < 16 → b < 2 → setBit (putTwoBytes s i w) (bitsHeld i + p) b ≡ putTwoBytes s i (withBit p b w)
 unfolding setBit
 word-bit s i p b w l hp hb = go (decLt p 8) (decLt (i + 1) (length s))
   where
     lower : List ℕ
     lower = set s i (w % 256)
 
-    high : (q : ℕ) → q < 8 → Dec (i + 1 < length s) → setBit (putWord s i w) (bitsHeld i + (q + 8)) b ≡ putWord s i (withBit (q + 8) b w)
+    high : (q : ℕ) → q < 8 → Dec (i + 1 < length s) → setBit (putTwoBytes s i w) (bitsHeld i + (q + 8)) b ≡ putTwoBytes s i (withBit (q + 8) b w)
     high q h m =
         let byte : bitByte (bitsHeld i + (q + 8)) ≡ i + 1 = omega arith in
         let place : bitPlace (bitsHeld i + (q + 8)) ≡ q = omega arith in
@@ -191,7 +191,7 @@ word-bit s i p b w l hp hb = go (decLt p 8) (decLt (i + 1) (length s))
             let past : length lower ≤ i + 1 = rw (length-set s i (w % 256)) (omega arith) in
             set-out lower (i + 1) _ past ∙ sym (set-out lower (i + 1) _ past)
 
-    go : Dec (p < 8) → Dec (i + 1 < length s) → setBit (putWord s i w) (bitsHeld i + p) b ≡ putWord s i (withBit p b w)
+    go : Dec (p < 8) → Dec (i + 1 < length s) → setBit (putTwoBytes s i w) (bitsHeld i + p) b ≡ putTwoBytes s i (withBit p b w)
     go (yes h) m =
         let byte : bitByte (bitsHeld i + p) ≡ i = omega arith in
         let place : bitPlace (bitsHeld i + p) ≡ p = omega arith in
@@ -206,21 +206,21 @@ word-bit s i p b w l hp hb = go (decLt p 8) (decLt (i + 1) (length s))
 
 -- bits that lie in two bytes, the upper of which may lie past the end
 pub store-word : (s : List ℕ) (i k n : ℕ) {f : ℕ → ℕ} → AreBytes s → ((j : ℕ) → f j < 2) → i < length s → n + k ≤ 16
-    → storeBits s (bitsHeld i + k) (listOf n f) ≡ putWord s i (withField k n (numberOf f n) (wordAt s i))
+    → storeBits s (bitsHeld i + k) (listOf n f) ≡ putTwoBytes s i (withField k n (numberOf f n) (twoBytes s i))
 unfolding listOf storeBits numberOf
 store-word s i k zero {f} bytes h l room =
     let low = bytes .each i in
-    let e₀ : wordAt s i % 256 ≡ getD s i 0 = omega arith in
-    let e₁ : wordAt s i / 256 ≡ getD s (i + 1) 0 = omega arith in
-    sym (ap (putWord s i) (field-none k (wordAt s i)) ∙ rw (e₀, e₁, set-getD s i 0) (set-getD s (i + 1) 0))
+    let e₀ : twoBytes s i % 256 ≡ getD s i 0 = omega arith in
+    let e₁ : twoBytes s i / 256 ≡ getD s (i + 1) 0 = omega arith in
+    sym (ap (putTwoBytes s i) (field-none k (twoBytes s i)) ∙ rw (e₀, e₁, set-getD s i 0) (set-getD s (i + 1) 0))
 store-word s i k (suc n) {f} bytes h l room =
-    let x = wordAt s i in
+    let x = twoBytes s i in
     let new = withField k n (numberOf f n) x in
     let at : bitsHeld i + k + n ≡ bitsHeld i + (n + k) = omega arith in
     ap (λ m. storeBits s (bitsHeld i + k) (listOf m f)) (sym (add-one n)) ∙ sym (store-more s (bitsHeld i + k) n f)
     ∙ ap₂ (λ t p. setBit t p (f n)) (store-word s i k n bytes h l (omega arith)) at
     ∙ word-bit s i (n + k) (f n) new l (omega arith) (h n)
-    ∙ ap (putWord s i) (field-more k n (numberOf f n) (f n) x (number-lt n h) ∙ ap (λ v. withField k (suc n) v x) (sym (number-last n f)))
+    ∙ ap (putTwoBytes s i) (field-more k n (numberOf f n) (f n) x (number-lt n h) ∙ ap (λ v. withField k (suc n) v x) (sym (number-last n f)))
 
 -- eight bits from the border of a byte on
 pub store-byte : (s : List ℕ) (i : ℕ) {f : ℕ → ℕ} → AreBytes s → ((j : ℕ) → f j < 2) → i < length s
@@ -229,20 +229,20 @@ store-byte s i {f} bytes h l =
     let low = bytes .each i in
     let v = numberOf f 8 in
     let small = number-lt 8 h in
-    let e₀ : withField 0 8 v (wordAt s i) % 256 ≡ v = omega arith in
-    let e₁ : withField 0 8 v (wordAt s i) / 256 ≡ getD s (i + 1) 0 = omega arith in
+    let e₀ : withField 0 8 v (twoBytes s i) % 256 ≡ v = omega arith in
+    let e₁ : withField 0 8 v (twoBytes s i) / 256 ≡ getD s (i + 1) 0 = omega arith in
     ap (λ p. storeBits s p (listOf 8 f)) (sym (add-zero (bitsHeld i))) ∙ store-word s i 0 8 bytes h l (omega arith)
     ∙ rw (e₀, e₁) (set-comm s i (i + 1) v (getD s (i + 1) 0) (λ z. absurd (omega arith)) ∙ ap (λ t. set t i v) (set-getD s (i + 1) 0))
 
 -- the lowest bits of x from bit p on, as two bytes made those of `new`
 module _ (s : List ℕ) (p count x : ℕ) {byte place n new : ℕ} (bytes : AreBytes s) (eb : byte ≡ bitByte p) (ep : place ≡ bitPlace p)
     (en : n ≡ min count (bitsHeld 1)) (l : byte < length s) where
-  pub field-stored : new ≡ withField place n (x % 2 ^ n) (wordAt s byte) → putWord s byte new ≡ storeBits s p (fieldBits count x)
+  pub field-stored : new ≡ withField place n (x % 2 ^ n) (twoBytes s byte) → putTwoBytes s byte new ≡ storeBits s p (fieldBits count x)
   unfolding fieldBits
   field-stored e =
       let at : bitsHeld byte + place ≡ p = omega arith in
       let stored = store-word s byte place n bytes (λ i. mod-lt (x / 2 ^ i) (omega arith)) l (omega arith) in
-      ap (putWord s byte) (e ∙ ap (λ v. withField place n v (wordAt s byte)) (sym (number-bits n x))) ∙ sym stored
+      ap (putTwoBytes s byte) (e ∙ ap (λ v. withField place n v (twoBytes s byte)) (sym (number-bits n x))) ∙ sym stored
       ∙ ap₂ (λ q m. storeBits s q (listOf m (λ i. bitOf i x))) at en
 
   -- where the upper byte lies past the end

@@ -12,11 +12,11 @@ use lib.Pow.{pow-mono, high}
 use lib.Arith.{digits-div, digits-mod}
 use lib.Bits.{bitAnd, and-block, and-mask}
 use Rattle.lists.specs.Lists.{listOf}
-use Rattle.lists.proofs.ListsLaws.{length-listOf, listOf-ext, listOf-getD}
+use Rattle.lists.proofs.ListsLaws.{length-listOf, listOf-append, listOf-ext, listOf-getD}
 use Rattle.block_elements.specs.Bits.{storeBits, AreBits, bitsHeld}
 use Rattle.block_elements.proofs.BitsLaws.{AreBytes, bits-listOf, length-storeBits, storeBits-append, storeBits-bytes}
 use Rattle.block_bits.specs.Stores.{fieldBits, lowBit, lowBits, numberOf}
-use Rattle.block_bits.proofs.StoreLaws.{listOf-append, storeBits-past, store-part}
+use Rattle.block_bits.proofs.StoreLaws.{storeBits-past, store-part}
 use Rattle.block_bits.proofs.FieldLaws.{number-lt, number-ext, fieldBits-number, store-byte}
 
 -- bits are their own lowest bits
@@ -29,9 +29,9 @@ low-lt l i = mod-lt (getD l i 0) (omega arith)
 
 -- ---- their number
 
-pub number-none : (f : ℕ → ℕ) (n : ℕ) → 0 ≡ numberOf f (n - n)
+pub number-empty : (f : ℕ → ℕ) (n : ℕ) → 0 ≡ numberOf f (n - n)
 unfolding numberOf
-number-none f n = rw (sub-self n) refl
+number-empty f n = rw (sub-self n) refl
 
 pub number-all : (f : ℕ → ℕ) {i : ℕ} (n : ℕ) → i ≡ 0 → numberOf (λ j. f (i + j)) (n - i) ≡ numberOf f n
 number-all f n e = rw (e, sub-zero n) (number-ext n (λ j. ap f (zero-add j)))
@@ -74,9 +74,9 @@ module _ (f : ℕ → ℕ) (i n : ℕ) {x : ℕ} (some : 0 < i) (l : i ≤ n) (e
   pub number-room : ((j : ℕ) → f j < 2) → n ≤ 8 → x < 128
   number-room h room = omega (arith, number-lt (n - i) (λ j. h (i + j)), pow-mono {i = n - i} {j = 7} (omega arith))
 
-pub few-bits : (l : List ℕ) (x : ℕ) → length l ≤ bitsHeld 1 → x ≡ numberOf (lowBit l) (length l) → fieldBits (length l) x ≡ lowBits l
+pub few-packed : (l : List ℕ) (x : ℕ) → length l ≤ bitsHeld 1 → x ≡ numberOf (lowBit l) (length l) → fieldBits (length l) x ≡ lowBits l
 unfolding lowBits
-few-bits l x room e = rw e (fieldBits-number (length l) (length l) (low-lt l) (omega arith) room)
+few-packed l x room e = rw e (fieldBits-number (length l) (length l) (low-lt l) (omega arith) room)
 
 -- the first n of eight
 pub first-bits : (l : List ℕ) (n : ℕ) {x : ℕ} → n ≤ 8 → x ≡ numberOf (λ j. lowBit l (0 + j)) 8 → fieldBits n x ≡ listOf n (lowBit l)

@@ -1,9 +1,9 @@
 -- Storing bits, and entries, one after another. Stores of different bits commute, so the parts of a program may be stored in any order.
 use mathlib.Core.Path.{_≡_, refl, sym, ap, _∙_}
 use mathlib.Core.Logic.{_≢_}
-use mathlib.Core.List.{List, [], _∷_, _++_, append-nil, append-assoc}
-use Prim.Native.Nat.{ℕ, zero, suc, _+_, _-_, _*_, _%_, _≤_, _<_, min}
-use native.Mathlib.Nat.{add-zero, zero-add, add-suc, suc-add, mod-eq-of-lt, min-eq-left}
+use mathlib.Core.List.{List, [], _∷_, _++_, append-nil}
+use Prim.Native.Nat.{ℕ, suc, _+_, _-_, _*_, _%_, _≤_, _<_, min}
+use native.Mathlib.Nat.{zero-add, add-suc, suc-add, mod-eq-of-lt, min-eq-left}
 use native.Mathlib.Numerals.{add-one}
 use native.Mathlib.Decide.{ℕ-discrete}
 use native.Mathlib.Omega.{arith}
@@ -16,13 +16,6 @@ use Rattle.fault.specs.Buffers.{over}
 use Rattle.block_elements.specs.Bits.{bitByte, bitPlace, bytesFor, bitAt, setBit, storeBits, zeroBytes, pack, AreBits, bitsHeld}
 use Rattle.block_elements.proofs.BitsLaws.{AreBytes}
 use Rattle.block_elements.proofs.BitsLaws.{length-setBit, setBit-same, setBit-other, setBit-past, setBit-bytes, ext-bits, length-storeBits, storeBits-append, storeBits-bytes}
-
--- the first n and those behind them
-pub listOf-append : (n m : ℕ) (f : ℕ → ℕ) → listOf (n + m) f ≡ listOf n f ++ listOf m (λ i. f (n + i))
-unfolding listOf
-listOf-append n zero f = rw (add-zero n) (sym (append-nil (listOf n f)))
-listOf-append n (suc m) f =
-    rw (add-suc n m) (ap (λ (l : List ℕ). l ++ (f (n + m) ∷ [])) (listOf-append n m f) ∙ append-assoc (listOf n f) (listOf m (λ i. f (n + i))) (f (n + m) ∷ []))
 
 -- ---- one more
 

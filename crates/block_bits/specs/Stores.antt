@@ -27,9 +27,9 @@ abbrev pub withField : ℕ → ℕ → ℕ → ℕ → ℕ
 withField place n v x = (x / 2 ^ (n + place) * 2 ^ n + v) * 2 ^ place + x % 2 ^ place
 
 -- two bytes as a number, the lower first; past the end they are 0
-abbrev pub wordAt : List ℕ → ℕ → ℕ
-wordAt bytes i = getD bytes i 0 + 256 * getD bytes (i + 1) 0
+abbrev pub twoBytes : List ℕ → ℕ → ℕ
+twoBytes bytes i = getD bytes i 0 + 256 * getD bytes (i + 1) 0
 
 -- the bytes with two made those of w; past the end nothing changes
-abbrev pub putWord : List ℕ → ℕ → ℕ → List ℕ
-putWord bytes i w = set (set bytes i (w % 256)) (i + 1) (w / 256)
+abbrev pub putTwoBytes : List ℕ → ℕ → ℕ → List ℕ
+putTwoBytes bytes i w = set (set bytes i (w % 256)) (i + 1) (w / 256)

@@ -3,16 +3,16 @@
 -- A lower pin takes an operand of the upper half from the selection block, and any other from the pin.
 use mathlib.Core.Path.{_≡_, refl, sym, ap, ap₂, _∙_}
 use mathlib.Core.Bool.{Bool, true, false}
-use mathlib.Core.List.{List, [], _∷_, _++_, map, append-assoc, append-nil}
+use mathlib.Core.List.{List, [], _∷_, _++_, map}
 use Prim.Native.Nat.{ℕ, zero, suc, _+_, _-_, _*_, _/_, _^_, _≤_, _<_}
-use native.Mathlib.Nat.{add-zero, add-suc, add-assoc}
+use native.Mathlib.Nat.{add-zero, add-assoc}
 use native.Mathlib.Decide.{decLt}
 use native.Mathlib.Omega.{arith}
 use lib.ListN.{length, getD, take, List·getD-append}
 use lib.Pow.{pow-pos}
 use lib.Seq.{getD-append-add, getD-take, take-at, drop-at}
 use Rattle.lists.specs.Lists.{listOf}
-use Rattle.lists.proofs.ListsLaws.{listOf-ext}
+use Rattle.lists.proofs.ListsLaws.{listOf-append, listOf-ext}
 use Rattle.lists.specs.Counting.{oneIf}
 use Rattle.blocks.specs.Elements.{Row, Gate, tableBits, operands, gateBits, choose, State, on, outputs, step, run, Delivered}
 use Rattle.blocks.proofs.ElementsLaws.{run-append, run-keeps, run-wires, run-bits, run-gates, y-list, runY-made, runY-left, runY-at}
@@ -64,12 +64,6 @@ module _ {A : Type 0} (none : A) (gate : ℕ → List ℕ → List A → A) (S :
     pub gates : t .gates ≡ base + 2 ^ n
 
 -- ---- the induction
-
--- f at the first a places, then at the next b
-pub listOf-append : {A : Type 0} (a b : ℕ) (f : ℕ → A) → listOf (a + b) f ≡ listOf a f ++ listOf b (λ i. f (a + i))
-unfolding listOf
-listOf-append a zero f = rw (add-zero a) (sym (append-nil (listOf a f)))
-listOf-append a (suc b) f = rw (add-suc a b, listOf-append a b f) (append-assoc (listOf a f) (listOf b (λ i. f (a + i))) _)
 
 -- what a gate row on the wires ws sees
 abbrev rowView : {A : Type 0} → A → List ℕ → State A → View A

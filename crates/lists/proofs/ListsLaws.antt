@@ -22,6 +22,12 @@ module _ {A : Type 0} where
   length-listOf zero f = refl
   length-listOf (suc n) f = simp length-append (omega (arith, length-listOf n f))
 
+  -- f at the first a places, then at the next b
+  pub listOf-append : (a b : ℕ) (f : ℕ → A) → listOf (a + b) f ≡ listOf a f ++ listOf b (λ i. f (a + i))
+  unfolding listOf
+  listOf-append a zero f = rw (add-zero a) (sym (append-nil (listOf a f)))
+  listOf-append a (suc b) f = rw (add-suc a b, listOf-append a b f) (append-assoc (listOf a f) (listOf b (λ i. f (a + i))) _)
+
   pub getD-listOf : (n : ℕ) (f : ℕ → A) (i : ℕ) (d : A) → i < n → getD (listOf n f) i d ≡ f i
   unfolding listOf
   getD-listOf zero f i d h = absurd (not-suc-le-zero h)

@@ -6,7 +6,7 @@ use borrow.Author.Needs.{needs}
 use mir.Facts.{fits-below}
 use lib.ListN.{length, getD}
 use Rattle.block_bits.specs.Stores.{lowBit, numberOf}
-use Rattle.block_bits.proofs.PackingLaws.{low-lt, number-none, number-all, number-more, number-room}
+use Rattle.block_bits.proofs.PackingLaws.{low-lt, number-empty, number-all, number-more, number-room}
 use Rattle.block_bits.proofs.packing.number_by_bit.Statement.{statement}
 use Rattle.block_bits.proofs.packing.number_by_bit.Tie as tie
 
@@ -17,7 +17,7 @@ abbrev μ-loop : tie.MeasureT-loop
 μ-loop bits x₀ i₀ x i = i
 
 holds : tie.Need-loop-holds Inv-loop μ-loop
-holds c = let l = c .args .bits .now in (omega arith, number-none (λ j. lowBit l (length l + j)) (length l))
+holds c = let l = c .args .bits .now in (omega arith, number-empty (λ j. lowBit l (length l + j)) (length l))
 
 double : tie.Need-mul-x Inv-loop μ-loop
 double c =

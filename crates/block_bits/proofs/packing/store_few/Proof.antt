@@ -3,14 +3,14 @@ use mathlib.Core.Path.{ap, _∙_}
 use native.Mathlib.Omega.{arith}
 use borrow.Author.Needs.{needs}
 use Rattle.block_elements.specs.Bits.{storeBits}
-use Rattle.block_bits.proofs.PackingLaws.{few-bits}
+use Rattle.block_bits.proofs.PackingLaws.{few-packed}
 use Rattle.block_bits.proofs.packing.store_few.Statement.{statement}
 use Rattle.block_bits.proofs.packing.store_few.Tie as tie
 
 stored : tie.Need-returns
 stored c =
     let a = c .before .before .before .before .before .before .before .args in
-    let e = few-bits (a .bits .now) _ (omega arith) (c .before .before .before .number-of .ensures) in
+    let e = few-packed (a .bits .now) _ (omega arith) (c .before .before .before .number-of .ensures) in
     c .before .before .store-field .ensures ∙ ap (storeBits (a .program .now) (a .start)) e
 
 pub store-few-spec : {M : Type 1} → statement M
