@@ -1,7 +1,7 @@
--- Several bits of one byte stored at once. Stored one after another they leave the byte with their number in their place; eight bits from the
--- border of a byte on are the new byte.
+-- Several bits stored at once. Stored one after another they leave two bytes, taken as one number, with their own number in their place; eight
+-- bits from the border of a byte on are the new byte.
 use mathlib.Core.Path.{_≡_, refl, sym, ap, ap₂, _∙_}
-use mathlib.Core.List.{List, _++_}
+use mathlib.Core.List.{List}
 use Prim.Native.Nat.{ℕ, zero, suc, _+_, _-_, _*_, _/_, _%_, _^_, _≤_, _<_, min}
 use native.Mathlib.Nat.{not-suc-le-zero, le-of-suc-le-suc, mul-add-div-right, mul-add-mod-self-right, add-comm, one-mul, pow-suc, mod-lt, mul-assoc, add-zero, suc-add, zero-add}
 use native.Mathlib.Numerals.{add-one, one-add}
@@ -15,13 +15,13 @@ use lib.Bits.{bitAnd, and-mask}
 use Rattle.lists.specs.Lists.{listOf}
 use Rattle.lists.proofs.ListsLaws.{listOf-ext, listOf-getD}
 use Rattle.block_elements.specs.Bits.{bitByte, bitPlace, bitOf, withBit, setBit, storeBits, AreBits, bitsHeld}
-use Rattle.block_elements.proofs.BitsLaws.{AreBytes, storeBits-append}
+use Rattle.block_elements.proofs.BitsLaws.{AreBytes}
 use Rattle.block_bits.specs.Stores.{fieldBits, numberOf, withField, twoBytes, putTwoBytes}
 use Rattle.block_bits.proofs.StoreLaws.{store-more}
 
 -- ---- the number of some bits
 
-pub number-last : (n : ℕ) (f : ℕ → ℕ) → numberOf f (suc n) ≡ f n * 2 ^ n + numberOf f n
+number-last : (n : ℕ) (f : ℕ → ℕ) → numberOf f (suc n) ≡ f n * 2 ^ n + numberOf f n
 unfolding numberOf
 number-last zero f = omega arith
 number-last (suc n) f =

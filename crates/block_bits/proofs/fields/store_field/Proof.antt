@@ -1,8 +1,7 @@
 -- `block_bits::fields::store_field` meets its contract: two bytes get the bits, of which the upper may lie past the end. Assumes nothing.
-use mathlib.Core.Path.{_≡_, sym}
+use mathlib.Core.Path.{sym}
 use native.Mathlib.Omega.{arith}
 use borrow.Author.Needs.{needs}
-use Rattle.block_elements.proofs.BitsLaws.{AreBytes}
 use Rattle.block_bits.specs.Stores.{fieldBits}
 use Rattle.block_bits.proofs.StoreLaws.{storeBits-past}
 use Rattle.block_bits.proofs.FieldLaws.{field-stored, field-last}

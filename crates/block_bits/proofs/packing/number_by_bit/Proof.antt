@@ -1,10 +1,10 @@
 -- `block_bits::packing::number_by_bit` meets its contract. The loop's invariant: x is the number of the bits from i on. Assumes nothing.
-use mathlib.Core.Path.{_≡_, refl, sym, ap, _∙_}
-use Prim.Native.Nat.{_+_, _-_, _*_, _<_, _≤_}
+use mathlib.Core.Path.{_≡_, _∙_}
+use Prim.Native.Nat.{_+_, _-_, _≤_}
 use native.Mathlib.Omega.{arith}
 use borrow.Author.Needs.{needs}
 use mir.Facts.{fits-below}
-use lib.ListN.{length, getD}
+use lib.ListN.{length}
 use Rattle.block_bits.specs.Stores.{lowBit, numberOf}
 use Rattle.block_bits.proofs.PackingLaws.{low-lt, number-empty, number-all, number-more, number-room}
 use Rattle.block_bits.proofs.packing.number_by_bit.Statement.{statement}
