@@ -2,7 +2,7 @@
 -- give every output its side.
 use mathlib.Core.Path.{_≡_, refl, sym, ap, _∙_}
 use mathlib.Core.Logic.{_≢_, _⊎_, inl, inr}
-use mathlib.Core.List.{List, _++_, append-nil}
+use mathlib.Core.List.{List}
 use Prim.Native.Nat.{ℕ, zero, suc, _+_, _-_, _*_, _/_, _%_, _≤_, _<_, zero-le, suc-le-suc}
 use native.Mathlib.Nat.{not-suc-le-zero, le-refl, le-suc-iff}
 use native.Mathlib.Numerals.{add-one}
@@ -10,8 +10,8 @@ use native.Mathlib.Decide.{ℕ-discrete, decLt, decLe}
 use native.Mathlib.Omega.{arith}
 use borrow.Author.Tests.{lt-ltb, le-ltb}
 use lib.ListN.{length, getD, set, length-set}
-use lib.Seq.{getD-set-same, getD-set-other, ext-getD, drop-length}
-use Rattle.lists.proofs.ListsLaws.{getD-any, length-listOf, getD-listOf}
+use lib.Seq.{getD-set-same, getD-set-other}
+use Rattle.lists.proofs.ListsLaws.{getD-any}
 use Rattle.block_networks.specs.Permutation.{Perm, partner, iterate, walk, key, lowest, side}
 use Rattle.block_networks.proofs.Orbits.{Reach, reach-one, reach-trans, once-round, Attained}
 use Rattle.block_networks.proofs.Loops.{parity, partner-partner, partner-half, partner-even, partner-lt, same-pair, key-at, key-inj, key-partner, key-last, key-other, KeyAt, in-last, elsewhere, flipped, perm-lt}
