@@ -1,17 +1,17 @@
--- Storing bits, and entries, one after another. Stores of different bits commute, so the parts of a program may be stored in any order.
+-- Storing bits one after another. Stores of different bits commute, so the parts of a program may be stored in any order.
 use mathlib.Core.Path.{_≡_, refl, sym, ap, _∙_}
 use mathlib.Core.Logic.{_≢_}
 use mathlib.Core.List.{List, [], _∷_, _++_, append-nil}
-use Prim.Native.Nat.{ℕ, suc, _+_, _-_, _*_, _%_, _≤_, _<_, min}
+use Prim.Native.Nat.{ℕ, suc, _+_, _-_, _%_, _≤_, _<_, min}
 use native.Mathlib.Nat.{zero-add, add-suc, suc-add, mod-eq-of-lt, min-eq-left}
 use native.Mathlib.Numerals.{add-one}
 use native.Mathlib.Decide.{ℕ-discrete}
 use native.Mathlib.Omega.{arith}
 use borrow.Rule.Slice.PartMut.{midOf, postOf, putMid}
-use lib.ListN.{length, set, take, drop, replicate, length-append, length-drop, length-replicate, drop-of-length-le, take-append-drop, List·getD-append}
-use lib.Seq.{sets, sets-eq, set-append-left, getD-append-add, take-all, length-take-le}
+use lib.ListN.{length, set, take, drop, replicate, length-drop, length-replicate, drop-of-length-le, take-append-drop, List·getD-append}
+use lib.Seq.{set-append-left, getD-append-add, take-all, length-take-le}
 use Rattle.lists.specs.Lists.{listOf}
-use Rattle.lists.proofs.ListsLaws.{length-listOf, sets-append}
+use Rattle.lists.proofs.ListsLaws.{length-listOf}
 use Rattle.fault.specs.Buffers.{over}
 use Rattle.block_elements.specs.Bits.{bitByte, bitPlace, bytesFor, bitAt, setBit, storeBits, zeroBytes, pack, AreBits, bitsHeld}
 use Rattle.block_elements.proofs.BitsLaws.{AreBytes}
@@ -32,26 +32,6 @@ store-more s p i f =
 pub store-step : (s₀ : List ℕ) {s : List ℕ} (p i : ℕ) {b : ℕ} (f : ℕ → ℕ) → s ≡ storeBits s₀ p (listOf i f) → b < 2 → b ≡ f i
     → setBit s (p + i) (b % 2) ≡ storeBits s₀ p (listOf (i + 1) f)
 store-step s₀ p i f held small e = rw (mod-eq-of-lt small, held, e) (store-more s₀ p i f)
-
-pub set-none : (l : List ℕ) (at : ℕ) (f : ℕ → ℕ) → l ≡ sets l at (listOf 0 f)
-unfolding listOf
-set-none l at f = refl
-
-set-more : (l : List ℕ) (at i : ℕ) (f : ℕ → ℕ) → set (sets l at (listOf i f)) (at + i) (f i) ≡ sets l at (listOf (i + 1) f)
-unfolding listOf
-set-more l at i f =
-    rw (add-one i, sets-append (listOf i f) (f i ∷ []) l at) (ap (λ k. set (sets l at (listOf i f)) (at + k) (f i)) (sym (length-listOf i f)))
-
-pub set-step : (l₀ : List ℕ) {l : List ℕ} (at i : ℕ) {v : ℕ} (f : ℕ → ℕ) → l ≡ sets l₀ at (listOf i f) → v ≡ f i → set l (at + i) v ≡ sets l₀ at (listOf (i + 1) f)
-set-step l₀ at i f held e = rw (held, e) (set-more l₀ at i f)
-
--- two halves fill a list
-pub sets-halves : (l a b : List ℕ) (h : ℕ) → length l ≡ 2 * h → length a ≡ h → length b ≡ h → sets (sets l 0 a) h b ≡ a ++ b
-sets-halves l a b h el ea eb =
-    ap (λ k. sets (sets l 0 a) k b) (sym (zero-add (length a) ∙ ea)) ∙ sym (sets-append a b l 0)
-    ∙ sets-eq (a ++ b) l 0 (rw length-append (omega arith))
-    ∙ ap (λ (t : List ℕ). (a ++ b) ++ t) (drop-of-length-le l {i = 0 + length (a ++ b)} (omega (arith, length-append a b)))
-    ∙ append-nil (a ++ b)
 
 -- past the end nothing is stored
 pub storeBits-past : (bs s : List ℕ) (p : ℕ) → bitsHeld (length s) ≤ p → storeBits s p bs ≡ s
