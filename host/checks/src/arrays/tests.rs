@@ -7,8 +7,8 @@ const BLOCK: &str = "crates/block_permutation_bits/src/block.rt";
 const DOOR: &str = "crates/block_permutation_bits/src/lib.rt";
 const BITS: &str = "crates/block_bits/src/lib.rt";
 
-/// The line before which locals are planted beside P's three arrays.
-const BESIDE: &str = "    load_mapping(wanted, &mut perm);\n";
+/// The line behind which locals are planted beside P's three arrays.
+const BESIDE: &str = "    let mut mark = [0u8; MAX_PLACES];\n";
 
 /// The repository's sources.
 fn sources() -> (Vec<Listed>, Vec<File>) {
@@ -43,7 +43,7 @@ fn planted(changes: &[(&str, &str, &str)]) -> Arrays {
 /// With locals beside P's three arrays, and items below the functions.
 fn beside(locals: &str, items: &str) -> Arrays {
     let (crates, mut files) = sources();
-    let more = format!("{locals}\n{BESIDE}");
+    let more = format!("{BESIDE}{locals}\n");
     put(&mut files, PROGRAMMING, BESIDE, &more);
     text(&mut files, PROGRAMMING).push_str(items);
     arrays(&crates, &files)
@@ -61,7 +61,7 @@ fn line_of(path: &str, what: &str) -> usize {
 fn planted_lines() -> (usize, usize) {
     let (_, mut files) = sources();
     let lines = text(&mut files, PROGRAMMING).matches('\n').count();
-    (line_of(PROGRAMMING, BESIDE), lines + 2)
+    (line_of(PROGRAMMING, BESIDE) + 1, lines + 2)
 }
 
 /// What each of the calls that program P holds, which is the same for all.
@@ -102,13 +102,13 @@ fn programming_p_holds_its_three_arrays() {
     );
     for call in &found.programming {
         assert_eq!(call.bytes, 2_560);
-        assert_eq!(call.path, [("program_wanted".to_string(), 2_560)]);
+        assert_eq!(call.path, [("program_large".to_string(), 2_560)]);
     }
     let mut exports = found.exports.iter();
     let selection = exports.find(|one| one.call == "mkd_selection_program");
     assert_eq!(
         selection.map(Fullest::line).as_deref(),
-        Some("mkd_selection_program     5632  store_program 3072 + program_wanted 2560")
+        Some("mkd_selection_program     5632  store_large 3072 + program_large 2560")
     );
 }
 
@@ -118,7 +118,7 @@ fn a_fourth_array_is_counted() {
     is_above(
         &found,
         2_561,
-        "program_wanted has perm 1024, inverse 1024, mark 512, spare 1",
+        "program_large has perm 1024, inverse 1024, mark 512, spare 1",
     );
     // In the check for 9 there is room for it: that returns before.
     let check = "crates/block_program_checks/src/permutation.rt";
@@ -127,7 +127,11 @@ fn a_fourth_array_is_counted() {
     let found = planted(&[(check, old, &more)]);
     assert_eq!((bytes(&found), found.problems.len()), (2_560, 0));
     let more = format!("{old}    let mut spare = [0u8; 2049];\n");
-    is_above(&planted(&[(check, old, &more)]), 2_561, "check_once has");
+    is_above(
+        &planted(&[(check, old, &more)]),
+        2_561,
+        "check_once_large has",
+    );
 }
 
 #[test]
@@ -284,7 +288,7 @@ fn comments_and_contracts_hold_nothing() {
     let comment = "    // let spare = [0u8; 512];";
     let found = beside(comment, "// const SPARE: [u8; 4] = [0; 4];\n");
     assert_eq!((bytes(&found), found.problems.len()), (2_560, 0));
-    let contract = "    requires { ⌜ SizeIs n × Wanted n (now wanted) ⌝ }\n";
+    let contract = "    requires { ⌜ Wanted (length (now wanted)) (now wanted) ⌝ }\n";
     let more = format!("{contract}    requires named {{ ⌜ held {{ list = [0u8; 512] }} ⌝ }}\n");
     let found = planted(&[(PROGRAMMING, contract, &more)]);
     assert_eq!((bytes(&found), found.problems.len()), (2_560, 0));
@@ -441,7 +445,7 @@ pub fn program_more(n: u32, wanted: &[u16], program: &mut [u8]) -> Answer
     };
     assert!(
         problem.ends_with(
-            "program_more has spare 1; program_wanted has perm 1024, inverse 1024, mark 512"
+            "program_more has spare 1; program_large has perm 1024, inverse 1024, mark 512"
         ),
         "{problem}"
     );
@@ -470,7 +474,7 @@ fn the_page_has_every_line() {
     );
     let page = format!("# Arrays\n{}\nEnd\n", lines.join("\n"));
     assert!(found.are_shown(&page));
-    assert!(!found.are_shown(&page.replace("program_wanted 2560", "program_wanted 2561")));
+    assert!(!found.are_shown(&page.replace("program_large 2560", "program_large 2561")));
     assert!(!found.are_shown(&page.replace(&format!("{}\n", lines[4]), "")));
     assert!(!found.are_shown(&page.replace("End", "").replace('\n', "")));
 }
