@@ -21,7 +21,7 @@ use Rattle.block_networks.proofs.PermutationLaws.{permutation-count, length-per
 use Rattle.block_rows.specs.Wires.{wiresPut}
 use Rattle.block_rows.proofs.WiresLaws.{wires-put}
 use Rattle.block_permutation_rows.specs.declared.level.LevelOuts.{LevelOuts}
-use Rattle.block_permutation_rows.specs.Levels.{innerRows, innerCount, OutsAt, outsList, InnerRoom, FourRoom, OutsRoom}
+use Rattle.block_permutation_rows.specs.Levels.{innerRows, innerCount, OutsAt, outsList, InnerRoom, SmallRoom, OutsRoom}
 use Rattle.block_permutation_rows.proofs.SwitchesLaws.{length-outputs}
 
 -- ---- numbers
@@ -139,11 +139,16 @@ pub four-outs : (next : ℕ) (p : LevelOuts) → p .first .0 ≡ next + 8 → p 
 unfolding permutationOuts permutationCount firsts seconds listOf
 four-outs next p ef eu el = record { firstIs = omega arith; upperIs = omega arith; lowerIs = omega arith }
 
-pub four-room : (n : ℕ) {next entries : ℕ} → n ≤ 1 → (n ≡ 0 → ⊥) → InnerRoom n next entries → FourRoom next entries
+small-room : (n : ℕ) {next entries : ℕ} → InnerRoom n next entries → SmallRoom (2 * (2 ^ n + innerCount n)) (innerCount n) next entries
+small-room n r = record { made = omega arith; room = r .room }
+
+pub four-room : {n next entries : ℕ} → n ≡ 1 → InnerRoom n next entries → SmallRoom 10 3 next entries
 unfolding permutationCount
-four-room zero l h r = absurd (h refl)
-four-room (suc zero) l h r = let w = r .fit .wires in record { wires = omega arith; room = r .room }
-four-room (suc (suc n)) l h r = absurd (omega arith)
+four-room {next = next} {entries = entries} e r = small-room 1 (subst (λ (k : ℕ). InnerRoom k next entries) e r)
+
+pub eight-room : {n next entries : ℕ} → n ≡ 2 → InnerRoom n next entries → SmallRoom 34 13 next entries
+unfolding permutationCount
+eight-room {next = next} {entries = entries} e r = small-room 2 (subst (λ (k : ℕ). InnerRoom k next entries) e r)
 
 four-rows : (next : ℕ) → next + 10 ≤ maxWires
     → X (next % maxWires) ((next + 2) % maxWires) ∷ X ((next + 1) % maxWires) ((next + 3) % maxWires) ∷ X ((next + 4) % maxWires) ((next + 6) % maxWires) ∷ []
@@ -154,7 +159,7 @@ four-rows next h = three (ap₂ X (omega arith) (omega arith)) (ap₂ X (omega a
     three : {a a′ b b′ c c′ : Row} → a ≡ a′ → b ≡ b′ → c ≡ c′ → a ∷ b ∷ c ∷ [] ≡ a′ ∷ b′ ∷ c′ ∷ []
     three ea eb ec = rw (ea, eb, ec)
 
-pub four-written : (next : ℕ) (R₀ R₁ F₂ F₃ : List ℕ) → FourRoom next (length R₀) → R₁ ≡ over (entries (X (next % maxWires) ((next + 2) % maxWires))) R₀
+pub four-written : (next : ℕ) (R₀ R₁ F₂ F₃ : List ℕ) → SmallRoom 10 3 next (length R₀) → R₁ ≡ over (entries (X (next % maxWires) ((next + 2) % maxWires))) R₀
     → F₂ ≡ over (entries (X ((next + 1) % maxWires) ((next + 3) % maxWires))) (partOf stride R₁)
     → F₃ ≡ over (entries (X ((next + 4) % maxWires) ((next + 6) % maxWires))) (partOf (2 * stride) (withPart stride R₁ F₂))
     → withPart (2 * stride) (withPart stride R₁ F₂) F₃ ≡ over (flat (innerRows 1 next)) R₀
@@ -165,4 +170,4 @@ four-written next R₀ R₁ F₂ F₃ r f₁ f₂ f₃ =
     let c = entries (X ((next + 4) % maxWires) ((next + 6) % maxWires)) in
     let e₂ = over-part a R₀ R₁ stride refl (omega arith) f₁ b F₂ (omega arith) f₂ in
     let e₃ = over-part (a ++ b) R₀ (withPart stride R₁ F₂) (2 * stride) refl (omega arith) e₂ c F₃ (omega arith) f₃ in
-    e₃ ∙ ap (λ l. over (flat l) R₀) (four-rows next (r .wires))
+    e₃ ∙ ap (λ l. over (flat l) R₀) (four-rows next (r .made))

@@ -14,11 +14,11 @@ use Rattle.fault.proofs.PartsLaws.{length-over, over-part}
 use Rattle.elements.specs.Elements.{maxWires}
 use Rattle.block_elements.specs.Rows.{Row, stride, flat}
 use Rattle.block_elements.proofs.RowsLaws.{flat-append}
-use Rattle.block_networks.specs.Permutation.{inputRows, outputRows, firsts, seconds, upperNext, lowerNext}
+use Rattle.block_networks.specs.Permutation.{permutationCount, inputRows, outputRows, firsts, seconds, upperNext, lowerNext}
 use Rattle.block_networks.specs.Permutation.{permutationRows, upperOuts, lowerOuts}
 use Rattle.block_permutation_rows.specs.declared.level.LevelOuts.{LevelOuts}
 use Rattle.block_permutation_rows.specs.declared.level.LevelParts.{LevelParts}
-use Rattle.block_permutation_rows.specs.Levels.{risingRows, innerRows, innerCount, OutsAt, outsList, joinRows, InnerRoom, JoinRoom, LevelPartsAt}
+use Rattle.block_permutation_rows.specs.Levels.{risingRows, innerRows, innerCount, OutsAt, outsList, joinRows, InnerRoom, SmallRoom, JoinRoom, LevelPartsAt}
 use Rattle.block_permutation_rows.proofs.SwitchesLaws.{length-inputs, inputs-rise, seconds-rise, length-outputs, outs-last, outputs-join}
 use Rattle.block_permutation_rows.proofs.HalvesLaws.{rows-split, length-inner, outs-made, outs-are}
 
@@ -194,3 +194,46 @@ module _ (n next : ℕ) (some : 1 ≤ n) (p : LevelParts) (at : LevelPartsAt n n
         wires = wires-written;
         rowsLength = ap length rows-written ∙ length-over (flat (innerRows n next)) R₀ (omega arith);
       }
+
+-- ---- P(8)
+
+-- where its parts begin
+abbrev pub eightParts : ℕ → LevelParts
+eightParts next = record {
+  half = 4;
+  inputs = 2;
+  upper = 2 * stride;
+  lower = 5 * stride;
+  «lower_inner» = 7 * stride;
+  outputs = 10 * stride;
+  «upper_next» = record { 0 = next + 8 };
+  «lower_next» = record { 0 = next + 18 };
+  «output_next» = record { 0 = next + 28 };
+}
+
+eight-at : (next : ℕ) → next + 34 ≤ maxWires → LevelPartsAt 2 next (eightParts next)
+unfolding permutationCount
+eight-at next h = record {
+  halfIs = refl;
+  inputsAre = refl;
+  double = refl;
+  some = omega arith;
+  small = omega arith;
+  whole = refl;
+  upperAt = refl;
+  lowerAt = refl;
+  lowerInnerAt = refl;
+  outputsAt = refl;
+  few = omega arith;
+  upperFrom = omega arith;
+  lowerFrom = omega arith;
+  outputFrom = omega arith;
+  wires = omega arith;
+}
+
+module _ (next : ℕ) (above below : LevelOuts) (R₀ R₁ F₁ F₂ F₃ F₄ : List ℕ) (room : SmallRoom 34 13 next (length R₀)) where
+  pub eight-written : LevelSteps 2 next (eightParts next) above below R₀ R₁ F₁ F₂ F₃ F₄ → InnerWritten 2 next R₀
+      (withPart (10 * stride) (withPart (7 * stride) (withPart (5 * stride) (withPart (2 * stride) R₁ F₁) F₂) F₃) F₄)
+      (record { first = record { 0 = next + 28 }; upper = above .lower; lower = below .lower })
+  unfolding permutationCount
+  eight-written s = level-written 2 next (omega arith) (eightParts next) (eight-at next (room .made)) above below R₀ R₁ F₁ F₂ F₃ F₄ (room .room) s

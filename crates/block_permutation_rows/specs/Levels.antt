@@ -56,10 +56,10 @@ pub record InnerRoom (n next entries : ℕ) : Type 0 where
   pub fit : InnerWires n next
   pub room : stride * innerCount n ≤ entries
 
--- the same for P(4)
-pub record FourRoom (next entries : ℕ) : Type 0 where
-  pub wires : next + 10 ≤ maxWires
-  pub room : stride * 3 ≤ entries
+-- so many wires and so many rows fit
+pub record SmallRoom (wires rows next entries : ℕ) : Type 0 where
+  pub made : next + wires ≤ maxWires
+  pub room : stride * rows ≤ entries
 
 -- the output rows fit a part of the table
 pub record JoinRoom (half entries : ℕ) : Type 0 where

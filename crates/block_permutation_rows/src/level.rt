@@ -6,7 +6,7 @@ ghost use lib.ListN.{length};
 ghost use Rattle.fault.specs.Buffers.{over};
 ghost use Rattle.block_elements.specs.Rows.{flat};
 ghost use Rattle.block_sizes.specs.Sizes.{maxSize, maxLevel};
-ghost use Rattle.block_permutation_rows.specs.Levels.{innerRows, joinRows, InnerWires, InnerRoom, FourRoom, JoinRoom, LevelPartsAt, OutsAt};
+ghost use Rattle.block_permutation_rows.specs.Levels.{innerRows, joinRows, InnerWires, InnerRoom, SmallRoom, JoinRoom, LevelPartsAt, OutsAt};
 use crate::switches::put_rising;
 use crate::switches::put_switch;
 use block_rows::STRIDE;
@@ -42,7 +42,7 @@ pub(crate) fn write_inner(n: u32, next: FabricWire, rows: &mut [u16]) -> LevelOu
     ensures { λ _. ⌜ now (rows .exit) ≡ over (flat (innerRows n (next .0))) (now (rows .entry)) ⌝ }
     ensures { λ r. ⌜ OutsAt n (next .0) r ⌝ }
 {
-    if n < 2 {
+    if n < 3 {
         return write_small(n, next, rows);
     }
     let parts = level_parts(n, next);
@@ -65,25 +65,49 @@ pub(crate) fn write_inner(n: u32, next: FabricWire, rows: &mut [u16]) -> LevelOu
     }
 }
 
-// The same for P(2), which has no row behind its input row, and for P(4). Most blocks are these.
+// The same for P(2), which has no row behind its input row, for P(4) and for P(8). Most blocks are these.
 fn write_small(n: u32, next: FabricWire, rows: &mut [u16]) -> LevelOuts
-    requires { ⌜ (n ≤ 1) × InnerRoom n (next .0) (length (now rows)) ⌝ }
+    requires { ⌜ (n ≤ 2) × InnerRoom n (next .0) (length (now rows)) ⌝ }
     ensures { λ _. ⌜ now (rows .exit) ≡ over (flat (innerRows n (next .0))) (now (rows .entry)) ⌝ }
     ensures { λ r. ⌜ OutsAt n (next .0) r ⌝ }
 {
-    if n == 0 {
-        return LevelOuts {
-            first: FabricWire(next.0 + 2),
-            upper: next,
-            lower: FabricWire(next.0 + 1),
-        };
+    if n == 2 {
+        return write_eight(next, rows);
     }
-    write_four(next, rows)
+    if n == 1 {
+        return write_four(next, rows);
+    }
+    LevelOuts {
+        first: FabricWire(next.0 + 2),
+        upper: next,
+        lower: FabricWire(next.0 + 1),
+    }
+}
+
+// The same for P(8), whose halves are P(4). All places and all distances of wires are numbers that are known here.
+fn write_eight(next: FabricWire, rows: &mut [u16]) -> LevelOuts
+    requires { ⌜ SmallRoom 34 13 (next .0) (length (now rows)) ⌝ }
+    ensures { λ _. ⌜ now (rows .exit) ≡ over (flat (innerRows 2 (next .0))) (now (rows .entry)) ⌝ }
+    ensures { λ r. ⌜ OutsAt 2 (next .0) r ⌝ }
+{
+    let w = next.0;
+    put_rising(rows, 2, w, w + 2, 4);
+    let above = write_four(FabricWire(w + 8), &mut rows[2 * STRIDE..]);
+    put_rising(&mut rows[5 * STRIDE..], 2, w + 1, w + 3, 4);
+    let below = write_four(FabricWire(w + 18), &mut rows[7 * STRIDE..]);
+    join_halves(&mut rows[10 * STRIDE..], 4, above, below);
+    let upper_last = above.lower;
+    let lower_last = below.lower;
+    LevelOuts {
+        first: FabricWire(w + 28),
+        upper: upper_last,
+        lower: lower_last,
+    }
 }
 
 // The same for P(4): each half is one X, and there is one output row.
 fn write_four(next: FabricWire, rows: &mut [u16]) -> LevelOuts
-    requires { ⌜ FourRoom (next .0) (length (now rows)) ⌝ }
+    requires { ⌜ SmallRoom 10 3 (next .0) (length (now rows)) ⌝ }
     ensures { λ _. ⌜ now (rows .exit) ≡ over (flat (innerRows 1 (next .0))) (now (rows .entry)) ⌝ }
     ensures { λ r. ⌜ OutsAt 1 (next .0) r ⌝ }
 {

@@ -52,6 +52,9 @@ claims t = (
 some-below : {n : ℕ} → 2 ≤ n → 1 ≤ n
 some-below l = omega arith
 
+two-below : {n : ℕ} → 3 ≤ n → 2 ≤ n
+two-below l = omega arith
+
 step-down : {n t : ℕ} → 2 ≤ n → n ≡ t → n - 1 < t
 step-down l e = omega arith
 
@@ -153,7 +156,7 @@ module _ (t : ℕ) where
 
   -- each half is a smaller block that fits what it is lent, and the rows between fit
   large : (c : Parted) → 2 ≤ start c .args .n
-  large c = c .before .if1 .left
+  large c = two-below (c .before .if1 .left)
 
   smaller : (c : Inputs) → start (parted c) .args .n - 1 < t
   smaller c = step-down (large (parted c)) (start (parted c) .pre .0)
@@ -219,7 +222,7 @@ pub +write-inner-spec : {M : Type 1} → statement M
     (claims t)
     (write-inner-at t)
     write-inner.Post
-    -- P(2) and P(4)
+    -- P(2), P(4) and P(8)
     (λ c κs. search needs) (λ c. search needs) (λ c. c .before .before .write-small .ensures)
     -- the parts, the upper half's inputs
     (λ c κs. search needs) (λ c. search needs) (λ c κs. search needs)
