@@ -61,7 +61,8 @@ fn program_pair(perm: &[u16], program: &mut [u8], start: usize, level: usize)
     }
 }
 
-// The program bits of a half, whose mapping stands in `perm` from place `at` on. What stands behind that stays.
+// The program bits of a half, whose mapping stands in `perm` from place `at` on. What stands behind that stays. A small half is stored here,
+// with no call.
 fn program_half(
     perm: &mut [u16],
     scratch: &mut [u16],
@@ -78,12 +79,16 @@ fn program_half(
     ensures kept { λ _. ⌜ drop (at + length (now (perm .entry)) / 2) (now (perm .exit)) ≡ drop (at + length (now (perm .entry)) / 2) (now (perm .entry)) ⌝ }
 {
     let end = at + perm.len() / 2;
-    program_block(
-        &mut perm[at..end],
-        &mut scratch[at..end],
-        &mut mark[at..end],
-        program,
-        start,
-        level,
-    );
+    if 2 < level {
+        program_block(
+            &mut perm[at..end],
+            &mut scratch[at..end],
+            &mut mark[at..end],
+            program,
+            start,
+            level,
+        );
+    } else {
+        program_few(&perm[at..end], program, start, level);
+    }
 }

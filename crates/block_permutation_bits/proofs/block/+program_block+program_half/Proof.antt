@@ -61,6 +61,8 @@ abbrev half-calls : ℕ → program-half-lts.Claims
 half-calls t = (
   and 4 program-block-kinds.ps (falls 4 program-block-kinds.ps _<_ μ-program-block t) program-block.Pre,
   program-block.Post,
+  program-few-reads.Asked,
+  program-few-reads.Learnt,
 )
 
 some-below : {level : ℕ} → 2 < level → 0 < level
@@ -307,7 +309,7 @@ module _ (t : ℕ) where
   HalfDone = program-half-lts.After-slice-known8 (half-calls t) (half-at t) program-half.Post
 
   abbrev known : Asked → program-half-lts.After-slice-known4 (half-calls t) (half-at t) program-half.Post
-  known c = c .before .before .before .before
+  known c = c .before .before .before .before .before
 
   abbrev given : Asked → Given
   given c = known c .before .before .before .before
@@ -362,6 +364,26 @@ module _ (t : ℕ) where
             (b .kept .0 ∙ mid-len (a .at) end (a .perm .now) (s .pre .1 .1 .0 .within)),
       )
 
+  -- a half that is no larger than P(4)
+  for-few-part : program-half-lts.Need-program-few-requires (half-calls t) (half-at t) program-half.Post
+  for-few-part c κs =
+      let other = c .before .before .before in
+      let s = other .before .before .before .before .before in
+      let a = s .args in (
+        rw (part-size (a .at) (length (a .perm .now))) (s .pre .1 .0),
+        part-room (a .perm .now) (a .scratch .now) (a .mark .now) (s .pre .1 .1 .0) refl .size,
+        other .if1 .left,
+      )
+
+  few-stored : program-half-lts.Need-returns-2 (half-calls t) (half-at t) program-half.Post
+  few-stored c =
+      let few-done = c .before .before in
+      let a = few-done .before .before .before .before .before .before .before .before .before .args in (
+        few-done .program-few .ensures
+            ∙ ap (λ k. storeBits (a .program .now) (a .start) (listBits (a .level) (take k (drop (a .at) (a .perm .now))))) (part-size (a .at) (length (a .perm .now))),
+        refl,
+      )
+
 pub +program-block+program-half-spec : {M : Type 1} → statement M
 +program-block+program-half-spec =
     close μ-program-block μ-program-half
@@ -370,10 +392,13 @@ pub +program-block+program-half-spec : {M : Type 1} → statement M
     (same-perm t) (same-scratch t) (same-marks t) (same-program t)
     (stored t) (λ c. refl) (λ c. c .before .before .program-few .kept .1 .0) (few t))
     λ t. program-half-lts.spec (half-calls t) (half-at t) program-half.Post
-    (λ c. end-fits (c .before .before .before .before .pre .1 .1 .0)) (λ c. place-fits (c .before .before .before .before .pre .1 .1 .0)) (λ c. le-add-right _ _) (λ c. le-add-right _ _)
-    (λ c. c .before .before .before .before .pre .1 .1 .0 .within)
+    (λ c. end-fits (c .before .before .before .before .pre .1 .1 .0)) (λ c. place-fits (c .before .before .before .before .before .pre .1 .1 .0)) (λ c. le-add-right _ _) (λ c. le-add-right _ _)
+    (λ c. c .before .before .before .before .before .pre .1 .1 .0 .within)
+    (λ c. place-fits (c .before .before .before .before .before .before .pre .1 .1 .0)) (λ c. le-add-right _ _) (λ c. le-add-right _ _)
+    (λ c. in-scratch (c .before .before .before .before .before .before .pre .1 .1 .0))
+    (λ c. le-add-right _ _) (λ c. le-add-right _ _) (λ c. in-marks (c .before .before .before .before .before .before .before .pre .1 .1 .0))
+    (for-block t)
     (λ c. place-fits (c .before .before .before .before .before .pre .1 .1 .0)) (λ c. le-add-right _ _) (λ c. le-add-right _ _)
-    (λ c. in-scratch (c .before .before .before .before .before .pre .1 .1 .0))
-    (λ c. le-add-right _ _) (λ c. le-add-right _ _) (λ c. in-marks (c .before .before .before .before .before .before .pre .1 .1 .0))
-    (for-block t) (part-perm t) (part-scratch t) (part-marks t)
-    (λ c. blocked t c .program-block .kept .1 .1 .1 .0) (half-stored t)
+    (λ c. c .before .before .before .before .before .before .pre .1 .1 .0 .within) (for-few-part t)
+    (part-perm t) (part-scratch t) (part-marks t)
+    (λ c. blocked t c .program-block .kept .1 .1 .1 .0) (half-stored t) (λ c. refl) (λ c. c .before .before .program-few .kept .1 .0) (few-stored t)
