@@ -21,7 +21,7 @@ use Rattle.block_rows.proofs.RowsLaws.{length-pairRows, rows-put}
 use Rattle.block_rows.proofs.WiresLaws.{wires-copied}
 use Rattle.block_write_checks.specs.WriteChecks.{WritePasses}
 use Rattle.block_permutation_rows.specs.declared.level.LevelOuts.{LevelOuts}
-use Rattle.block_permutation_rows.specs.Levels.{innerRows, innerCount, OutsAt, outsList, WholeRoom, OutsRoom}
+use Rattle.block_permutation_rows.specs.Levels.{innerRows, innerCount, OutsAt, outsList, LevelRoom, OutsRoom}
 use Rattle.block_permutation_rows.proofs.SwitchesLaws.{length-inputs}
 use Rattle.block_permutation_rows.proofs.HalvesLaws.{length-inner, outs-made, outs-above}
 
@@ -39,7 +39,7 @@ split-rows : (n : ℕ) (ins : List ℕ) (next : ℕ) → flat (inputRows (2 ^ n)
 unfolding permutationRows innerRows
 split-rows n ins next = sym (flat-append (inputRows (2 ^ n) ins) _)
 
-module _ {n next inputs entries places : ℕ} (room : WholeRoom n inputs next entries places) where
+module _ {n next inputs entries places : ℕ} (room : LevelRoom n inputs next entries places) where
   pub some-inputs : 1 ≤ inputs
   some-inputs = omega (arith, pow-pos n)
 
@@ -80,9 +80,9 @@ count-above : (n : ℕ) → permutationCount (suc n) ≡ 2 ^ n + innerCount n
 unfolding permutationCount
 count-above n = refl
 
-pub whole-room : (N : ℕ) (ins : List ℕ) (next rows outputs level : ℕ) → WritePasses N ins next rows outputs → level ≡ levelOf N → (level ≡ 0 → ⊥)
-    → WholeRoom (level - 1) (length ins) next rows outputs
-whole-room N ins next rows outputs level passes at some =
+pub level-room : (N : ℕ) (ins : List ℕ) (next rows outputs level : ℕ) → WritePasses N ins next rows outputs → level ≡ levelOf N → (level ≡ 0 → ⊥)
+    → LevelRoom (level - 1) (length ins) next rows outputs
+level-room N ins next rows outputs level passes at some =
     let n = level - 1 in
     let above : levelOf N ≡ suc n = omega arith in
     let count : permutationCount (levelOf N) ≡ 2 ^ n + innerCount n = ap permutationCount above ∙ count-above n in

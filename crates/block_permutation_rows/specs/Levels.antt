@@ -68,7 +68,7 @@ pub record JoinRoom (half entries : ℕ) : Type 0 where
   pub room : stride * (half - 1) ≤ entries
 
 -- P at level n + 1 on so many input wires fits the table and the list of output wires
-pub record WholeRoom (n inputs next entries places : ℕ) : Type 0 where
+pub record LevelRoom (n inputs next entries places : ℕ) : Type 0 where
   pub fit : InnerWires n next
   pub inputsAre : inputs ≡ 2 * 2 ^ n
   pub rowRoom : stride * (2 ^ n + innerCount n) ≤ entries

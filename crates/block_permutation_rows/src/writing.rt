@@ -9,7 +9,7 @@ ghost use Rattle.block_networks.specs.Permutation.{permutationRows, permutation
 ghost use Rattle.block_sizes.specs.Sizes.{levelOf};
 ghost use Rattle.block_write_checks.specs.WriteChecks.{WritePasses, writeFault};
 ghost use Rattle.block_permutation_rows.specs.WriteCalls.{writtenRows, writtenOutputs};
-ghost use Rattle.block_permutation_rows.specs.Levels.{outsList, WholeRoom, OutsRoom};
+ghost use Rattle.block_permutation_rows.specs.Levels.{outsList, LevelRoom, OutsRoom};
 use crate::level::LevelOuts;
 use crate::level::size_at;
 use crate::level::write_inner;
@@ -60,13 +60,19 @@ fn write_checked_permutation(
     if level == 0 {
         copy_wires(inputs, outputs);
     } else {
-        write_whole(level - 1, inputs, next, rows, outputs);
+        write_from_inputs(level - 1, inputs, next, rows, outputs);
     }
 }
 
 // P at level n + 1: the input rows on the wires of the list, and behind them all others, on wires that are numbers.
-fn write_whole(n: u32, inputs: &[u16], next: FabricWire, rows: &mut [u16], outputs: &mut [u16])
-    requires { ⌜ WholeRoom n (length (now inputs)) (next .0) (length (now rows)) (length (now outputs)) ⌝ }
+fn write_from_inputs(
+    n: u32,
+    inputs: &[u16],
+    next: FabricWire,
+    rows: &mut [u16],
+    outputs: &mut [u16],
+)
+    requires { ⌜ LevelRoom n (length (now inputs)) (next .0) (length (now rows)) (length (now outputs)) ⌝ }
     ensures { λ _. ⌜ now (rows .exit) ≡ over (flat (permutationRows (suc n) (now (inputs .entry)) (next .0))) (now (rows .entry)) ⌝ }
     ensures { λ _. ⌜ now (outputs .exit) ≡ over (permutationOuts (suc n) (now (inputs .entry)) (next .0)) (now (outputs .entry)) ⌝ }
 {

@@ -7,19 +7,19 @@ use Rattle.fault.specs.Buffers.{over}
 use Rattle.block_elements.specs.Rows.{flat}
 use Rattle.block_networks.specs.Permutation.{permutationOuts, permutationRows}
 use Rattle.block_sizes.specs.Sizes.{levelOf}
-use Rattle.block_permutation_rows.proofs.NetworkLaws.{wire-written, whole-room}
+use Rattle.block_permutation_rows.proofs.NetworkLaws.{wire-written, level-room}
 use Rattle.block_permutation_rows.proofs.writing.write_checked_permutation.Statement.{statement}
 use Rattle.block_permutation_rows.proofs.writing.write_checked_permutation.Tie as tie
 
 abbrev start : tie.After-ceil-log → tie.Start
 start c = c .before .before .before .before
 
-room : tie.Need-write-whole-requires
+room : tie.Need-write-from-inputs-requires
 room c κs =
     let else = c .before .before in
     let level = else .before in
     let s = start level in
-    whole-room (s .args .n) (s .args .inputs .now) (s .args .next .0) _ _ (level .ceil-log .result) (s .pre) (level .ceil-log .ensures) (else .if1 .left)
+    level-room (s .args .n) (s .args .inputs .now) (s .args .next .0) _ _ (level .ceil-log .result) (s .pre) (level .ceil-log .ensures) (else .if1 .left)
 
 wire : tie.Need-returns
 wire c =
@@ -36,8 +36,8 @@ written c =
     let level = else .before in
     let a = start level .args in
     let above : suc (level .ceil-log .result - 1) ≡ levelOf (a .n) = omega arith in (
-      put .write-whole .ensures .0 ∙ ap (λ k. over (flat (permutationRows k (a .inputs .now) (a .next .0))) (a .rows .now)) above,
-      put .write-whole .ensures .1 ∙ ap (λ k. over (permutationOuts k (a .inputs .now) (a .next .0)) (a .outputs .now)) above,
+      put .write-from-inputs .ensures .0 ∙ ap (λ k. over (flat (permutationRows k (a .inputs .now) (a .next .0))) (a .rows .now)) above,
+      put .write-from-inputs .ensures .1 ∙ ap (λ k. over (permutationOuts k (a .inputs .now) (a .next .0)) (a .outputs .now)) above,
     )
 
 pub write-checked-permutation-spec : {M : Type 1} → statement M

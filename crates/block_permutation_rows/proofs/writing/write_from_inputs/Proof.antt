@@ -1,11 +1,11 @@
--- `block_permutation_rows::writing::write_whole` meets its contract: the input rows, behind them the others, then the output wires. Assumes nothing.
+-- `block_permutation_rows::writing::write_from_inputs` meets its contract: the input rows, behind them the others, then the output wires. Assumes nothing.
 use native.Mathlib.Omega.{arith}
 use mathlib.Core.Path.{refl}
 use lib.Pow.{pow-pos}
 use borrow.Author.Needs.{needs}
 use Rattle.block_permutation_rows.proofs.NetworkLaws.{some-inputs, outs-room, rows-written, wires-written}
-use Rattle.block_permutation_rows.proofs.writing.write_whole.Statement.{statement}
-use Rattle.block_permutation_rows.proofs.writing.write_whole.Tie as tie
+use Rattle.block_permutation_rows.proofs.writing.write_from_inputs.Statement.{statement}
+use Rattle.block_permutation_rows.proofs.writing.write_from_inputs.Tie as tie
 
 -- the places where the size is found and the inner rows are written, and the way back from each
 abbrev start : tie.After-size-at → tie.Start
@@ -45,8 +45,8 @@ written c =
           (sized .size-at .ensures .0) (inner .write-inner .ensures .1) (outs .put-outs .ensures),
     )
 
-pub write-whole-spec : {M : Type 1} → statement M
-write-whole-spec =
+pub write-from-inputs-spec : {M : Type 1} → statement M
+write-from-inputs-spec =
     tie.close
     (tie.spec
     (λ c κs. search needs) (λ c κs. search needs) some begins (λ c. search needs) (λ c κs. search needs) (λ c. search needs)
