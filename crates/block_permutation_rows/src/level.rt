@@ -43,7 +43,7 @@ pub(crate) fn write_inner(n: u32, next: FabricWire, rows: &mut [u16]) -> LevelOu
     ensures { λ r. ⌜ OutsAt n (next .0) r ⌝ }
 {
     if n < 3 {
-        return write_small(n, next, rows);
+        return write_base(n, next, rows);
     }
     let parts = level_parts(n, next);
     let upper = parts.upper;
@@ -66,7 +66,7 @@ pub(crate) fn write_inner(n: u32, next: FabricWire, rows: &mut [u16]) -> LevelOu
 }
 
 // The same for P(2), which has no row behind its input row, for P(4) and for P(8). Most blocks are these.
-fn write_small(n: u32, next: FabricWire, rows: &mut [u16]) -> LevelOuts
+fn write_base(n: u32, next: FabricWire, rows: &mut [u16]) -> LevelOuts
     requires { ⌜ (n ≤ 2) × InnerRoom n (next .0) (length (now rows)) ⌝ }
     ensures { λ _. ⌜ now (rows .exit) ≡ over (flat (innerRows n (next .0))) (now (rows .entry)) ⌝ }
     ensures { λ r. ⌜ OutsAt n (next .0) r ⌝ }

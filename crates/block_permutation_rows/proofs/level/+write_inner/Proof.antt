@@ -18,7 +18,7 @@ use Rattle.block_permutation_rows.proofs.LevelsLaws.{upper-room, lower-
 use Rattle.block_permutation_rows.proofs.level.write_inner.Reads as write-inner
 use Rattle.block_permutation_rows.proofs.level.write_inner.Kinds as write-inner-kinds
 use Rattle.block_permutation_rows.proofs.level.+write_inner.Lts-write_inner as write-inner-lts
-use Rattle.block_permutation_rows.proofs.level.write_small.Reads as write-small-reads
+use Rattle.block_permutation_rows.proofs.level.write_base.Reads as write-base-reads
 use Rattle.block_permutation_rows.proofs.level.level_parts.Reads as level-parts-reads
 use Rattle.block_permutation_rows.proofs.switches.put_rising.Reads as put-rising-reads
 use Rattle.block_permutation_rows.proofs.level.join_halves.Reads as join-halves-reads
@@ -37,8 +37,8 @@ write-inner-below t = and 1 write-inner-kinds.ps (falls 1 write-inner-kinds.ps _
 -- what is known of the functions that it calls, itself among them
 abbrev claims : ℕ → write-inner-lts.Claims
 claims t = (
-  write-small-reads.Asked,
-  write-small-reads.Learnt,
+  write-base-reads.Asked,
+  write-base-reads.Learnt,
   level-parts-reads.Asked,
   level-parts-reads.Learnt,
   put-rising-reads.Asked,
@@ -223,7 +223,7 @@ pub +write-inner-spec : {M : Type 1} → statement M
     (write-inner-at t)
     write-inner.Post
     -- P(2), P(4) and P(8)
-    (λ c κs. search needs) (λ c. search needs) (λ c. c .before .before .write-small .ensures)
+    (λ c κs. search needs) (λ c. search needs) (λ c. c .before .before .write-base .ensures)
     -- the parts, the upper half's inputs
     (λ c κs. search needs) (λ c. search needs) (λ c κs. search needs)
     -- the upper half and its stretch

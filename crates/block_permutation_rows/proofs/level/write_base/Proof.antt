@@ -1,4 +1,4 @@
--- `block_permutation_rows::level::write_small` meets its contract: P(2) has no row behind its input row, P(4) and P(8) are written. Assumes nothing.
+-- `block_permutation_rows::level::write_base` meets its contract: P(2) has no row behind its input row, P(4) and P(8) are written. Assumes nothing.
 use native.Mathlib.Omega.{arith}
 use mathlib.Core.Path.{_≡_, refl, sym, ap, subst, _∙_}
 use mathlib.Core.List.{List}
@@ -9,8 +9,8 @@ use Rattle.block_elements.specs.Rows.{flat}
 use Rattle.block_permutation_rows.specs.declared.level.LevelOuts.{LevelOuts}
 use Rattle.block_permutation_rows.specs.Levels.{innerRows, OutsAt}
 use Rattle.block_permutation_rows.proofs.HalvesLaws.{pair-kept, pair-outs, four-room, eight-room}
-use Rattle.block_permutation_rows.proofs.level.write_small.Statement.{statement}
-use Rattle.block_permutation_rows.proofs.level.write_small.Tie as tie
+use Rattle.block_permutation_rows.proofs.level.write_base.Statement.{statement}
+use Rattle.block_permutation_rows.proofs.level.write_base.Tie as tie
 
 -- what is written of the level k is written of n, if that is k
 same : {n k : ℕ} (next : ℕ) (p : LevelOuts) (R₀ R : List ℕ) → n ≡ k → (R ≡ over (flat (innerRows k next)) R₀) × OutsAt k next p
@@ -44,6 +44,6 @@ pair c =
     let e : a .n ≡ 0 = omega arith in
     (pair-kept (a .n) (a .next .0) (a .rows .now) e, pair-outs (a .n) (a .next .0) _ e refl refl refl)
 
-pub write-small-spec : {M : Type 1} → statement M
-write-small-spec =
+pub write-base-spec : {M : Type 1} → statement M
+write-base-spec =
     tie.close (tie.spec eight-fits (λ c. search needs) eight four-fits (λ c. search needs) four (λ c. search needs) (λ c. search needs) pair)
