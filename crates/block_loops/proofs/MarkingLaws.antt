@@ -1,5 +1,5 @@
 -- A walk from a loop's leading pair passes each pair of the loop, and marks it right. Taken in the order of the leading pairs, the loops
--- give every output its side.
+-- give every output pair and every input pair its side.
 use mathlib.Core.Path.{_≡_, refl, sym, ap, _∙_}
 use mathlib.Core.Logic.{_≢_, _⊎_, inl, inr}
 use mathlib.Core.List.{List}

@@ -1,4 +1,4 @@
--- How the sides of the outputs are found: loop after loop is walked and marked, in the order of the pairs that lead them.
+-- How the sides of the output and input pairs are found: loop after loop is walked and marked, in the order of the pairs that lead them.
 -- Document 01: "In the loop holding the last output pair, that pair is straight. In each other loop its lowest output pair is straight."
 use Prim.Native.Nat.{ℕ, zero, suc, _+_, _-_, _*_, _/_, _%_, _<_}
 use mathlib.Core.Path.{_≡_}
