@@ -5,7 +5,7 @@ use super::*;
 const PROGRAMMING: &str = "crates/block_permutation_bits/src/programming.rt";
 const BLOCK: &str = "crates/block_permutation_bits/src/block.rt";
 const DOOR: &str = "crates/block_permutation_bits/src/lib.rt";
-const BITS: &str = "crates/block_bits/src/lib.rt";
+const FIELDS: &str = "crates/block_bits/src/fields.rt";
 
 /// The line behind which locals are planted beside P's three arrays.
 const BESIDE: &str = "    let mut mark = [0u8; MAX_PLACES];\n";
@@ -164,16 +164,17 @@ fn an_array_inside_the_recursion_is_refused() {
     let found = planted(&[
         (
             BLOCK,
-            "fn program_pair(perm",
-            "fn program_pair(own: [u8; 1], perm",
+            "fn program_few(perm",
+            "fn program_few(own: [u8; 1], perm",
         ),
         (
             BLOCK,
-            "program_pair(perm, program",
-            "program_pair([0u8], perm, program",
+            "program_few(perm, program",
+            "program_few([0u8], perm, program",
         ),
+        (BLOCK, "program_few(&perm", "program_few([0u8], &perm"),
     ]);
-    let line = line_of(BLOCK, "program_pair(perm, program");
+    let line = line_of(BLOCK, "program_few(perm, program");
     let problem = format!("program_block has a value in line {line} 1");
     let is_there = |one: &String| one.ends_with(&problem);
     assert!(found.problems.iter().any(is_there), "{:?}", found.problems);
@@ -181,10 +182,10 @@ fn an_array_inside_the_recursion_is_refused() {
 
 #[test]
 fn an_array_in_a_shared_leaf_is_counted() {
-    let leaf = "    let end = smaller(count, bytes.len());\n";
+    let leaf = "    let place = bit_place(start) as u32;\n";
     let more = format!("{leaf}    let copy = [0u32; 2];\n");
-    let words = "fill_bytes has copy 8";
-    is_above(&planted(&[(BITS, leaf, &more)]), 2_568, words);
+    let words = "store_field has copy 8";
+    is_above(&planted(&[(FIELDS, leaf, &more)]), 2_568, words);
 }
 
 #[test]
