@@ -13,8 +13,8 @@ use lib.Pow.{pow-pos, pow-add, shr-shr, shr-lt, shl-exact, high, low, split, mod
 use lib.Arith.{digits-lt}
 use lib.Bits.{bitAnd, and-mask}
 use Rattle.lists.specs.Lists.{listOf}
-use Rattle.lists.proofs.ListsLaws.{listOf-ext, listOf-getD}
-use Rattle.block_elements.specs.Bits.{bitByte, bitPlace, bitOf, withBit, setBit, storeBits, AreBits, bitsHeld}
+use Rattle.lists.proofs.ListsLaws.{listOf-ext}
+use Rattle.block_elements.specs.Bits.{bitByte, bitPlace, bitOf, withBit, setBit, storeBits, bitsHeld}
 use Rattle.block_elements.proofs.BitsLaws.{AreBytes}
 use Rattle.block_bits.specs.Stores.{fieldBits, numberOf, withField, twoBytes, putTwoBytes}
 use Rattle.block_bits.proofs.StoreLaws.{store-more}
@@ -55,11 +55,6 @@ unfolding fieldBits
 fieldBits-number n m {f} h l room =
     let e : min n 8 ≡ n = omega arith in
     rw e (listOf-ext n (λ i. bitOf i (numberOf f m)) f (λ i k. number-bit m i h (omega arith)))
-
--- the same for a list of bits that is written out
-pub fieldBits-list : (bs : List ℕ) (x : ℕ) → AreBits bs → length bs ≤ bitsHeld 1 → x ≡ numberOf (λ i. getD bs i 0) (length bs)
-    → fieldBits (length bs) x ≡ bs
-fieldBits-list bs x h l e = rw e (fieldBits-number (length bs) (length bs) (h .each) (omega arith) l ∙ listOf-getD bs 0)
 
 -- the lowest bits of x are the number of its bits
 pub number-bits : (n x : ℕ) → numberOf (λ i. bitOf i x) n ≡ x % 2 ^ n

@@ -45,6 +45,15 @@ pub const LIMIT_COUNTS: [u16; 13] = [
 pub struct Counts(pub u16, pub u16, pub u16);
 
 impl Counts {
+    /// Those of which times and instructions are measured.
+    pub const MEASURED: [Counts; 5] = [
+        Counts(1, 1, 1),
+        Counts(25, 50, 1),
+        Counts(64, 64, 64),
+        Counts(64, 188, 33),
+        Counts::MOST,
+    ];
+
     pub const LEAST: Counts = Counts(1, 1, 1);
     pub const MOST: Counts = Counts(
         Plan::MAX_INPUTS as u16,

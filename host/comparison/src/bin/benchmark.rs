@@ -65,15 +65,6 @@ use mukdalis::{
 
 const SEED: u64 = 0x6265_6e63_686d_6172;
 
-/// The counts of the plans.
-const COUNTS: [Counts; 5] = [
-    Counts(1, 1, 1),
-    Counts(25, 50, 1),
-    Counts(64, 64, 64),
-    Counts(64, 188, 33),
-    Counts(64, 256, 64),
-];
-
 /// The sizes of P.
 const SIZES: [u32; 4] = [64, 128, 256, 512];
 
@@ -91,7 +82,7 @@ const LEAST_BATCHES: usize = if cfg!(test) { 1 } else { 5 };
 fn main() {
     let arrays = arrays();
     let mut random = Random::new(SEED);
-    let plans = COUNTS.map(|counts| Plans::new(&mut random, counts));
+    let plans = Counts::MEASURED.map(|counts| Plans::new(&mut random, counts));
     print_head();
     for call in Call::OF_PLANS {
         for plans in &plans {
@@ -106,13 +97,13 @@ fn main() {
         }
     }
     for call in Call::OF_EDITS {
-        for counts in COUNTS {
+        for counts in Counts::MEASURED {
             let edits = Edits::new(counts, call);
             let line = line(&arrays, call, &edits.size, edits.measure());
             println!("{line}   Rust incremental");
         }
     }
-    let drawings = Drawings::new(&mut random, &plans[COUNTS.len() - 1]);
+    let drawings = Drawings::new(&mut random, &plans[Counts::MEASURED.len() - 1]);
     for call in Call::OF_DRAWINGS {
         let line = line(&arrays, call, &drawings.size, drawings.measure(call));
         println!("{line}");
@@ -127,9 +118,9 @@ fn main() {
         }
     }
     println!();
-    plans[COUNTS.len() - 2].print_loading_beside_run();
+    plans[Counts::MEASURED.len() - 2].print_loading_beside_run();
     drawings.print_beside_plain();
-    plans[COUNTS.len() - 1].print_beside_single_calls();
+    plans[Counts::MEASURED.len() - 1].print_beside_single_calls();
     Edits::print_beside_checks();
 }
 

@@ -25,15 +25,6 @@ use mukdalis::{count_fabric, program_plan, write_fabric, Fault, Plan, Size};
 
 const SEED: u64 = 0x696e_7374_7275_6374;
 
-/// The counts of the plans, as the benchmark has them.
-const COUNTS: [Counts; 5] = [
-    Counts(1, 1, 1),
-    Counts(25, 50, 1),
-    Counts(64, 64, 64),
-    Counts(64, 188, 33),
-    Counts(64, 256, 64),
-];
-
 /// The function whose instructions are counted, as valgrind names it.
 const COUNTED: &str = "*counted_call*";
 
@@ -170,7 +161,7 @@ fn print_table() -> ExitCode {
         "Rattle / tuned"
     );
     for (call_name, call) in Call::ALL {
-        for counts in COUNTS {
+        for counts in Counts::MEASURED {
             let Counts(u, k, v) = counts;
             let size = count_fabric(u.into(), k.into(), v.into());
             let parts = call.parts(size.expect("the counts are in range"));
