@@ -99,6 +99,19 @@ def table():
     return {old: new for old, new in out.items() if new != old}, names, kinds
 
 
+OF_LIBRARY = re.compile(r"(?m)^ *(?:ghost )?(?:unfoldable )?(?:pub )?use ([^\s{;]+)\.\{([^}]*)\}")
+
+
+def kept(text, crates):
+    """The names that a file imports from a library, which keep the library's spelling."""
+    found = set()
+    for path, items in OF_LIBRARY.findall(text):
+        steps = path.split(".")
+        if not (steps[0] == "Rattle" and len(steps) > 1 and steps[1] in crates):
+            found.update(re.findall(WORD, items))
+    return found
+
+
 # A name right after a dot is a field: it turns only where specs/ or proofs/ declare it as one.
 def turned(text, rows, fields):
     def one(m):
@@ -140,6 +153,7 @@ def main():
         text = without_comments(open(f, encoding="utf-8").read())
         for m in re.finditer(rf"(?m)^  +pub ({WORD}) :(?=\s)", text):
             fields.add(m[1])
+    crates = set(os.listdir("crates"))
     if "--show" in sys.argv:
         for old in sorted(rows):
             print(f"{old}\t{rows[old]}\t{kinds.get(old, '')[:60]}")
@@ -147,7 +161,8 @@ def main():
     for f in files():
         with open(f, encoding="utf-8") as it:
             text = it.read()
-        new = turned(text, rows, fields)
+        out = kept(text, crates)
+        new = turned(text, {old: to for old, to in rows.items() if old not in out}, fields)
         if new != text:
             with open(f, "w", encoding="utf-8") as it:
                 it.write(new)

@@ -8,7 +8,7 @@ use native.Mathlib.Decide.{ℕ_discrete}
 use native.Mathlib.Omega.{arith}
 use borrow.Rule.Slice.PartMut.{mid_of, post_of, put_mid}
 use lib.ListN.{length, set, take, drop, replicate, length-drop, length-replicate, drop_of_length-le, take-append-drop, get_or-append}
-use lib.Seq.{set-append_left, get_or-append-add, take_all, length-take_le}
+use lib.Seq.{set-append_left, get_or-append-add, take_all, length-take-le}
 use Rattle.lists.specs.Lists.{list_of}
 use Rattle.lists.proofs.ListsLaws.{length-list_of, list_of-append}
 use Rattle.fault.specs.Buffers.{over}
@@ -143,7 +143,7 @@ pub store_part : (s : List ℕ) (k p : ℕ) (bs : List ℕ) → k ≤ length s
 store_part s k p bs l =
     let rest : mid_of k (length s - k) s ≡ drop k s = take_all (length s - k) (drop k s) (omega (arith, length-drop k s)) in
     let none : post_of k (length s - k) s ≡ [] = drop_of_length-le (drop k s) {i = length s - k} (omega (arith, length-drop k s)) in
-    let front : length (take k s) ≡ k = length-take_le k s l in
+    let front : length (take k s) ≡ k = length-take-le k s l in
     rw (rest, none, append-nil (store_bits (drop k s) p bs))
     (sym (store_bits-behind bs (take k s) (drop k s) p)
     ∙ ap (λ n. store_bits (take k s ++ drop k s) (bits_held n + p) bs) front

@@ -1,5 +1,7 @@
 // Program bits in lent bytes: bit p lies in byte p div 8 at place p mod 8, place 0 lowest, and is read and stored by shift and mask. Every call
 // takes all inputs: what does not fit is not stored.
+#![tactic(auto)]
+
 ghost use Rattle.std.specs.Prelude.{◌≡◌, ◌%◌, ◌<◌, min, length, replicate};
 ghost use Rattle.fault.specs.Buffers.{over};
 ghost use Rattle.block_elements.specs.Bits.{bit_byte, bit_place, bytes_for, bits_held, with_bit, bit_at, set_bit};

@@ -1,4 +1,6 @@
 // Counting blocks: the rows, wires and program bits of P and S, for callers who lend buffers. Every call takes all numbers.
+#![tactic(auto)]
+
 ghost use Rattle.std.specs.Prelude.{◌≡◌};
 ghost use Rattle.elements.specs.Elements.{count_outcome};
 ghost use Rattle.block_counts.specs.BlockCounting.{permutation_counting, selection_counting};

@@ -1,4 +1,6 @@
 // The checks of programming P and S, which look at the sizes, the wanted inputs and the room for the bits. They touch no lent buffer.
+#![tactic(auto)]
+
 mod bits;
 mod permutation;
 mod selection;

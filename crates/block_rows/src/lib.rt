@@ -1,4 +1,6 @@
 // The elements X, Y and G in lent buffers: wires and rows of the table. Every call takes all inputs: what does not fit is not stored.
+#![tactic(auto)]
+
 mod rows;
 mod wires;
 

@@ -5,7 +5,7 @@ use Prim.Native.Nat.{ℕ, ◌+◌, ◌-◌}
 use native.Mathlib.Omega.{arith}
 use borrow.Rule.Slice.PartMut.{mid_of}
 use lib.ListN.{length, get_or, take, drop, length-drop}
-use lib.Seq.{take_at, length-take_le}
+use lib.Seq.{take_at, length-take-le}
 use Rattle.lists.specs.Lists.{list_of}
 use Rattle.lists.proofs.ListsLaws.{list_of_ext, list_of-get_or}
 use Rattle.block_elements.specs.Bits.{bytes_for, bit_at, pack, bit_byte, bit_place}
@@ -23,7 +23,7 @@ pub passes_in_part : {m n : ℕ} {wanted : List ℕ} (program : List ℕ) {start
     → byte ≡ bit_byte start → place ≡ bit_place start → SelectionPasses m n wanted place (length (mid_of byte (length program - byte) program))
 passes_in_part program {byte} P eb ep =
     let size : length (mid_of byte (length program - byte) program) ≡ length program - byte =
-    length-take_le (length program - byte) (drop byte program) (omega (arith, length-drop byte program)) in
+    length-take-le (length program - byte) (drop byte program) (omega (arith, length-drop byte program)) in
     record { sizes = P.sizes; selected = P.selected; fits = rw size (omega (arith, P.fits, eb, ep)) }
 
 -- ---- after success

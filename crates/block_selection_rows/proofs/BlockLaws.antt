@@ -6,7 +6,7 @@ use Prim.Native.Nat.{ℕ, ◌+◌, ◌-◌, ◌*◌, ◌%◌, ◌^◌, ◌≤◌
 use native.Mathlib.Decide.{dec_le}
 use native.Mathlib.Omega.{arith}
 use lib.ListN.{length, take, drop, length-append}
-use lib.Seq.{ext_get_or, get_or-take, length-take_le, take_at}
+use lib.Seq.{ext_get_or, get_or-take, length-take-le, take_at}
 use mir.Syntax.{w64}
 use mir.Val.{Fits}
 use mir.Facts.{Fits-below}
@@ -41,7 +41,7 @@ wire_later {next = next} b small k few = wire_after next k (elim (dec_le 1 k) [ 
 -- the first places of a list that has them
 taken-padded : (N : ℕ) (l : List ℕ) → N ≤ length l → take N l ≡ padded N l
 taken-padded N l h =
-    let long = length-take_le N l h in
+    let long = length-take-le N l h in
     ext_get_or 0 _ _ (long ∙ sym (length-padded N l)) (λ i m. let k : i < N = rw long at m in get_or-take N l i 0 k ∙ sym (get_or-padded N l i k))
 
 -- a buffer after P's call where no check fails
@@ -89,7 +89,7 @@ module _ (N next : ℕ) (p : SelectionParts) (R₀ A₀ T₀ : List ℕ) (room :
   unfolding whole_count whole_wires
   first-network-passes = record {
     size = room.made.size;
-    inputs = length-take_le N A₀ room.from_room;
+    inputs = length-take-le N A₀ room.from_room;
     made = rw taken fed.first-fed;
     wires = λ some. some-made room.made (2 * count) (omega arith) (omega arith);
     row_room = omega (arith, room.row_room);

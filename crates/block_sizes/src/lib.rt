@@ -1,4 +1,6 @@
 // The sizes of blocks: which are allowed, and how many rows, program bits and wires P and S have. Every call takes all numbers.
+#![tactic(auto)]
+
 ghost use Rattle.std.specs.Prelude.{◌≡◌, ◌^◌, ◌≤◌, max};
 ghost use Rattle.fault.specs.Number.{answer_number};
 ghost use Rattle.block_networks.specs.Permutation.{permutation_count};

@@ -1,4 +1,6 @@
 // The checks of writing P and S, in document 01's order. They take all inputs and touch no buffer.
+#![tactic(auto)]
+
 mod permutation;
 mod selection;
 mod wires;

@@ -1,6 +1,8 @@
 // The door of the block library: writing and programming the permutation network P and the selection network S, with what they promise, and the
 // rows, wires and bits that they are made of. It goes to the relay-card maker by itself, with the crates under it. Every call takes all inputs,
 // refuses by document 01's numbers in its order, and on a refusal changes no buffer.
+#![tactic(auto)]
+
 pub use block_bits::{BYTE_BITS, bytes_for, fill_bytes, read_bit, smaller, store_field};
 pub use block_counts::{count_permutation, count_selection};
 pub use block_permutation_bits::{program_permutation, program_permutation_at};

@@ -1,5 +1,7 @@
 // The exports for C and Rust, declared in include/mukdalis.h. Each is thin: it calls a library function and gives its answer as a number,
 // 0 where it was done. A slice is a pointer and a length there. A refusal writes through no pointer.
+#![tactic(auto)]
+
 ghost use Rattle.std.specs.Prelude.{◌≡◌, length};
 ghost use Rattle.elements.specs.Elements.{count_outcome};
 ghost use Rattle.blocks.specs.Calls.{write_fault, selection_write_fault, written_rows, written_outputs, selection_written_rows, selection_written_outputs};

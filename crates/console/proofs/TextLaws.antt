@@ -4,7 +4,7 @@ use mathlib.Core.List.{List, [], ◌∷◌, ◌++◌, append_assoc, append-nil}
 use Prim.Native.Nat.{ℕ, zero, suc, ◌+◌, ◌-◌, ◌≤◌, ◌<◌, min}
 use native.Mathlib.Omega.{arith}
 use lib.ListN.{length, get_or, take, drop, set, length-append, length-take}
-use lib.Seq.{take-suc, take_all, take-append_seam, drop-append-add, drop-drop, drop-length, length-take_le, set_split, append_snoc}
+use lib.Seq.{take-suc, take_all, take-append_seam, drop-append-add, drop-drop, drop-length, length-take-le, set_split, append_snoc}
 use Rattle.fault.specs.Buffers.{over}
 use Rattle.fault.proofs.PartsLaws.{length_over}
 use Rattle.console.specs.Text.{text_with, Puts}
@@ -95,7 +95,7 @@ puts_none {L} {at} e =
 
 pub puts_byte : (L : List ℕ) (at byte : ℕ) → at < length L → Puts L at (byte ∷ []) (set L at byte) (at + 1)
 puts_byte L at byte h =
-    let long : length (take at L ++ (byte ∷ [])) ≡ at + 1 = length-append (take at L) (byte ∷ []) ∙ ap (λ n. n + 1) (length-take_le at L (omega arith)) in
+    let long : length (take at L ++ (byte ∷ [])) ≡ at + 1 = length-append (take at L) (byte ∷ []) ∙ ap (λ n. n + 1) (length-take-le at L (omega arith)) in
     let next : suc at ≡ length (take at L ++ (byte ∷ [])) = omega (arith, long) in
     puts_is (take_all (length L) (take at L ++ (byte ∷ [])) (omega (arith, long)))
     (set_split L at byte h ∙ sym (append_snoc (take at L) byte (drop (suc at) L)) ∙ ap (λ n. take at L ++ (byte ∷ []) ++ drop n L) next)

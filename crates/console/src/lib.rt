@@ -1,5 +1,7 @@
 // What the programs share: standard input, the plan that it holds, and text in a lent buffer. No contract says what standard input gives; what is
 // read from it and what is put into a text are what the contracts say.
+#![tactic(auto)]
+
 mod input;
 mod text;
 

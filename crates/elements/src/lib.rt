@@ -1,5 +1,7 @@
 // What every storey above says of fabrics in common: wires, the kinds of elements, counts of rows, wires and program bits, and of rows by kind.
 // Types and numbers alone; nothing here knows of blocks or plans.
+#![tactic(auto)]
+
 ghost use Rattle.std.specs.Prelude.{◌≡◌, ◌+◌, ◌%◌, ◌^◌};
 ghost use Rattle.elements.specs.Elements.{kind_number};
 

@@ -1,5 +1,7 @@
 // The plan's gates as lists of operands and tables, and the bits of a table. Every call takes all inputs: what the record or a list has no place
 // for is not stored.
+#![tactic(auto)]
+
 mod gates;
 mod wanted;
 

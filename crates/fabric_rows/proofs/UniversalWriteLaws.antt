@@ -6,7 +6,7 @@ use Prim.Native.Nat.{ℕ, suc, ◌+◌, ◌-◌, ◌*◌, ◌≤◌}
 use native.Mathlib.Omega.{arith}
 use borrow.Rule.Slice.PartMut.{mid_len}
 use lib.ListN.{length, get_or, take, drop, length-append, length-drop, drop_of_length-le}
-use lib.Seq.{take_at, drop_at, take-take, get_or-take, get_or-drop, length-take_le, drop-drop}
+use lib.Seq.{take_at, drop_at, take-take, get_or-take, get_or-drop, length-take-le, drop-drop}
 use lib.Pow.{pow_pos}
 use Rattle.lists.specs.Lists.{list_of}
 use Rattle.lists.proofs.ListsLaws.{length-list_of, list_of_ext}
@@ -337,7 +337,7 @@ module _ {gates next : ℕ} {p : UniversalParts} {R₀ P₀ O₀ : List ℕ} (be
             let none : drop (length P₂ - gates) (drop gates P₂) ≡ [] =
             drop_of_length-le (drop gates P₂) {i = length P₂ - gates} (simp length-drop (omega arith)) in
             let lent : drop gates (with_part gates P₂ G₃) ≡ G₃ =
-            drop_at (take gates P₂) _ gates (length-take_le gates P₂ pins-start) ∙ ap (λ (l : List ℕ). G₃ ++ l) none ∙ append-nil G₃ in
+            drop_at (take gates P₂) _ gates (length-take-le gates P₂ pins-start) ∙ ap (λ (l : List ℕ). G₃ ++ l) none ∙ append-nil G₃ in
             sym (behind (with_part gates P₂ G₃))
             ∙ ap (drop gates) lent
             ∙ rw pins at lower.pins

@@ -1,5 +1,7 @@
 // The checks of the series of a contact fabric's runs, in document 02's order: 13, 14, 16, 12, 11. The run is a series of one interval. For any table,
 // program and entries the call says, with proof, which of them is malformed, or that a buffer is too short. It touches no buffer.
+#![tactic(auto)]
+
 ghost use Rattle.std.specs.Prelude.{◌≡◌, ◌≤◌};
 ghost use Rattle.fault.specs.Number.{answer_number};
 ghost use Rattle.fabric_table_checks.specs.Counting.{max_bits};

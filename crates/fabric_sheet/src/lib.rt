@@ -1,5 +1,7 @@
 // The sheet of a fabric, document 02, W3: the rows of each kind in S(u, 2K), in U(K), in S(K, v) and in the whole table. They are counted from
 // the sizes alone; no table is written.
+#![tactic(auto)]
+
 ghost use Rattle.std.specs.Prelude.{◌≡◌};
 ghost use Rattle.elements.specs.Elements.{sheet_outcome};
 ghost use Rattle.fabric_sheet.specs.Sheet.{sheet_of, kind_counting, added_kinds};

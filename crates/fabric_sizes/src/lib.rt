@@ -1,5 +1,7 @@
 // The sizes of fabrics: how many rows, wires and program bits U, the fabric's other parts and the fabric have, how long its table and its program
 // are, and where a table's entries stand. Every call takes all numbers.
+#![tactic(auto)]
+
 mod counting;
 mod layout;
 mod parts;

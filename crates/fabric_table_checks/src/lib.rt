@@ -1,5 +1,7 @@
 // The table of a fabric as a run finds it: where its entries stand, what its rows count, and check 13, which takes any table and touches no
 // buffer.
+#![tactic(auto)]
+
 mod checking;
 mod table;
 

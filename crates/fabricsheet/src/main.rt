@@ -1,4 +1,6 @@
 // Reads a plan on standard input and writes the sheet of its fabric: the rows of each kind in its three parts and in all.
+#![tactic(auto)]
+
 ghost use Rattle.std.specs.Prelude.{◌≡◌, take};
 ghost use Rattle.io.specs.Counts.{IsPrefixLen};
 ghost use Rattle.console.specs.Text.{Puts};

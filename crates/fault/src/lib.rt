@@ -1,6 +1,8 @@
 // The refusals of the contact fabric library: document 01's fourteen words and those that document 02 adds, the place where a file is at
 // fault, and the answer of a call that has nothing to hand back but whether it was done.
 // Every contract above this crate speaks of a refusal through its number.
+#![tactic(auto)]
+
 ghost use Rattle.std.specs.Prelude.{◌≡◌};
 ghost use Rattle.fault.specs.Number.{fault_number, answer_number};
 

@@ -1,5 +1,7 @@
 // Plans: the record in memory, the rules of its parts, and its faults. For any record `plan_fault` says, with proof, whether it is an accepted
 // plan. Nothing here reads files or knows of fabrics.
+#![tactic(auto)]
+
 mod faults;
 mod record;
 mod rules;

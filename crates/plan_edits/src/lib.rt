@@ -1,5 +1,7 @@
 // Edits of a plan: a gate replaced, a gate appended, an output replaced. For any record in memory and whatever an edit brings, the calls say, with proof,
 // which fault there is and give the record back, or give the edited plan with its figures settled.
+#![tactic(auto)]
+
 mod edits;
 mod uncounting;
 

@@ -1,4 +1,6 @@
 // Check 12, of a row of contacts. It takes any row and touches no buffer.
+#![tactic(auto)]
+
 ghost use Rattle.std.specs.Prelude.{◌≡◌};
 ghost use Rattle.fault.specs.Number.{answer_number};
 ghost use Rattle.plan_evaluation_checks.specs.EvaluationChecks.{contact_fault};

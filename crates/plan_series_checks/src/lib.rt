@@ -1,5 +1,7 @@
 // The checks of a series of intervals, in document 02's order: plan faults, 16, 12, 11; those from 16 on by themselves, for the fabric's series too.
 // They take any record, hold count, number of intervals and entries, and touch no buffer.
+#![tactic(auto)]
+
 ghost use Rattle.std.specs.Prelude.{◌≡◌, ◌≤◌};
 ghost use Rattle.fault.specs.Number.{answer_number};
 ghost use Rattle.plan_series_checks.specs.SeriesChecks.{max_intervals, hold_fault, series_contact_fault, series_room_fault, series_fault, plan_series_fault};

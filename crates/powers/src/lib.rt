@@ -1,5 +1,7 @@
 // Powers of two and their logarithms, from the count of leading zeros.
 // Each is proved equal to its definition, the first power of two that is not below the number, for every number.
+#![tactic(auto)]
+
 ghost use Rattle.std.specs.Prelude.{◌≡◌};
 ghost use Rattle.powers.specs.Powers.{ceil_log, ceil_power};
 

@@ -6,7 +6,7 @@ use native.Mathlib.Numerals.{add-one}
 use native.Mathlib.Omega.{arith}
 use native.Mathlib.Decide.{dec_le}
 use lib.ListN.{length, get_or, take, drop, set, length-append, length-drop, take-append-drop}
-use lib.Seq.{sets, sets-eq, set_out, length-sets, take-suc, take_at, take-length, length-take_le, drop-append-le, drop-append-add}
+use lib.Seq.{sets, sets-eq, set_out, length-sets, take-suc, take_at, take-length, length-take-le, drop-append-le, drop-append-add}
 use Rattle.lists.specs.Lists.{list_of}
 use Rattle.lists.proofs.ListsLaws.{sets_append, length-list_of}
 use Rattle.fault.specs.Buffers.{over}
@@ -31,7 +31,7 @@ module _ {A : Type 0} where
   -- one entry more
   pub sets_more : (from to : List A) (at i : ℕ) (d : A) → i < length from → set (sets to at (take i from)) (at + i) (get_or from i d) ≡ sets to at (take (i + 1) from)
   sets_more from to at i d h =
-      let l = length-take_le i from (omega arith) in
+      let l = length-take-le i from (omega arith) in
       sym (ap (λ n. sets to at (take n from)) (add-one i)
       ∙ ap (sets to at) (take-suc from i d h)
       ∙ sets_append (take i from) (get_or from i d ∷ []) to at
@@ -55,7 +55,7 @@ module _ {A : Type 0} where
   sets_room from to at n e = elim (dec_le (length from) n) [
     | yes y ↦ let whole : n ≡ length from = omega arith in rw (whole, take-length from)
     | no m ↦
-        let l = length-take_le n from (omega arith) in
+        let l = length-take-le n from (omega arith) in
         let all = length-sets to at (take n from) in
         sym (ap (sets to at) (sym (take-append-drop n from)) ∙ sets_append (take n from) (drop n from) to at
         ∙ sets_past (drop n from) (sets to at (take n from)) _ (omega arith))
@@ -66,7 +66,7 @@ module _ {A : Type 0} where
   last_stored l out at h v size held room =
       let front = take at l in
       let past = drop (at + length out) l in
-      let begin = length-take_le at l (omega arith) in
+      let begin = length-take-le at l (omega arith) in
       let place : at + v - h ≡ length front + (length out - h) = omega arith in
       let all = length-drop (length out - h) out in
       ap (λ b. take h (drop (at + v - h) b)) (sets-eq out l at (omega arith) ∙ append_assoc front out past)

@@ -7,7 +7,7 @@ use native.Mathlib.Numerals.{add-one}
 use native.Mathlib.Omega.{arith}
 use native.Mathlib.Decide.{dec_lt}
 use lib.ListN.{length, get_or, take, drop, length-append, length-take, length-drop, drop_of_length-le, get_or-append, get_or-eq_default}
-use lib.Seq.{sets, take-append-le, drop-append-le, drop-append-add, take_all, take_at, drop_at, get_or-append-add, get_or-take, get_or-drop, length-take_le}
+use lib.Seq.{sets, take-append-le, drop-append-le, drop-append-add, take_all, take_at, drop_at, get_or-append-add, get_or-take, get_or-drop, length-take-le}
 use Rattle.fault.specs.Buffers.{over}
 use Rattle.fault.proofs.PartsLaws.{length_over, over-again}
 use Rattle.series.specs.Series.{last_of, fresh_row, state_after, interval_row, series_rows, of_last}
@@ -127,7 +127,7 @@ contacts-append {m} {n} {a} {b} ca cb = record { size = omega (arith, length-app
 -- k entries of a row from a place on
 pub contacts-part : {m : ℕ} {row : List ℕ} (at k : ℕ) → Contacts m row → at + k ≤ m → Contacts k (take k (drop at row))
 contacts-part {m} {row} at k c l = record {
-  size = length-take_le k (drop at row) (omega (arith, length-drop at row));
+  size = length-take-le k (drop at row) (omega (arith, length-drop at row));
   bit = λ i. go i (dec_lt i k);
 }
   where

@@ -1,5 +1,7 @@
 // Reads a plan on standard input and writes its counts, then a line for each input row: the inputs, the plan's outputs and the fabric's.
 // Input and output alone are here; every answer is the library's.
+#![tactic(auto)]
+
 ghost use Rattle.std.specs.Prelude.{◌≡◌, take};
 ghost use Rattle.console.specs.Text.{Puts};
 ghost use Rattle.twintest.specs.CountsLine.{counts_line};

@@ -8,32 +8,28 @@ use Rattle.block_bits.proofs.FieldLaws.{field_stored, field-last}
 use Rattle.block_bits.proofs.fields.store_field.Statement.{statement}
 use Rattle.block_bits.proofs.fields.store_field.Tie as tie
 
-two : tie.Need-returns
+two : tie.Need-returns-then-byte-program
 two c =
     let sized = c.before.before.before.before in
     let placed = sized.before in
     let found = placed.before in
     let a = found.before.before.args in
-    field_stored a.program.now a.start a.count a.x (record { each = λ i. (found.before.slice-known.given i).fits })
-    found.bit_byte.ensures placed.bit-place.ensures sized.smaller.ensures (omega arith) c.with-field.ensures.0
+    field_stored a.program.now a.start a.count a.x (record { each = λ i. (found.before.slice_known-1.given i).fits })
+    found.bit_byte-byte.ensures placed.bit_place-place.ensures sized.smaller-n.ensures (omega arith) c.with_field-new.ensures.0
 
-last : tie.Need-returns-2
+last : tie.Need-returns-then-byte-program-2
 last c =
     let sized = c.before.before.before.before in
     let placed = sized.before in
     let found = placed.before in
     let a = found.before.before.args in
-    field-last a.program.now a.start a.count a.x (record { each = λ i. (found.before.slice-known.given i).fits })
-    found.bit_byte.ensures placed.bit-place.ensures sized.smaller.ensures (omega arith) (omega arith) c.with-field2.ensures.0
+    field-last a.program.now a.start a.count a.x (record { each = λ i. (found.before.slice_known-1.given i).fits })
+    found.bit_byte-byte.ensures placed.bit_place-place.ensures sized.smaller-n.ensures (omega arith) (omega arith) c.with_field-new-then-byte-program-2.ensures.0
 
-past : tie.Need-returns-3
+past : tie.Need-returns-else-byte-program-2
 past c = sym (store_bits-past (field_bits _ _) _ _ (omega arith))
 
 pub store_field_spec : {M : Type 1} → statement M
 store_field_spec =
     tie.close
-    (tie.spec
-    (λ c κs. search rules) (λ c κs. search rules) (λ c. search rules) (λ c κs. search rules) (λ c. search rules) (λ c. search rules)
-    (λ c. search rules) (λ c. search rules) (λ c. search rules) (λ c κs. search rules) (λ c. search rules) (λ c. search rules)
-    (λ c. search rules) (λ c. search rules) (λ c. search rules) (λ c. search rules) (λ c κs. search rules) (λ c. search rules)
-    (λ c. search rules) (λ c. search rules) two (λ c. search rules) last past)
+    (tie.spec (λ c κs. search rules) (λ c κs. search rules) (λ c. search rules) (λ c κs. search rules) (λ c. search rules) (λ c. search rules) (λ c. search rules) (λ c. search rules) (λ c. search rules) (λ c κs. search rules) (λ c. search rules) (λ c. search rules) (λ c. search rules) (λ c. search rules) (λ c. search rules) (λ c. search rules) (λ c κs. search rules) (λ c. search rules) (λ c. search rules) (λ c. search rules) two (λ c. search rules) last past)

@@ -8,13 +8,13 @@ use Rattle.block_bits.proofs.FieldLaws.{ones_positive, field_out, field_in, fiel
 use Rattle.block_bits.proofs.fields.with_field.Statement.{statement}
 use Rattle.block_bits.proofs.fields.with_field.Tie as tie
 
-some : tie.Need-overflow-sub-mask
+some : tie.Need-overflow_sub-mask
 some c = let a = c.args in ones_positive a.place a.n (omega arith)
 
-out : tie.Need-overflow-sub-result
+out : tie.Need-overflow_sub-result
 out c = let a = c.args in field_out a.place a.n (omega arith) a.x (a.low + 256 * a.high)
 
-put_in : tie.Need-overflow-add-result
+put_in : tie.Need-overflow_add-result
 put_in c =
     let a = c.args in
     let old : a.low + 256 * a.high < 2 ^ 16 = omega (arith, c.ranges.low.fits, c.ranges.high.fits) in
@@ -29,14 +29,4 @@ put c =
 pub with_field_spec : {M : Type 1} → statement M
 with_field_spec =
     tie.close
-    (tie.spec
-    (λ c. search rules)
-    (λ c. search rules)
-    (λ c. search rules)
-    some
-    (λ c. search rules)
-    (λ c. search rules)
-    out
-    (λ c. search rules)
-    put_in
-    put)
+    (tie.spec (λ c. search rules) (λ c. search rules) (λ c. search rules) some (λ c. search rules) (λ c. search rules) out (λ c. search rules) put_in put)

@@ -12,13 +12,9 @@ unfolding number_of
 made c =
     let a = c.before.before.before.before.before.before.before.before.before.before.before.args in
     let first = ap (low_bit a.bits.now) (add-zero a.at) in
-    omega (arith, first, c.before.before.before.before.before.four-bits.ensures, c.four-bits2.ensures)
+    omega (arith, first, c.before.before.before.before.before.four_bits-lower.ensures, c.four_bits-upper.ensures)
 
 pub byte_from_spec : {M : Type 1} → statement M
 byte_from_spec =
     tie.close
-    (tie.spec
-    (λ c. search rules) (λ c. search rules) (λ c. search rules) (λ c. search rules) (λ c. search rules) (λ c. search rules)
-    (λ c. search rules) (λ c κs. search rules) (λ c. search rules) (λ c. search rules) (λ c. search rules) (λ c. search rules)
-    (λ c. search rules) (λ c. search rules) (λ c. search rules) (λ c. search rules) (λ c κs. search rules) (λ c. search rules)
-    (λ c. search rules) (λ c. search rules) made)
+    (tie.spec (λ c. search rules) (λ c. search rules) (λ c. search rules) (λ c. search rules) (λ c. search rules) (λ c. search rules) (λ c. search rules) (λ c κs. search rules) (λ c. search rules) (λ c. search rules) (λ c. search rules) (λ c. search rules) (λ c. search rules) (λ c. search rules) (λ c. search rules) (λ c. search rules) (λ c κs. search rules) (λ c. search rules) (λ c. search rules) (λ c. search rules) made)

@@ -14,29 +14,29 @@ use Rattle.block_bits.proofs.packing.number_of.Statement.{statement}
 use Rattle.block_bits.proofs.packing.number_of.Tie as tie
 
 -- the bits' number is a byte
-module _ (c : tie.After-four-bits2) where
+module _ (c : tie.After-four_bits-last) where
   small : let n = length c.before.before.before.before.before.before.before.before.before.before.before.before.args.bits.now in
-      c.before.before.before.before.before.four-bits.result + 16 * (c.four-bits2.result / 2 ^ (8 - n)) ≤ 255
+      c.before.before.before.before.before.four_bits-first.result + 16 * (c.four_bits-last.result / 2 ^ (8 - n)) ≤ 255
   small =
       let n = length c.before.before.before.before.before.before.before.before.before.before.before.before.args.bits.now in
-      omega (arith, c.before.before.before.before.before.four-bits.ensures, c.four-bits2.ensures, shr_le c.four-bits2.result (8 - n))
+      omega (arith, c.before.before.before.before.before.four_bits-first.ensures, c.four_bits-last.ensures, shr_le c.four_bits-last.result (8 - n))
 
-shifted : tie.Need-overflow-mul-result
+shifted : tie.Need-overflow_mul-result
 shifted c = Fits-below {n = 255} tt (omega (arith, small c))
 
-joins : tie.Need-overflow-add-result
+joins : tie.Need-overflow_add-result
 joins c = Fits-below {n = 255} tt (small c)
 
-fits : tie.Need-overflow-cast-result-3
+fits : tie.Need-overflow_cast-result-3
 fits c = Fits-below {n = 255} tt (small c)
 
-made : tie.Need-returns-2
+made : tie.Need-returns
 unfolding number_of
 made c =
     let l = c.before.before.before.before.before.before.before.before.before.before.before.before.args.bits.now in
     let n = length l in
-    let first = c.before.before.before.before.before.four-bits in
-    let last = c.four-bits2 in
+    let first = c.before.before.before.before.before.four_bits-first in
+    let last = c.four_bits-last in
     let at = ap (low_bit l) (add-zero (n - 4)) in
     let low : first.result ≡ number_of (low_bit l) 4 = omega (arith, first.ensures) in
     let high : last.result ≡ number_of (λ j. low_bit l (n - 4 + j)) 4 = omega (arith, at, last.ensures) in
@@ -45,8 +45,4 @@ made c =
 pub number_of_spec : {M : Type 1} → statement M
 number_of_spec =
     tie.close
-    (tie.spec
-    (λ c κs. search rules) (λ c. search rules) (λ c. search rules) (λ c. search rules) (λ c. search rules) (λ c. search rules)
-    (λ c κs. search rules) (λ c. search rules) (λ c. search rules) (λ c. search rules) (λ c. search rules) (λ c. search rules)
-    (λ c. search rules) (λ c. search rules) (λ c κs. search rules) (λ c. search rules) (λ c. search rules) (λ c. search rules)
-    (λ c. search rules) shifted joins fits made)
+    (tie.spec (λ c κs. search rules) (λ c. search rules) (λ c. search rules) (λ c. search rules) (λ c. search rules) (λ c. search rules) (λ c κs. search rules) (λ c. search rules) (λ c. search rules) (λ c. search rules) (λ c. search rules) (λ c. search rules) (λ c. search rules) (λ c. search rules) (λ c κs. search rules) (λ c. search rules) (λ c. search rules) (λ c. search rules) (λ c. search rules) shifted joins fits made)

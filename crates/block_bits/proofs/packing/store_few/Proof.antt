@@ -11,7 +11,7 @@ stored : tie.Need-returns
 stored c =
     let a = c.before.before.before.before.before.before.before.args in
     let e = few_packed a.bits.now _ (omega arith) c.before.before.before.number_of.ensures in
-    c.before.before.store-field.ensures ∙ ap (store_bits a.program.now a.start) e
+    c.before.before.store_field.ensures ∙ ap (store_bits a.program.now a.start) e
 
 pub store_few_spec : {M : Type 1} → statement M
 store_few_spec = tie.close (tie.spec (λ c κs. search rules) (λ c. search rules) (λ c κs. search rules) (λ c. search rules) stored)

@@ -14,14 +14,11 @@ both c =
     let first = c.before.before.before.before.before.before.before in
     let a = first.before.before.before.before.before.args in
     let room = bits_held 1 - a.place in
-    let e = first-bits a.bits.now room (omega arith) first.before.byte-from.ensures in
-    let stored = first.store-field.ensures ∙ ap (store_bits a.program.now a.place) e in
-    store_parts a.program.now a.bits.now a.place room (omega arith) 1 (omega arith) (omega arith) stored c.before.before.store_Bytes.ensures
+    let e = first-bits a.bits.now room (omega arith) first.before.byte_from.ensures in
+    let stored = first.store_field.ensures ∙ ap (store_bits a.program.now a.place) e in
+    store_parts a.program.now a.bits.now a.place room (omega arith) 1 (omega arith) (omega arith) stored c.before.before.store_bytes.ensures
 
 pub store_many_spec : {M : Type 1} → statement M
 store_many_spec =
     tie.close
-    (tie.spec
-    (λ c. search rules) (λ c κs. search rules) (λ c. search rules) (λ c κs. search rules) (λ c. search rules) (λ c. search rules)
-    (λ c. search rules) (λ c. search rules) (λ c. search rules) (λ c. search rules) (λ c κs. search rules) (λ c. search rules)
-    both)
+    (tie.spec (λ c. search rules) (λ c κs. search rules) (λ c. search rules) (λ c κs. search rules) (λ c. search rules) (λ c. search rules) (λ c. search rules) (λ c. search rules) (λ c. search rules) (λ c. search rules) (λ c κs. search rules) (λ c. search rules) both)

@@ -4,7 +4,7 @@ use Prim.Native.Nat.{◌/◌}
 use native.Mathlib.Omega.{arith}
 use borrow.Author.Rules.{rules}
 use lib.ListN.{length}
-use lib.Seq.{length-take_le}
+use lib.Seq.{length-take-le}
 use Rattle.block_loops.proofs.MappingsLaws.{bits-take, rows-bits, levelled}
 use Rattle.block_permutation_bits.proofs.level.program_level.Statement.{statement}
 use Rattle.block_permutation_bits.proofs.level.program_level.Tie as tie
@@ -24,7 +24,7 @@ module _ (c : tie.After-find-sides) where
 front-size : tie.Need-slice-aggregate-half-maps
 front-size c =
     let at = sides c.before.before.before in
-    sym (length-take_le _ _ (omega (arith, marks at)))
+    sym (length-take-le _ _ (omega (arith, marks at)))
 
 for_halves : tie.Need-half-maps-requires
 for_halves c κs =
@@ -32,7 +32,7 @@ for_halves c κs =
     let s = start at in
     let room = s.pre.1.0 in
     let n = length s.args.mark.now / 2 in
-    let size = length-take_le n at.find-sides.last.1.1.0 (omega (arith, marks at)) in (
+    let size = length-take-le n at.find-sides.last.1.1.0 (omega (arith, marks at)) in (
       rw at.find-sides.ensures (bits-take n (rows-bits s.pre.0 room.even)),
       record {
         even = room.even;

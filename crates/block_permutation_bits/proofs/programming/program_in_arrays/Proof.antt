@@ -4,7 +4,7 @@ use mathlib.Core.Path.{sym, ap, ◌∙◌}
 use Prim.Native.Nat.{◌^◌}
 use native.Mathlib.Omega.{arith}
 use borrow.Author.Rules.{rules}
-use lib.Seq.{length-take_le}
+use lib.Seq.{length-take-le}
 use Rattle.block_sizes.specs.Sizes.{level_of}
 use Rattle.block_program_checks.proofs.ChecksLaws.{few_bits_lem}
 use Rattle.block_permutation_bits.proofs.ProgramLaws.{front-perm, front-stored}
@@ -33,17 +33,17 @@ perm-part c =
     let load = loaded c.before in
     let s = start load in
     let kept = load.load-mapping.kept.1.0 in
-    sym (length-take_le s.args.n load.load-mapping.last.1.0 (omega arith))
+    sym (length-take-le s.args.n load.load-mapping.last.1.0 (omega arith))
 
 scratch_part : tie.Need-slice-aggregate-program-block-2
 scratch_part c =
     let s = start (loaded c.before.before) in
-    sym (length-take_le s.args.n s.args.scratch.now s.pre.1.0.1)
+    sym (length-take-le s.args.n s.args.scratch.now s.pre.1.0.1)
 
 mark_part : tie.Need-slice-aggregate-program-block-3
 mark_part c =
     let s = start (loaded c.before.before.before) in
-    sym (length-take_le s.args.n s.args.mark.now s.pre.1.0.2)
+    sym (length-take-le s.args.n s.args.mark.now s.pre.1.0.2)
 
 for_block : tie.Need-program-block-requires
 for_block c κs =
@@ -55,14 +55,14 @@ for_block c κs =
     let kept = load.kept.1.0 in
     let e = c.level-of.ensures in
     let place = c.before.bit-place.ensures in
-    let lp = length-take_le n load.last.1.0 (omega arith) in (
+    let lp = length-take-le n load.last.1.0 (omega arith) in (
       front-perm s.args.perm.now s.pre.0.1 load.ensures,
       (
         record {
           size = lp ∙ sym size.power ∙ ap (λ k. 2 ^ k) (sym e);
           few = rw e size.level;
-          scratch_size = length-take_le n s.args.scratch.now s.pre.1.0.1 ∙ sym lp;
-          marks_size = length-take_le n s.args.mark.now s.pre.1.0.2 ∙ sym lp;
+          scratch_size = length-take-le n s.args.scratch.now s.pre.1.0.1 ∙ sym lp;
+          marks_size = length-take-le n s.args.mark.now s.pre.1.0.2 ∙ sym lp;
         },
         rw e (omega (arith, few_bits_lem size)),
       ),

@@ -3,7 +3,7 @@ use mathlib.Core.Path.{sym, ap, subst, ◌∙◌}
 use native.Mathlib.Omega.{arith}
 use borrow.Author.Rules.{rules}
 use lib.ListN.{length}
-use lib.Seq.{length-take_le}
+use lib.Seq.{length-take-le}
 use Rattle.lists.proofs.ListsLaws.{length-list_of}
 use Rattle.block_networks.specs.Wanted.{mapping}
 use Rattle.block_networks.proofs.Heads.{first-perm}
@@ -39,7 +39,7 @@ part : tie.Need-slice-aggregate-store-first
 part c =
     let placed = found_at c.before in
     let enough = (arrays (sized placed)).list_places.enough in
-    sym (length-take_le (sized placed).selection-positions.result _ (rw placed.find-positions.kept.1.1.1.1.0 enough))
+    sym (length-take-le (sized placed).selection-positions.result _ (rw placed.find-positions.kept.1.1.1.1.0 enough))
 
 for_first : tie.Need-store-first-requires
 for_first c κs =

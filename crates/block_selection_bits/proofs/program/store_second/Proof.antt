@@ -4,7 +4,7 @@ use mathlib.Core.Path.{sym, ap, ◌∙◌}
 use native.Mathlib.Omega.{arith}
 use borrow.Author.Rules.{rules}
 use lib.ListN.{length}
-use lib.Seq.{length-take_le}
+use lib.Seq.{length-take-le}
 use Rattle.block_elements.specs.Bits.{store_bits}
 use Rattle.block_networks.specs.Permutation.{Perm}
 use Rattle.block_networks.specs.Wanted.{mapping, taker_of}
@@ -33,7 +33,7 @@ part c =
     let copied = c.before.before.before.before.before in
     let copies = copied.list-copies in
     let s = start copied in
-    sym (length-take_le s.args.size copies.new.1.1.1.0 (omega (arith, copies.auto.1.1.1.0, s.pre.1.0.1)))
+    sym (length-take-le s.args.size copies.new.1.1.1.0 (omega (arith, copies.auto.1.1.1.0, s.pre.1.0.1)))
 
 -- the positions are one to one
 perm : (s : tie.Start) → let wanted = s.args.wanted.now in

@@ -4,7 +4,7 @@ use mathlib.Core.Path.{refl, sym}
 use Prim.Native.Nat.{◌≤◌}
 use lib.ListN.{length}
 use borrow.Author.Rules.{rules}
-use lib.Seq.{length-take_le}
+use lib.Seq.{length-take-le}
 use Rattle.block_networks.specs.Selection.{selection_level}
 use Rattle.block_networks.proofs.SelectionLaws.{selection-outputs-fit}
 use Rattle.block_sizes.proofs.SizesLaws.{power_small, selection-level-small}
@@ -48,7 +48,7 @@ front c = enough c.before.before.before.before.before.before
 outputs-part : tie.Need-slice-aggregate-copy-wires
 outputs-part c =
     let block = c.before.before.before.before.before.before.before in
-    sym (length-take_le (start (sized (copied block.before))).args.n block.write-block.new.1.1.1.1.0 (enough block))
+    sym (length-take-le (start (sized (copied block.before))).args.n block.write-block.new.1.1.1.1.0 (enough block))
 
 written : tie.Need-returns
 written c =

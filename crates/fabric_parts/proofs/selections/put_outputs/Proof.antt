@@ -3,7 +3,7 @@
 use native.Mathlib.Omega.{arith}
 use mathlib.Core.Path.{sym}
 use borrow.Author.Rules.{rules}
-use lib.Seq.{length-take_le}
+use lib.Seq.{length-take-le}
 use Rattle.fabric_parts.proofs.PutLaws.{outputs-kept, outputs-copied}
 use Rattle.fabric_parts.proofs.selections.put_outputs.Statement.{statement}
 use Rattle.fabric_parts.proofs.selections.put_outputs.Tie as tie
@@ -20,7 +20,7 @@ wires-part c =
     let count = c.before.before in
     let done = asked count.before.before.before in
     let all = done.write-selection-on.kept.1.1.1.1.1.0 in
-    sym (length-take_le count.smaller.result done.write-selection-on.last.1.1.1.1.1.0 (omega (arith, count.smaller.ensures)))
+    sym (length-take-le count.smaller.result done.write-selection-on.last.1.1.1.1.1.0 (omega (arith, count.smaller.ensures)))
 
 refused : tie.Need-returns
 refused c =

@@ -2,7 +2,7 @@
 use native.Mathlib.Omega.{arith}
 use mathlib.Core.Path.{sym}
 use borrow.Author.Rules.{rules}
-use lib.Seq.{length-take_le}
+use lib.Seq.{length-take-le}
 use Rattle.fabric_parts.proofs.PutLaws.{selection-on}
 use Rattle.fabric_parts.proofs.selections.write_selection_on.Statement.{statement}
 use Rattle.fabric_parts.proofs.selections.write_selection_on.Tie as tie
@@ -10,7 +10,7 @@ use Rattle.fabric_parts.proofs.selections.write_selection_on.Tie as tie
 wires-part : tie.Need-slice-aggregate-write-selection
 wires-part c =
     let first = c.before in
-    sym (length-take_le first.smaller.result first.before.before.before.before.args.from.now (omega arith))
+    sym (length-take-le first.smaller.result first.before.before.before.before.args.from.now (omega arith))
 
 written : tie.Need-returns
 written c =

@@ -5,7 +5,7 @@ use mathlib.Core.List.{List, ◌++◌}
 use Prim.Native.Nat.{ℕ, ◌+◌, ◌-◌}
 use borrow.Author.Rules.{rules}
 use lib.ListN.{take, drop}
-use lib.Seq.{sets, length-take_le}
+use lib.Seq.{sets, length-take-le}
 use Rattle.series.proofs.CopyingLaws.{last_stored}
 use Rattle.fabric_sizes.specs.Layout.{outputs_in}
 use Rattle.fabric_run.specs.Running.{run_outputs}
@@ -97,5 +97,5 @@ run_interval_spec =
     tie.close
     (tie.spec
     (λ c. c.before.before.before.before.before.before.requires.state)
-    (λ c. let s = c.before.before.before.before.before.before.before in sym (length-take_le s.args.hold s.args.end.now s.requires.state)) for_rows for_outputs count-read (λ c κs. search rules) past_fits held-before
+    (λ c. let s = c.before.before.before.before.before.before.before in sym (length-take-le s.args.hold s.args.end.now s.requires.state)) for_rows for_outputs count-read (λ c κs. search rules) past_fits held-before
     (λ c κs. search rules) work-long results_long end_long done)

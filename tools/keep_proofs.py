@@ -1,0 +1,212 @@
+#!/usr/bin/env python3
+"""Gives the goals, steps and clauses that a proof by hand (Proof.antt) names the names that today's Rattle makes.
+
+usage: python3 tools/keep_proofs.py DIR CRATE [FUNCTION..]
+
+DIR holds what `rt check --generated DIR --old-names` and then `rt check --generated DIR` write in the crate's folder. A function is named by its folder below proofs/, as level/invert.
+Each Proof.antt is taken as it stands: run it once on a file.
+"""
+
+import glob
+import json
+import os
+import re
+import sys
+
+# what stands right behind these is a variable of the source
+VALUES = ("args", "new", "ranges", "initial", "fn", "auto", "type_inv")
+WORD = r"[^\s(){}.;,@\"«»\[\]`]+"
+norm = lambda it: re.sub(r"^(Need-)?overflow-", r"\1", it.replace("_", "-")).lower()
+
+
+def split_args(text):
+    out, depth, now = [], 0, ""
+    for ch in text:
+        if ch in "([{":
+            depth += 1
+        if ch in ")]}":
+            depth -= 1
+            if depth < 0:
+                break
+        if ch.isspace() and depth == 0:
+            if now:
+                out.append(now)
+            now = ""
+        else:
+            now += ch
+    if now:
+        out.append(now)
+    return out
+
+
+def align(args, kinds, needs):
+    """Pairs arguments of the old spec with today's needs: a list, for each need, of an argument or None."""
+    n, m = len(args), len(needs)
+    INF = 10**9
+    best = [[INF] * (m + 1) for _ in range(n + 1)]
+    how = [[None] * (m + 1) for _ in range(n + 1)]
+    best[0][0] = 0
+    for i in range(n + 1):
+        for j in range(m + 1):
+            b = best[i][j]
+            if b >= INF:
+                continue
+            if i < n:
+                cost = 4
+                if kinds[i] in ("same-length",) or (kinds[i] or "").startswith(("shape-", "same-")):
+                    cost = 1
+                elif kinds[i] is None and i and kinds[i - 1] and kinds[i - 1].endswith("preserved"):
+                    cost = 2
+                elif kinds[i] is None and "search rules" in args[i]:
+                    cost = 3
+                if b + cost < best[i + 1][j]:
+                    best[i + 1][j], how[i + 1][j] = b + cost, "drop"
+            if j < m and b + 5 < best[i][j + 1]:
+                best[i][j + 1], how[i][j + 1] = b + 5, "new"
+            if i < n and j < m:
+                if kinds[i] is None:
+                    cost = 0.5 if (" κs." in args[i]) != needs[j].endswith("requires") and not re.search(r"requires-\d+$", needs[j]) else 0
+                else:
+                    cost = 0 if kinds[i] == needs[j] else (2 if kinds[i].split("-")[0] == needs[j].split("-")[0] else 6)
+                if b + cost < best[i + 1][j + 1]:
+                    best[i + 1][j + 1], how[i + 1][j + 1] = b + cost, "pair"
+    out, i, j = [None] * m, n, m
+    dropped = []
+    while i or j:
+        h = how[i][j]
+        if h == "pair":
+            i, j = i - 1, j - 1
+            out[j] = i
+        elif h == "drop":
+            i -= 1
+            dropped.append(i)
+        else:
+            j -= 1
+    return out, dropped
+
+
+def convert(text, entry, asked, where):
+    # steps: the old field, its new name, its callee
+    fields = {}
+    for name, parent, pair, callee, subs in entry["places"]:
+        if pair[0]:
+            fields[norm(pair[0])] = (pair[1], callee, {norm(a): b for a, b in subs})
+    places = {norm(old[0]): new for old, new in zip(entry["places"], entry["places_by_name"])}
+    loops = {norm(pair[0]): pair[1] for pair, _ in entry["loops"]}
+
+    head, _, tail = text.rpartition("tie.spec")
+    args = split_args(tail)
+    typed = dict(re.findall(rf"(?m)^({WORD}) : tie\.Need-({WORD})", text))
+    typed.update(re.findall(rf"(?m)^  +({WORD}) : tie\.Need-({WORD})", text))
+    n_loops = 0
+    while n_loops < len(args) and re.search(rf"(?m)^abbrev {re.escape(args[n_loops])} : tie\.(invariant|decreases)", text):
+        n_loops += 1
+    # today's name of a need to its old one
+    older = {b: a for a, b in entry["needs"]}
+    needs = [norm(older.get(a, "same-length" if a.startswith("shape_of") else a)) for a in asked]
+    kinds = [norm(typed[a]) if a in typed else None for a in args[n_loops:]]
+    paired, dropped = align(args[n_loops:], kinds, needs)
+    need_names = {}
+    for j, i in enumerate(paired):
+        if i is not None and args[n_loops + i] in typed:
+            need_names[args[n_loops + i]] = asked[j]
+    for i in dropped:
+        print(f"{where}: dropped {args[n_loops + i][:80]} : {kinds[i]}")
+    for j, i in enumerate(paired):
+        if i is None:
+            print(f"{where}: new goal {asked[j]}")
+    spec = args[:n_loops]
+    for j, i in enumerate(paired):
+        if i is None:
+            k = "λ c κs. search rules" if asked[j].find("-requires") > 0 else "λ c. search rules"
+            spec.append(f"({k})")
+        else:
+            spec.append(args[n_loops + i])
+    gone = {args[n_loops + i] for i in dropped if args[n_loops + i] in typed}
+    rest = tail[:0]
+    # what stands behind the arguments
+    depth = 1
+    at = 0
+    for at, ch in enumerate(tail):
+        depth += {"(": 1, ")": -1}.get(ch, 0)
+        if not depth:
+            break
+    text = head + "tie.spec " + " ".join(spec) + tail[at:]
+
+    # dropped declarations go
+    for g in gone:
+        text = re.sub(rf"(?m)^{re.escape(g)} : tie\.Need.*\n(?:.+\n)*?(?=\n|\Z)\n?", "", text)
+
+    # types of tie
+    def of_tie(m):
+        name = m[1]
+        if name.startswith("Need-"):
+            return m[0]
+        for word in ("invariant", "decreases"):
+            if name.startswith(word + "-"):
+                return f"tie.{word}-" + loops.get(norm(name[len(word) + 1:]), name[len(word) + 1:])
+        return "tie." + places.get(norm(name), name)
+
+    text = re.sub(rf"tie\.({WORD})", of_tie, text)
+    for a, new in need_names.items():
+        text = re.sub(rf"(?m)^( *){re.escape(a)} : tie\.Need-{WORD}", rf"\1{a} : tie.Need-{new}", text)
+    # names that a let gives to the arguments
+    given = set(re.findall(rf"let ({WORD}) = (?:(?! in )[^\n])*?\.(?:args|new) in", text))
+
+    def path(m):
+        steps = m[0][1:].split(".")
+        before = re.search(r"[\w'₀-₉]*$", m.string[:m.start()])[0]
+        out, i, callee, subs = [], 0, None, {}
+        while i < len(steps):
+            s = steps[i]
+            n = norm(s)
+            if n in fields and not (i and steps[i - 1] in VALUES) and not (i == 0 and before in given):
+                new, callee, subs = fields[n]
+                out.append(new)
+                i += 1
+                continue
+            if n in subs:
+                out.append(subs[n])
+                i += 1
+                continue
+            if s == "pre":
+                out.append("requires")
+                i += 1
+                continue
+            if s == "inv":
+                out.append("invariant")
+                i += 1
+                continue
+            out.append(s)
+            i += 1
+        return "." + ".".join(out)
+
+    out = []
+    for line in text.split("\n"):
+        if line.startswith(("use ", "unfoldable use", "--")):
+            out.append(line)
+        else:
+            out.append(re.sub(rf"(?<=[\w)₀-₉'])(?:\.(?!\s){WORD})+", path, line))
+    return "\n".join(out)
+
+
+def main():
+    names, crate, only = json.load(open(os.path.join(sys.argv[1], "names.json"))), sys.argv[2], sys.argv[3:]
+    for f in sorted(glob.glob(f"crates/{crate}/proofs/**/Proof.antt", recursive=True)):
+        folder = os.path.dirname(f).split("/proofs/")[1]
+        if only and folder not in only:
+            continue
+        key = f"Rattle-{crate}-proofs." + folder.replace("/", ".") + ".Lts"
+        text = open(f, encoding="utf-8").read()
+        if key not in names or "tie.spec" not in text:
+            print(f"{folder}: left")
+            continue
+        tie = os.path.join(sys.argv[1], f"Rattle-{crate}-proofs", folder, "Tie.antt")
+        asked = re.search(r"(?s)  pub spec :\n(.*?)  spec =", open(tie, encoding="utf-8").read())
+        new = convert(text, names[key], re.findall(rf"Need-({WORD})", asked[1]) if asked else [b for a, b in names[key]["needs"]], folder)
+        if new != text:
+            open(f, "w", encoding="utf-8").write(new)
+
+
+if __name__ == "__main__":
+    main()
