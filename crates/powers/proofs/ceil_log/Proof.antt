@@ -9,11 +9,11 @@ use Rattle.powers.proofs.PowersLaws.{ceil_log_between}
 use Rattle.powers.proofs.ceil_log.Statement.{statement}
 use Rattle.powers.proofs.ceil_log.Tie as tie
 
-zero-log : tie.Need-returns
+zero-log : tie.Need-returns-then-k-eq0
 unfolding ceil_log first_fit
-zero-log c = rw c.if1.true
+zero-log c = rw c.if-k-eq0.true
 
-log : tie.Need-returns-2
+log : tie.Need-returns
 log c =
     let k = c.before.args.k in
     let l = leading_length 32 (k - 1) (omega arith) in
