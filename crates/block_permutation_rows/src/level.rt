@@ -11,7 +11,7 @@ use block_rows::{STRIDE, row_place};
 use elements::FabricWire;
 
 // The output wires of P at a level above 0: they rise from `first` on, but for the last pair, `upper` and `lower`, which has no X.
-#[derive(Drop)]
+#[derive(Clone, Copy)]
 pub(crate) struct LevelOuts {
     pub(crate) first: FabricWire,
     pub(crate) upper: FabricWire,
@@ -21,7 +21,7 @@ pub(crate) struct LevelOuts {
 // The parts of P at level n + 1 behind its own input rows. A half has `half` places and `inputs` input rows. The places are those where
 // the upper half's rows go on behind its input rows, where the lower half begins, where it goes on, and where the output rows begin; the
 // wires are the first that the parts make.
-#[derive(Drop)]
+#[derive(Clone, Copy)]
 struct LevelParts {
     half: u32,
     inputs: u32,

@@ -15,7 +15,7 @@ use block_sizes::permutation_count;
 use elements::{FabricWire, Kind};
 
 // Where the chain and the second P begin: the entries of their rows in the block's stretch, and the first wire that they make.
-#[derive(Drop)]
+#[derive(Clone, Copy)]
 struct SelectionParts {
     chain: usize,
     second: usize,

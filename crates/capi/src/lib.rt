@@ -28,7 +28,7 @@ use plan_saving::SaveAnswer;
 
 // The header's struct mkd_read: number and offset 0 where a plan was read, the plan all zero where not.
 #[repr(C)]
-#[derive(Drop)]
+#[derive(Clone, Copy)]
 pub struct Read {
     pub number: u32,
     pub at: u64,
@@ -62,7 +62,7 @@ pub extern "C" fn mkd_plan_read(file: &[u8]) -> Read
 
 // The header's struct mkd_drawn: the same with the drawn number of the gate at each place, plan and numbers all zero where no plan was read.
 #[repr(C)]
-#[derive(Drop)]
+#[derive(Clone, Copy)]
 pub struct Drawn {
     pub number: u32,
     pub at: u64,
@@ -108,7 +108,7 @@ pub extern "C" fn mkd_plan_fault(plan: Plan) -> u32
 
 // The header's struct mkd_edit: number 0 with the edited plan, or a refusal with the plan as it went in.
 #[repr(C)]
-#[derive(Drop)]
+#[derive(Clone, Copy)]
 pub struct Edit {
     pub number: u32,
     pub plan: Plan,
@@ -179,7 +179,7 @@ pub extern "C" fn mkd_plan_series(
 
 // The header's struct mkd_saved: number 0 with the length of the file that was written, length 0 where none was.
 #[repr(C)]
-#[derive(Drop)]
+#[derive(Clone, Copy)]
 pub struct Saved {
     pub number: u32,
     pub length: u64,
@@ -205,7 +205,7 @@ pub extern "C" fn mkd_plan_save(plan: Plan, file: &mut [u8]) -> Saved
 
 // The header's struct mkd_counts: number 0 where the block or the fabric was counted, its counts all zero where not.
 #[repr(C)]
-#[derive(Drop)]
+#[derive(Clone, Copy)]
 pub struct Counted {
     pub number: u32,
     pub rows: u32,
@@ -310,7 +310,7 @@ pub extern "C" fn mkd_count(u: u32, k: u32, v: u32) -> Counted
 
 // The header's struct mkd_sheet: number 0 where the fabric was counted, its rows by kind all zero where not.
 #[repr(C)]
-#[derive(Drop)]
+#[derive(Clone, Copy)]
 pub struct FabricSheet {
     pub number: u32,
     pub input: KindCounts,

@@ -21,11 +21,11 @@ pub const KIND_G: u16 = 3;
 pub const GATE_BITS: u32 = 4;
 
 // A wire of a fabric. The next unmade wire of a full one is 65,536.
-#[derive(Drop)]
+#[derive(Clone, Copy)]
 pub struct FabricWire(pub u32);
 
 // The kinds of elements.
-#[derive(Drop)]
+#[derive(Clone, Copy)]
 pub enum Kind {
     X,
     Y,
@@ -33,7 +33,7 @@ pub enum Kind {
 }
 
 // The rows of a block or a fabric, the wires that they make, and their program bits.
-#[derive(Drop)]
+#[derive(Clone, Copy)]
 pub struct Counts {
     pub rows: u32,
     pub wires: u32,
@@ -41,7 +41,7 @@ pub struct Counts {
 }
 
 // The answer of counting.
-#[derive(Drop)]
+#[derive(Clone, Copy)]
 pub enum CountAnswer {
     Counted(Counts),
     Refused(Fault),
@@ -49,7 +49,7 @@ pub enum CountAnswer {
 
 // The rows of each kind, and their total.
 #[repr(C)]
-#[derive(Drop)]
+#[derive(Clone, Copy)]
 pub struct KindCounts {
     pub x: u32,
     pub y: u32,
@@ -58,7 +58,7 @@ pub struct KindCounts {
 }
 
 // The sheet of a fabric: its rows by kind, in each of its three parts and in all of it.
-#[derive(Drop)]
+#[derive(Clone, Copy)]
 pub struct Sheet {
     pub input: KindCounts,
     pub block: KindCounts,
@@ -67,7 +67,7 @@ pub struct Sheet {
 }
 
 // The answer of counting by kind.
-#[derive(Drop)]
+#[derive(Clone, Copy)]
 pub enum SheetAnswer {
     Counted(Sheet),
     Refused(Fault),

@@ -15,7 +15,7 @@ use plan_evaluation::evaluate;
 use plan_evaluation_checks::contact_fault;
 
 // The stated lengths of table, program and work.
-#[derive(Drop)]
+#[derive(Clone, Copy)]
 struct Lengths {
     table: usize,
     program: usize,

@@ -15,7 +15,7 @@ use fabric_sizes::{pin_counts, universal_counts};
 
 // The gates and the pins of a half; where the parts of U begin in its stretch of the table, the Y rows counted from the selection block's
 // place; and the first wires that they make.
-#[derive(Drop)]
+#[derive(Clone, Copy)]
 struct UniversalParts {
     half: u16,
     pins: u16,

@@ -25,7 +25,7 @@ use plan::Plan;
 
 // K; where the parts of the fabric begin in the table, and the first wires that they make; `end` is where the output wires stand, counted
 // from the rows of S(K, v).
-#[derive(Drop)]
+#[derive(Clone, Copy)]
 struct Layout {
     rows: u32,
     gates: u16,

@@ -7,7 +7,7 @@ use fault::{Answer, Fault};
 use plan::{Plan, plan_fault};
 
 // The program's length, where no check fails.
-#[derive(Drop)]
+#[derive(Clone, Copy)]
 pub enum ProgramCheck {
     Length(usize),
     Refused(Fault),

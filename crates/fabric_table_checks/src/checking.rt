@@ -15,14 +15,14 @@ use fault::{Answer, Fault};
 use plan::{Plan, count_allowed};
 
 // The wires and the program bits of a table.
-#[derive(Drop)]
+#[derive(Clone, Copy)]
 pub struct TableCounts {
     pub wires: usize,
     pub bits: usize,
 }
 
 // What a check of a table answers.
-#[derive(Drop)]
+#[derive(Clone, Copy)]
 pub enum TableCheck {
     Counted(TableCounts),
     Refused(Fault),

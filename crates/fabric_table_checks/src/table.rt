@@ -10,7 +10,7 @@ use elements::{FabricWire, GATE_BITS, KIND_X, KIND_Y};
 use fabric_sizes::{HEADER, OUTPUTS, ROWS};
 
 // How many wires a row makes, and how many program bits it takes.
-#[derive(Drop)]
+#[derive(Clone, Copy)]
 pub struct RowCounts {
     pub wires: usize,
     pub bits: usize,

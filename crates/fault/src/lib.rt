@@ -7,7 +7,7 @@ ghost use Rattle.std.specs.Prelude.{◌≡◌};
 ghost use Rattle.fault.specs.Number.{fault_number, answer_number};
 
 // The words of the refusal table, in its order.
-#[derive(Drop)]
+#[derive(Clone, Copy)]
 pub enum Fault {
     // A plan file below 6 bytes.
     Stub,
@@ -48,14 +48,14 @@ pub enum Fault {
 }
 
 // A fault of a file, and the byte offset where the faulty field begins or would begin.
-#[derive(Drop)]
+#[derive(Clone, Copy)]
 pub struct Refusal {
     pub fault: Fault,
     pub at: usize,
 }
 
 // The answer of a call that fills lent buffers, or only checks.
-#[derive(Drop)]
+#[derive(Clone, Copy)]
 pub enum Answer {
     Done,
     Refused(Fault),

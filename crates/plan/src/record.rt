@@ -7,13 +7,13 @@ const WORD_NUMBERS: usize = 65_536;
 
 // A wire of a plan: 1 to u are inputs, u + g is gate g.
 #[repr(C)]
-#[derive(Drop)]
+#[derive(Clone, Copy)]
 pub struct PlanWire(pub u16);
 
 // A gate: two operands, each a smaller wire than its own, and a table of four bits. The table has 16 bits of room, so that a gate has no
 // padding and a record is cleared at once.
 #[repr(C)]
-#[derive(Drop)]
+#[derive(Clone, Copy)]
 pub struct Gate {
     pub first: PlanWire,
     pub second: PlanWire,
@@ -23,7 +23,7 @@ pub struct Gate {
 // A plan with places for every gate and output it may have, and its figures: K, and for each wire, wire w at place w - 1, how many operand places and
 // outputs name it. Places past its counts, and past its wires, are unused.
 #[repr(C)]
-#[derive(Drop)]
+#[derive(Clone, Copy)]
 pub struct Plan {
     pub inputs: u16,
     pub gate_count: u16,

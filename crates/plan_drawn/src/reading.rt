@@ -19,7 +19,7 @@ use plan_reading::{HEADER_BYTES, ReadAnswer, read_drawing, read_plan};
 const NUMBER_PLACES: usize = Plan::MAX_INPUTS + Plan::MAX_GATES + 1;
 
 // The answer of drawn reading, with the plan and the drawn number at each place: all zero where it is refused.
-#[derive(Drop)]
+#[derive(Clone, Copy)]
 pub struct DrawnRead {
     pub answer: ReadAnswer,
     pub plan: Plan,

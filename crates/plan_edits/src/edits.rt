@@ -14,7 +14,7 @@ use plan::{
 use powers::ceil_power;
 
 // The answer of an edit, with the edited plan, or with the plan as it went in where it is refused.
-#[derive(Drop)]
+#[derive(Clone, Copy)]
 pub struct Edited {
     pub answer: Answer,
     pub plan: Plan,

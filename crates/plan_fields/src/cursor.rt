@@ -11,41 +11,41 @@ use plan::{Gate, PlanWire, count_allowed, map_allowed, operand_allowed, source_a
 const MAX_TWO_LINES: u16 = 3;
 
 // A place in a file.
-#[derive(Drop)]
+#[derive(Clone, Copy)]
 pub struct Cursor {
     pub at: usize,
 }
 
 // A count with the next cursor, or its refusal.
-#[derive(Drop)]
+#[derive(Clone, Copy)]
 pub enum CountStep {
     Count(u16, Cursor),
     Refused(Refusal),
 }
 
 // A map byte with the next cursor, or its refusal.
-#[derive(Drop)]
+#[derive(Clone, Copy)]
 pub enum MapStep {
     Map(u8, Cursor),
     Refused(Refusal),
 }
 
 // An operand with the next cursor, or its refusal.
-#[derive(Drop)]
+#[derive(Clone, Copy)]
 pub enum OperandStep {
     Operand(PlanWire, Cursor),
     Refused(Refusal),
 }
 
 // A table with the next cursor, or its refusal.
-#[derive(Drop)]
+#[derive(Clone, Copy)]
 pub enum TableStep {
     Table(u16, Cursor),
     Refused(Refusal),
 }
 
 // An output with the next cursor, or its refusal.
-#[derive(Drop)]
+#[derive(Clone, Copy)]
 pub enum OutputStep {
     Output(PlanWire, Cursor),
     Refused(Refusal),

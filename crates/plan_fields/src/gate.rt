@@ -19,7 +19,7 @@ pub const TABLE_PLACE: u8 = 2;
 pub const ABSENT_TABLE: u16 = 8;
 
 // A gate with the next cursor, or its refusal.
-#[derive(Drop)]
+#[derive(Clone, Copy)]
 pub enum GateStep {
     Gate(Gate, Cursor),
     Refused(Refusal),

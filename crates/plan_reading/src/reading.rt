@@ -14,21 +14,21 @@ use powers::ceil_power;
 pub const HEADER_BYTES: usize = 6;
 
 // Whether a file holds a plan.
-#[derive(Drop)]
+#[derive(Clone, Copy)]
 pub enum ReadAnswer {
     Accepted,
     Refused(Refusal),
 }
 
 // The answer of reading, with the plan: all zero where it is refused.
-#[derive(Drop)]
+#[derive(Clone, Copy)]
 pub struct PlanRead {
     pub answer: ReadAnswer,
     pub plan: Plan,
 }
 
 // The three counts of a file.
-#[derive(Drop)]
+#[derive(Clone, Copy)]
 pub(crate) struct Header {
     pub inputs: u16,
     pub gates: u16,
@@ -36,7 +36,7 @@ pub(crate) struct Header {
 }
 
 // The three counts with the next cursor, or the refusal.
-#[derive(Drop)]
+#[derive(Clone, Copy)]
 pub(crate) enum HeaderStep {
     Header(Header, Cursor),
     Refused(Refusal),

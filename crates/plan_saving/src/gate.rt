@@ -10,7 +10,7 @@ use plan::{Gate, PlanWire};
 use plan_fields::{ABSENT_TABLE, FIRST_PLACE, SECOND_PLACE, TABLE_PLACE, wire_before};
 
 // Which fields of a gate stand.
-#[derive(Drop)]
+#[derive(Clone, Copy)]
 pub(crate) struct Standing {
     pub first: bool,
     pub second: bool,

@@ -25,7 +25,7 @@ const LONGEST_FILE: usize = HEADER_BYTES
     + OUTPUT_BYTES * Plan::MAX_OUTPUTS;
 
 // The length of the file that was written, or the refusal.
-#[derive(Drop)]
+#[derive(Clone, Copy)]
 pub enum SaveAnswer {
     Saved(usize),
     Refused(Fault),
