@@ -160,7 +160,8 @@ def convert(text, entry, asked, where):
         while i < len(steps):
             s = steps[i]
             n = norm(s)
-            if n in fields and not (i and steps[i - 1] in VALUES) and not (i == 0 and before in given):
+            own = n in fields and re.search(r"-1$", fields[n][0]) and not (steps[i - 1] == "before" if i else before in ("c", "s", "at", "past"))
+            if n in fields and not (i and steps[i - 1] in VALUES) and not (i == 0 and before in given) and not own:
                 new, callee, subs = fields[n]
                 out.append(new)
                 i += 1
@@ -169,6 +170,8 @@ def convert(text, entry, asked, where):
                 out.append(subs[n])
                 i += 1
                 continue
+            if s == "true" and out and out[-1].startswith("if-not-"):
+                s = "true-raw"
             if s == "pre":
                 out.append("requires")
                 i += 1

@@ -91,7 +91,7 @@ def table():
     for n, new in out.items():
         meeting[new].append(n)
     for new, olds in meeting.items():
-        definitions = [n for n in olds if re.search(r"[a-z0-9][A-Z]", n) and "-" not in n]
+        definitions = [n for n in olds if re.search(r"[a-z0-9][A-Z]", n) and "-" not in n] or [n for n in olds if n == new]
         if len(olds) > 1:
             for n in olds:
                 if n not in definitions[:1]:

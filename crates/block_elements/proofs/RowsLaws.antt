@@ -10,7 +10,7 @@ use lib.Seq.{drop-drop}
 use Rattle.lists.specs.Lists.{list_of, Below, Every, every-none, every_more}
 use Rattle.lists.proofs.ListsLaws.{list_of-front, every_append}
 use Rattle.block_elements.specs.Rows.{Row, X, Y, Gate, inputs_of, makes, takes, gates_in, total, gate_bits, MadeBefore, made_none, made_more, Totals}
-use Rattle.block_elements.specs.Rows.{stride, entries, flat, row_of_lem, decode, InFamily, State, on, outputs, step, run}
+use Rattle.block_elements.specs.Rows.{stride, entries, flat, row_of, decode, InFamily, State, on, outputs, step, run}
 
 -- ---- lists of rows
 
@@ -67,7 +67,7 @@ length-flat (every_more {a = row} {l = rows} f fs) =
     rw (length-append (entries row) (flat rows)) (omega (arith, entries-length row f, length-flat fs))
 
 decode-entries : (row : Row) (es : List ℕ) → InFamily row → decode (entries row ++ es) ≡ row ∷ decode es
-unfolding inputs_of entries decode row_of_lem
+unfolding inputs_of entries decode row_of
 decode-entries (X l r) es e = refl
 decode-entries (Y l r) es e = refl
 decode-entries (Gate []) es e = absurd (omega arith)
@@ -82,7 +82,7 @@ decode-flat (every_more {a = row} {l = rows} f fs) = rw (decode-entries row (fla
 
 -- row i stands at the entries from stride * i on
 pub decode-at : (es : List ℕ) (i : ℕ) (d : Row) → i < length (decode es)
-    → get_or (decode es) i d ≡ row_of_lem (get_or es (stride * i) 0) (get_or es (stride * i + 1) 0) (get_or es (stride * i + 2) 0)
+    → get_or (decode es) i d ≡ row_of (get_or es (stride * i) 0) (get_or es (stride * i + 1) 0) (get_or es (stride * i + 2) 0)
 unfolding decode
 decode-at [] i d h = absurd (not-suc-le-zero h)
 decode-at (k ∷ []) i d h = absurd (not-suc-le-zero h)

@@ -67,18 +67,18 @@ flat [] = []
 flat (row ∷ rows) = entries row ++ flat rows
 
 -- the row of a kind with these wires; a kind that document 01 calls malformed is read as a gate
-unfoldable pub row_of_lem : ℕ → ℕ → ℕ → Row
-row_of_lem zero l r = Gate (l ∷ r ∷ [])
-row_of_lem (suc zero) l r = X l r
-row_of_lem (suc (suc zero)) l r = Y l r
-row_of_lem (suc (suc (suc k))) l r = Gate (l ∷ r ∷ [])
+unfoldable pub row_of : ℕ → ℕ → ℕ → Row
+row_of zero l r = Gate (l ∷ r ∷ [])
+row_of (suc zero) l r = X l r
+row_of (suc (suc zero)) l r = Y l r
+row_of (suc (suc (suc k))) l r = Gate (l ∷ r ∷ [])
 
 -- the rows of a table's entries
 unfoldable pub decode : List ℕ → List Row
 decode [] = []
 decode (k ∷ []) = []
 decode (k ∷ l ∷ []) = []
-decode (k ∷ l ∷ r ∷ es) = row_of_lem k l r ∷ decode es
+decode (k ∷ l ∷ r ∷ es) = row_of k l r ∷ decode es
 
 -- a row of this family: as many input wires as a gate has operands
 abbrev pub InFamily : Row → Type 0
@@ -130,13 +130,13 @@ module _ {A : Type 0} (none : A) (gate : ℕ → List ℕ → List A → A) wher
   run (row ∷ rows) s = run rows (step row s)
 
 -- the line of a table for these operand bits, counted from 0: of a and b it is 2a + b
-unfoldable pub line_of_lem : ℕ → List ℕ → ℕ
-line_of_lem before [] = before
-line_of_lem before (a ∷ more) = line_of_lem (2 * before + a) more
+unfoldable pub line_of : ℕ → List ℕ → ℕ
+line_of before [] = before
+line_of before (a ∷ more) = line_of (2 * before + a) more
 
 -- the action of a gate on bits: "used as a plan's table is", bit 2a + b of the table
 unfoldable pub gate_on_bits : ℕ → List ℕ → List ℕ → ℕ
-gate_on_bits number table operands = get_or table (line_of_lem 0 operands) 0
+gate_on_bits number table operands = get_or table (line_of 0 operands) 0
 
 -- a block's run from s to t: each of its `size` outputs o carries what its input π o carried, the wires there were are kept, `made` wires
 -- are made, the bits `rest` are left, and no gate was run

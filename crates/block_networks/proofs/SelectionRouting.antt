@@ -17,7 +17,7 @@ use Rattle.block_elements.specs.Bits.{AreBits, pack, unpack}
 use Rattle.block_elements.proofs.BitsLaws.{bits-append, bits-list_of, unpack-pack}
 use Rattle.block_networks.specs.Permutation.{permutation_count}
 use Rattle.block_networks.specs.Wanted.{mapping, taker_of, wanted_bits, wanted_of}
-use Rattle.block_networks.specs.Selection.{whole_count, wanting, copies, is_wanted, head_of_lem, is_head, position_of, copy_of}
+use Rattle.block_networks.specs.Selection.{whole_count, wanting, copies, is_wanted, head_of, is_head, position_of, copy_of}
 use Rattle.block_networks.specs.Selection.{first_program, chain_program, second_program, whole_program}
 use Rattle.block_networks.specs.Selection.{selection_level, selection_count, Selected, selection_bits}
 use Rattle.block_networks.proofs.Sources.{source, chain_source, chain_bits, second_bits, whole_source, selection_source}
@@ -64,13 +64,13 @@ module _ (want : ℕ → ℕ) (n N : ℕ) (fits : n ≤ N) (bits : List ℕ) (re
   chain-goes-on p l h = rw (reads p l, h)
 
   -- at the positions of j's copies the chain has what stands at j's head
-  chain-copies : (j : ℕ) → j < N → (a : ℕ) → a < copies want n j → chain_source bits (head_of_lem want n j + a) ≡ head_of_lem want n j
+  chain-copies : (j : ℕ) → j < N → (a : ℕ) → a < copies want n j → chain_source bits (head_of want n j + a) ≡ head_of want n j
   chain-copies j lj zero l =
-      rw (add-zero (head_of_lem want n j)) (chain-starts (head_of_lem want n j) (omega (arith, copy_lt want n j 0 l)) (head-here want n N fits j lj l))
+      rw (add-zero (head_of want n j)) (chain-starts (head_of want n j) (omega (arith, copy_lt want n j 0 l)) (head-here want n N fits j lj l))
   chain-copies j lj (suc a) l =
-      let e : head_of_lem want n j + suc a ≡ suc (head_of_lem want n j + a) = add-suc (head_of_lem want n j) a in
+      let e : head_of want n j + suc a ≡ suc (head_of want n j + a) = add-suc (head_of want n j) a in
       ap (chain_source bits) e
-      ∙ chain-goes-on (head_of_lem want n j + a) (omega (arith, copy_lt want n j (suc a) l)) (rw e at (no_head want n N fits j a l))
+      ∙ chain-goes-on (head_of want n j + a) (omega (arith, copy_lt want n j (suc a) l)) (rw e at (no_head want n N fits j a l))
       ∙ chain-copies j lj a (omega arith)
 
 -- ---- as wanted, where it is programmed
@@ -127,7 +127,7 @@ module _ (want : ℕ → ℕ) (n level : ℕ) (fits : n ≤ 2 ^ level) where
       whole_parts level F C S rest o (length-permutation_bits level _ _) (length-chain_program want n level)
       ∙ ap (λ x. source level (F ++ after) (chain_source after x)) second
       ∙ ap (source level (F ++ after)) chain
-      ∙ source_programmed level first after (head_of_lem want n j)
+      ∙ source_programmed level first after (head_of want n j)
       ∙ ap (taker_of N (position_of want n N)) (sym ((position_rule want n N fits).given j lw wanted))
       ∙ first.fro j
 

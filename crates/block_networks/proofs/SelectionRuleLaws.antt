@@ -15,7 +15,7 @@ use Rattle.lists.proofs.CountingLaws.{passed, both_ways}
 use Rattle.block_networks.specs.Permutation.{Perm, permutation_bits}
 use Rattle.block_networks.specs.SideRule.{RuleBits}
 use Rattle.block_networks.specs.Wanted.{mapping}
-use Rattle.block_networks.specs.Selection.{selection_level, copies, is_wanted, head_of_lem, is_head, copy_of, chain_program, whole_program, selection_bits}
+use Rattle.block_networks.specs.Selection.{selection_level, copies, is_wanted, head_of, is_head, copy_of, chain_program, whole_program, selection_bits}
 use Rattle.block_networks.specs.SelectionRule.{Head, ChainRule, SecondRule, SelectionRule, rule-selection}
 use Rattle.block_networks.proofs.SideRuleLaws.{permutation_follows, permutation_fixed}
 use Rattle.block_networks.proofs.Loops.{flipped}
@@ -34,9 +34,9 @@ fixed_bits level P R e f = permutation_fixed P R ∙ ap₂ (permutation_bits lev
 
 module _ (want : ℕ → ℕ) (n level : ℕ) where
   head-is : (p : ℕ) → Head (2 ^ level) n want p → is_head want n (2 ^ level) p ≡ true
-  head-is p h = taken_here (is_wanted want n) (head_of_lem want n) (2 ^ level) p h.input h.low (lt-ltb 0 (copies want n h.input) h.wanted) h.here
+  head-is p h = taken_here (is_wanted want n) (head_of want n) (2 ^ level) p h.input h.low (lt-ltb 0 (copies want n h.input) h.wanted) h.here
 
-  head_of_lem : (p : ℕ) (x : ℕ) → x < 2 ^ level → is_wanted want n x ≡ true → head_of_lem want n x ≡ p → Head (2 ^ level) n want p
+  head_of_lem : (p : ℕ) (x : ℕ) → x < 2 ^ level → is_wanted want n x ≡ true → head_of want n x ≡ p → Head (2 ^ level) n want p
   head_of_lem p x l h e = record { input = x; low = l; wanted = ltb-true 0 (copies want n x) h; here = e }
 
   chain_follows : ChainRule (2 ^ level) n want (chain_program want n level)
@@ -44,7 +44,7 @@ module _ (want : ℕ → ℕ) (n level : ℕ) where
     size = length-chain_program want n level;
     head = λ i l h. chain_program-at want n level i l ∙ ap one_if (head-is (suc i) h);
     other = λ i l f. chain_program-at want n level i l
-        ∙ ap one_if (taken_nowhere (is_wanted want n) (head_of_lem want n) (2 ^ level) (suc i) (λ x k h e. f (head_of_lem (suc i) x k h e)));
+        ∙ ap one_if (taken_nowhere (is_wanted want n) (head_of want n) (2 ^ level) (suc i) (λ x k h e. f (head_of_lem (suc i) x k h e)));
   }
 
   chain_fixed : {bits : List ℕ} → ChainRule (2 ^ level) n want bits → bits ≡ chain_program want n level
@@ -56,7 +56,7 @@ module _ (want : ℕ → ℕ) (n level : ℕ) where
       go : (i : ℕ) → suc i < 2 ^ level → (is_head want n (2 ^ level) (suc i) ≡ true) ⊎ (is_head want n (2 ^ level) (suc i) ≡ false)
           → get_or bits i 0 ≡ one_if (is_head want n (2 ^ level) (suc i))
       go i l (inl e) =
-          let t = taken_by (is_wanted want n) (head_of_lem want n) (2 ^ level) (suc i) e in
+          let t = taken_by (is_wanted want n) (head_of want n) (2 ^ level) (suc i) e in
           R.head i l (head_of_lem (suc i) t.number t.low t.has-place t.there) ∙ sym (ap one_if e)
       go i l (inr e) = R.other i l (λ h. both_ways (head-is (suc i) h) e) ∙ sym (ap one_if e)
 

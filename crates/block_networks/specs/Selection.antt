@@ -106,22 +106,22 @@ module _ (want : ℕ → ℕ) (n : ℕ) where
   is_wanted j = ltb 0 (copies j)
 
   -- the head of a wanted input j: the position c(0) + .. + c(j - 1)
-  unfoldable pub head_of_lem : ℕ → ℕ
-  head_of_lem zero = 0
-  head_of_lem (suc j) = head_of_lem j + copies j
+  unfoldable pub head_of : ℕ → ℕ
+  head_of zero = 0
+  head_of (suc j) = head_of j + copies j
 
   -- position p, of N, is a head
   abbrev pub is_head : ℕ → ℕ → Bool
-  is_head N p = is_taken is_wanted head_of_lem N p
+  is_head N p = is_taken is_wanted head_of N p
 
   -- the position to which the first network takes input j: a wanted one to its head, the others to the other positions in rising order
   abbrev pub position_of : ℕ → ℕ → ℕ
-  position_of N j = completed N is_wanted head_of_lem j
+  position_of N j = completed N is_wanted head_of j
 
   -- the position which the second network gives to output o: the head of the input it wants, plus the number of earlier outputs that
   -- want it. Outputs past n take their own
   unfoldable pub copy_of : ℕ → ℕ
-  copy_of o = cond (ltb o n) (head_of_lem (want o) + wanting want o (want o)) o
+  copy_of o = cond (ltb o n) (head_of (want o) + wanting want o (want o)) o
 
   -- the bits of the first P
   abbrev pub first_program : ℕ → List ℕ

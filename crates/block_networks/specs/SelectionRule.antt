@@ -6,18 +6,18 @@ use Rattle.std.specs.Prelude.{◌≡◌, List, ◌++◌, ℕ, suc, ◌+◌, ◌-
 use Rattle.block_networks.specs.Permutation.{Perm}
 use Rattle.block_networks.specs.SideRule.{RuleBits}
 use Rattle.block_networks.specs.Completion.{RisingCompletion}
-use Rattle.block_networks.specs.Selection.{wanting, copies, is_wanted, head_of_lem}
+use Rattle.block_networks.specs.Selection.{wanting, copies, is_wanted, head_of}
 
 -- position p is the head of one of the N inputs
 pub record Head (N n : ℕ) (want : ℕ → ℕ) (p : ℕ) : Type 0 where
   pub input : ℕ
   pub low : input < N
   pub wanted : 0 < copies want n input
-  pub here : head_of_lem want n input ≡ p
+  pub here : head_of want n input ≡ p
 
 -- ρ takes the wanted inputs to their heads, and the others in rising order onto the other positions
 abbrev pub FirstRule : ℕ → ℕ → (ℕ → ℕ) → (ℕ → ℕ) → Type 0
-FirstRule N n want ρ = RisingCompletion N (is_wanted want n) (head_of_lem want n) ρ
+FirstRule N n want ρ = RisingCompletion N (is_wanted want n) (head_of want n) ρ
 
 -- the chain's bits, that of the Y at position 1 first
 pub record ChainRule (N n : ℕ) (want : ℕ → ℕ) (bits : List ℕ) : Type 0 where
@@ -27,7 +27,7 @@ pub record ChainRule (N n : ℕ) (want : ℕ → ℕ) (bits : List ℕ) : Type 0
 
 -- π gives each output its position
 pub record SecondRule (n : ℕ) (want π : ℕ → ℕ) : Type 0 where
-  pub copy : (o : ℕ) → o < n → π o ≡ head_of_lem want n (want o) + wanting want o (want o)
+  pub copy : (o : ℕ) → o < n → π o ≡ head_of want n (want o) + wanting want o (want o)
   pub own : (o : ℕ) → n ≤ o → π o ≡ o
 
 -- the bits of a block of this level that is programmed by the rule, where each P is programmed by its own

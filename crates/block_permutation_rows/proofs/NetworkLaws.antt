@@ -11,7 +11,7 @@ use Rattle.lists.proofs.ListsLaws.{list_of_ext}
 use Rattle.fault.specs.Buffers.{over, part_of, with_part}
 use Rattle.fault.proofs.PartsLaws.{over-part}
 use Rattle.elements.specs.declared.Kind.{Kind}
-use Rattle.block_elements.specs.Rows.{X, stride, flat, row_of_lem}
+use Rattle.block_elements.specs.Rows.{X, stride, flat, row_of}
 use Rattle.block_elements.proofs.RowsLaws.{flat_append}
 use Rattle.block_networks.specs.Permutation.{permutation_count, input_rows, permutation_outs, permutation_rows}
 use Rattle.block_sizes.specs.Sizes.{level_of}
@@ -27,7 +27,7 @@ use Rattle.block_permutation_rows.proofs.HalvesLaws.{length_inner, outs-made, ou
 
 -- the input rows on a list and on its part from place 1 on
 input-pairs : (count : ℕ) (ins : List ℕ) → pair_rows Kind.X count ins (part_of 1 ins) 2 ≡ input_rows count ins
-unfolding pair_rows input_rows row_of_lem
+unfolding pair_rows input_rows row_of
 input-pairs count ins = list_of_ext count _ _ λ i l. ap (X (get_or ins (2 * i) 0)) (next (2 * i))
   where
     next : (i : ℕ) → get_or (part_of 1 ins) i 0 ≡ get_or ins (i + 1) 0

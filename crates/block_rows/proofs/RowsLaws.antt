@@ -14,31 +14,31 @@ use Rattle.fault.proofs.PartsLaws.{over-part}
 use Rattle.elements.specs.declared.Kind.{Kind}
 use Rattle.elements.specs.declared.Kind.TheVariants.{X, Y, G}
 use Rattle.elements.specs.Elements.{max_wires, kind_number}
-use Rattle.block_elements.specs.Rows.{Row, stride, inputs_of, entries, flat, row_of_lem, InFamily}
+use Rattle.block_elements.specs.Rows.{Row, stride, inputs_of, entries, flat, row_of, InFamily}
 use Rattle.block_elements.proofs.RowsLaws.{flat_append, length-flat}
 use Rattle.block_rows.specs.Rows.{row_put, pair_rows, rows_put}
 
 -- the entries of a row of a kind
-pub kind-entries : (kind : Kind) (l r : ℕ) → entries (row_of_lem (kind_number kind) l r) ≡ kind_number kind ∷ l ∷ r ∷ []
-unfolding row_of_lem entries
+pub kind-entries : (kind : Kind) (l r : ℕ) → entries (row_of (kind_number kind) l r) ≡ kind_number kind ∷ l ∷ r ∷ []
+unfolding row_of entries
 kind-entries = elim [ X ↦ λ l r. refl | Y ↦ λ l r. refl | G ↦ λ l r. refl ]
 
-kind-family : (kind : Kind) (l r : ℕ) → InFamily (row_of_lem (kind_number kind) l r)
-unfolding row_of_lem inputs_of
+kind-family : (kind : Kind) (l r : ℕ) → InFamily (row_of (kind_number kind) l r)
+unfolding row_of inputs_of
 kind-family = elim [ X ↦ λ l r. refl | Y ↦ λ l r. refl | G ↦ λ l r. refl ]
 
 pub row_put_lem : (kind : Kind) (left right : ℕ) (old : List ℕ) → stride ≤ length old → left < max_wires → right < max_wires
-    → row_put (kind_number kind) left right old ≡ over (entries (row_of_lem (kind_number kind) left right)) old
+    → row_put (kind_number kind) left right old ≡ over (entries (row_of (kind_number kind) left right)) old
 unfolding row_put
 row_put_lem kind left right old room l r =
     rw (le-leb stride (length old) room, mod-eq_of_lt l, mod-eq_of_lt r, kind-entries kind left right)
 
 -- a row on the wires a and b
 pub row_on : (kind : Kind) (left right a b : ℕ) (old F : List ℕ) → F ≡ row_put (kind_number kind) left right old → stride ≤ length old
-    → (left ≡ a) × (left < max_wires) → (right ≡ b) × (right < max_wires) → F ≡ over (entries (row_of_lem (kind_number kind) a b)) old
+    → (left ≡ a) × (left < max_wires) → (right ≡ b) × (right < max_wires) → F ≡ over (entries (row_of (kind_number kind) a b)) old
 row_on kind left right a b old F e room l r =
     e ∙ row_put_lem kind left right old room l.1 r.1
-    ∙ ap₂ (λ x y. over (entries (row_of_lem (kind_number kind) x y)) old) l.0 r.0
+    ∙ ap₂ (λ x y. over (entries (row_of (kind_number kind) x y)) old) l.0 r.0
 
 pub length-pair_rows : (kind : Kind) (count : ℕ) (lefts rights : List ℕ) (step : ℕ) → length (pair_rows kind count lefts rights step) ≡ count
 unfolding pair_rows
@@ -65,7 +65,7 @@ length-flat-pairs kind count lefts rights step = length-flat-list _ (λ i. kind-
 
 pub pairs-more : (kind : Kind) (lefts rights : List ℕ) (step i n : ℕ) (L P F : List ℕ) → n ≡ stride * i → stride * (i + 1) ≤ length L
     → P ≡ over (flat (pair_rows kind i lefts rights step)) L
-    → F ≡ over (entries (row_of_lem (kind_number kind) (get_or lefts (step * i) 0) (get_or rights (step * i) 0))) (part_of n P)
+    → F ≡ over (entries (row_of (kind_number kind) (get_or lefts (step * i) 0) (get_or rights (step * i) 0))) (part_of n P)
     → with_part n P F ≡ over (flat (pair_rows kind (i + 1) lefts rights step)) L
 unfolding pair_rows
 pairs-more kind lefts rights step = list-more _ (λ i. kind-family kind _ _)

@@ -9,7 +9,7 @@ use lib.ListN.{length, get_or, set}
 use lib.Seq.{get_or-set_same, get_or-set_other}
 use Rattle.lists.specs.Counting.{count_of}
 use Rattle.block_networks.specs.Wanted.{mapping}
-use Rattle.block_networks.specs.Selection.{wanting, head_of_lem, copy_of}
+use Rattle.block_networks.specs.Selection.{wanting, head_of, copy_of}
 use Rattle.block_networks.proofs.SelectionRouting.{selected_lt}
 use Rattle.block_networks.proofs.Heads.{copy-early, copy-below}
 use Rattle.block_sizes.specs.Sizes.{max_size}
@@ -18,7 +18,7 @@ use Rattle.block_selection_bits.proofs.CountsLaws.{wanting-own, wanting-other}
 
 -- no copy is given yet
 pub copies-none : (wanted : List ℕ) {heads : List ℕ}
-    → ((x : ℕ) → x < length wanted → get_or heads (mapping wanted x) 0 ≡ head_of_lem (mapping wanted) (length wanted) (mapping wanted x))
+    → ((x : ℕ) → x < length wanted → get_or heads (mapping wanted x) 0 ≡ head_of (mapping wanted) (length wanted) (mapping wanted x))
     → NextCopies wanted 0 heads
 unfolding wanting count_of
 copies-none wanted h = record { each = λ l x m. h x m ∙ sym (add-zero _) }
@@ -45,7 +45,7 @@ module _ {wanted heads : List ℕ} {o : ℕ} (W : Demand (length heads) wanted) 
         want = mapping wanted
 
         head : ℕ → ℕ
-        head = head_of_lem want (length wanted)
+        head = head_of want (length wanted)
 
         new : List ℕ
         new = set heads j (get_or heads j 0 + 1)

@@ -26,7 +26,7 @@ use Rattle.block_networks.proofs.Loops.{perm_lt}
 use Rattle.block_networks.proofs.Mappings.{wanted_of-names}
 use Rattle.block_networks.specs.Completion.{completed, RisingCompletion}
 use Rattle.block_networks.proofs.CompletionLaws.{taken_here, taken_nowhere}
-use Rattle.block_networks.specs.Selection.{copies, is_wanted, head_of_lem, is_head, position_of, chain_program, whole_count, selection_level, selection_count, selection_bits}
+use Rattle.block_networks.specs.Selection.{copies, is_wanted, head_of, is_head, position_of, chain_program, whole_count, selection_level, selection_count, selection_bits}
 use Rattle.block_networks.proofs.SelectionLaws.{selection-inputs-fit, selection-outputs-fit}
 use Rattle.block_networks.proofs.SelectionRouting.{selected_lt, selection_by_lists}
 use Rattle.block_networks.proofs.Heads.{head_le, first-perm, position_rule}
@@ -59,9 +59,9 @@ module _ (want : ℕ → ℕ) (n N : ℕ) (fits : n ≤ N) where
 
       go : (is_wanted want n x ≡ true) ⊎ (is_wanted want n x ≡ false) → is_wanted want n x ≡ is_head want n N p
       go (inl e) =
-          e ∙ sym (taken_here (is_wanted want n) (head_of_lem want n) N p x low e (sym ((position_rule want n N fits).given x low e) ∙ there))
+          e ∙ sym (taken_here (is_wanted want n) (head_of want n) N p x low e (sym ((position_rule want n N fits).given x low e) ∙ there))
       go (inr e) =
-          e ∙ sym (taken_nowhere (is_wanted want n) (head_of_lem want n) N p
+          e ∙ sym (taken_nowhere (is_wanted want n) (head_of want n) N p
           (λ y m h q. ((position_rule want n N fits).to-left x low e).other y m h (q ∙ sym there)))
 
 -- ---- positions by counts
@@ -76,8 +76,8 @@ module _ (want : ℕ → ℕ) (n : ℕ) {counts : List ℕ} (H : PlacesHold (cop
   counted-wanted : is_counted counts ≡ is_wanted want n
   counted-wanted = fun_ext (λ j. ap (ltb 0) (H.each j))
 
-  head-is : (j : ℕ) → head_by counts j ≡ head_of_lem want n j
-  unfolding head_by head_of_lem
+  head-is : (j : ℕ) → head_by counts j ≡ head_of want n j
+  unfolding head_by head_of
   head-is zero = refl
   head-is (suc j) = ap₂ ◌+◌ (head-is j) (H.each j)
 

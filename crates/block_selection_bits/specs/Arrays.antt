@@ -7,7 +7,7 @@ use Rattle.block_elements.specs.Bits.{bits_held}
 use Rattle.block_networks.specs.Permutation.{permutation_count, Perm}
 use Rattle.block_networks.specs.Wanted.{Wanted, mapping, taker_of, wanted_bits, wanted_of}
 use Rattle.block_networks.specs.Completion.{completed, RisingCompletion}
-use Rattle.block_networks.specs.Selection.{Selected, wanting, copies, head_of_lem, position_of, copy_of}
+use Rattle.block_networks.specs.Selection.{Selected, wanting, copies, head_of, position_of, copy_of}
 use Rattle.block_sizes.specs.Sizes.{max_size, level_of, SizeIs}
 
 -- the wanted inputs of a block of N positions
@@ -123,7 +123,7 @@ second_network_bits N wanted = wanted_bits (level_of N) (wanted_of N (copy_of (m
 -- after the first o outputs, the position of the next copy of an input stands at the input's place; here of the input that output x wants
 pub record NextCopies (wanted : List ℕ) (o : ℕ) (heads : List ℕ) : Type 0 where
   pub each : o ≤ length wanted → (x : ℕ) → x < length wanted → let j : ℕ = mapping wanted x in
-      get_or heads j 0 ≡ head_of_lem (mapping wanted) (length wanted) j + wanting (mapping wanted) o j
+      get_or heads j 0 ≡ head_of (mapping wanted) (length wanted) j + wanting (mapping wanted) o j
 
 -- ---- all that is found before a bit is stored
 

@@ -13,7 +13,7 @@ use Rattle.lists.proofs.ListsLaws.{length-list_of, get_or-list_of, list_of_ext}
 use Rattle.fault.specs.Buffers.{over, part_of, with_part}
 use Rattle.fault.proofs.PartsLaws.{over-part}
 use Rattle.elements.specs.declared.Kind.{Kind}
-use Rattle.block_elements.specs.Rows.{stride, flat, Y, row_of_lem}
+use Rattle.block_elements.specs.Rows.{stride, flat, Y, row_of}
 use Rattle.block_elements.proofs.RowsLaws.{length-flat}
 use Rattle.block_networks.specs.Selection.{chain_wire, chain_rows, chain_outs}
 use Rattle.block_networks.proofs.SelectionLaws.{length-chain_rows, chain-totals, length-chain_outs, get_or-chain_outs}
@@ -76,7 +76,7 @@ right-at s i l =
 
 pub rows-linked : (N next : ℕ) (s L P R F : List ℕ) → ChainRoom N next (length R) (length L) (length s) → P ≡ over (chain_outs N s next) L
     → F ≡ rows_put (pair_rows Kind.Y (N - 1) P (part_of 1 s) 1) R → F ≡ over (flat (chain_rows (N - 1) s next)) R
-unfolding pair_rows chain_rows row_of_lem
+unfolding pair_rows chain_rows row_of
 rows-linked N next s L P R F room e put =
     let rows = pair_rows Kind.Y (N - 1) P (part_of 1 s) 1 in
     let fit : stride * length rows ≤ length R = rw (length-pair_rows Kind.Y (N - 1) P (part_of 1 s) 1) room.row_room in

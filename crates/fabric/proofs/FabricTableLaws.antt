@@ -11,7 +11,7 @@ use Rattle.lists.specs.Lists.{list_of, Below}
 use Rattle.lists.proofs.ListsLaws.{get_or-list_of, list_of_ext, below-append, below_more}
 use Rattle.fault.specs.Checks.{room_fault}
 use Rattle.elements.specs.Elements.{max_wires}
-use Rattle.blocks.specs.Elements.{Row, gate_bits, flat, run, line_of_lem, gate_on_bits, unpack}
+use Rattle.blocks.specs.Elements.{Row, gate_bits, flat, run, line_of, gate_on_bits, unpack}
 use Rattle.blocks.proofs.ElementsLaws.{unpack-pack}
 use Rattle.plan.specs.declared.record.Plan.{Plan}
 use Rattle.plan.specs.Record.{gate_at}
@@ -30,7 +30,7 @@ use Rattle.fabric_universal.proofs.FabricRun.{fabric_start, fabric_computes}
 use Rattle.fabric_sizes.specs.Layout.{inputs_in, outputs_in, rows_in, output_wire_at, table_rows, wires_in, bits_in}
 use Rattle.fabric_table_checks.specs.TableFault.{table_fault}
 use Rattle.fabric_table_checks.proofs.TableFaultLaws.{table-faultless}
-use Rattle.fabric_table_checks.proofs.WrittenTables.{table_of_lem, table_rows_of, output_of_lem, below_cons, flat-below, wires_in_of, bits_in_of, well_formed_of}
+use Rattle.fabric_table_checks.proofs.WrittenTables.{table_of, table_rows_of, output_of_lem, below_cons, flat-below, wires_in_of, bits_in_of, well_formed_of}
 use Rattle.fabric_run_checks.specs.RunFault.{given_program_fault, given_fault, run_fault}
 use Rattle.fabric_run_checks.proofs.RunFaultLaws.{pack_exact}
 use Rattle.fabric_run.specs.Running.{run_wires, run_outputs}
@@ -40,7 +40,7 @@ use Rattle.fabric.specs.Promise.{FabricPromise}
 
 module _ (u k v : ℕ) where
   -- the number of rows that it names is that of its rows
-  pub table_of_lem : fabric_table u k v ≡ table_of_lem u v (fabric_rows u k v) (fabric_outs u k v)
+  pub table_of_lem : fabric_table u k v ≡ table_of u v (fabric_rows u k v) (fabric_outs u k v)
   unfolding fabric_table
   table_of_lem = ap (λ n. u ∷ v ∷ n ∷ (flat (fabric_rows u k v) ++ fabric_outs u k v)) (sym (length-fabric_rows u k v))
 
@@ -74,7 +74,7 @@ module _ (u k v : ℕ) where
   fabric_well_formed e =
       let c = counts-within u k v e in
       let wires = fabric_wires_lem u k v in
-      rw table_of_lem ((table-faultless (table_of_lem u v (fabric_rows u k v) (fabric_outs u k v))).1
+      rw table_of_lem ((table-faultless (table_of u v (fabric_rows u k v) (fabric_outs u k v))).1
       (well_formed_of u v (fabric_rows u k v) (fabric_outs u k v) (fabric_totals u k v).family (c.some_inputs, c.inputs) (c.some_outputs, c.outputs)
       (fabric_made_before u k v) (length-fabric_outs u k v) (rw wires (fabric_below u k v)) (omega (arith, (fabric_within u k v c).wires))))
 
@@ -93,7 +93,7 @@ module _ (u k v : ℕ) where
 
 -- bit 2a + b of a table, from its number or from its bits
 pub act_bits : (i t a b : ℕ) → a ≤ 1 → b ≤ 1 → act_of gate_on_bits i t a b ≡ gate_bit i t a b
-unfolding gate_on_bits line_of_lem table_program table_bit
+unfolding gate_on_bits line_of table_program table_bit
 act_bits i t a b ha hb = let e : 2 * (2 * 0 + a) + b ≡ 2 * a + b = omega arith in rw e (get_or-list_of gate_bits _ (2 * a + b) 0 (omega arith))
 
 module _ (p : Plan) (row : List ℕ) (bits : (i : ℕ) → get_or row i 0 ≤ 1) where

@@ -27,7 +27,7 @@ use Rattle.fabric_sizes.specs.FabricChecks.{fabric_fault}
 use Rattle.fabric_sheet.specs.Sheet.{kind_of, of_kind, kinds_of, sheet_of, kind_counting}
 use Rattle.fabric_sheet.proofs.KindsLaws.{Kinds, kinds_law, input_kinds, block_kinds, output_kinds, kinds_added}
 use Rattle.fabric_rows.specs.FabricCalls.{fabric_result}
-use Rattle.fabric_table_checks.proofs.WrittenTables.{table_of_lem, row_at_of, kind_at_of}
+use Rattle.fabric_table_checks.proofs.WrittenTables.{table_of, row_at_of, kind_at_of}
 use Rattle.fabric.specs.SheetPromise.{kinds_standing, PartStands, SheetStands, SheetPromise}
 use Rattle.fabric.proofs.FabricTableLaws.{table_of_lem}
 
@@ -42,7 +42,7 @@ count-total test f (suc n) = omega (arith, count-total test f n, total-append (�
 -- the rows b stand behind the rows a
 module _ (u v : ℕ) (rows : List Row) (outs : List ℕ) (family : Every InFamily rows) (a b c : List Row) (parts : rows ≡ a ++ (b ++ c)) where
   abbrev table : List ℕ
-  table = table_of_lem u v rows outs
+  table = table_of u v rows outs
 
   long : length rows ≡ length a + (length b + length c)
   long = ap length parts ∙ length-append a (b ++ c) ∙ ap (λ n. length a + n) (length-append b c)
@@ -78,7 +78,7 @@ module _ (u k v : ℕ) (table : List ℕ) (e : fabric_fault u k v (length table)
   abbrev past : List ℕ
   past = fabric_outs u k v ++ drop (length (fabric_table u k v)) table
 
-  written : fabric_result u k v table ≡ table_of_lem u v rows past
+  written : fabric_result u k v table ≡ table_of u v rows past
   written =
       rw e (ap (λ (t : List ℕ). t ++ drop (length (fabric_table u k v)) table) (table_of_lem u k v)
       ∙ ap (λ (t : List ℕ). u ∷ v ∷ length rows ∷ t) (append_assoc (flat rows) (fabric_outs u k v) (drop (length (fabric_table u k v)) table)))
@@ -97,18 +97,18 @@ module _ (u k v : ℕ) (table : List ℕ) (e : fabric_fault u k v (length table)
   in_order_lem = refl
 
   -- each part as the definition of the rows has it
-  stands : (a b c : List Row) → rows ≡ a ++ (b ++ c) → Kinds b → PartStands (table_of_lem u v rows past) (length a) (length b) b (kinds_of b)
+  stands : (a b c : List Row) → rows ≡ a ++ (b ++ c) → Kinds b → PartStands (table_of u v rows past) (length a) (length b) b (kinds_of b)
   stands a b c parts kinds = part-stands u v rows past (fabric_totals u k v).family a b c parts kinds
 
   output-behind : rows ≡ (input ++ block) ++ (output ++ [])
   output-behind = in_order_lem ∙ sym (append_assoc input block output) ∙ ap (λ (r : List Row). (input ++ block) ++ r) (sym (append-nil output))
 
-  sheet-stands : SheetStands u k v (table_of_lem u v rows past) (record { number = 0; sheet = sheet_of u k v })
+  sheet-stands : SheetStands u k v (table_of u v rows past) (record { number = 0; sheet = sheet_of u k v })
   sheet-stands = record {
     counted = refl;
     input = stands [] input (block ++ output) in_order_lem (input_kinds u k v);
     block = stands input block output in_order_lem (block_kinds u k v);
-    output = subst (λ i. PartStands (table_of_lem u v rows past) i (length output) output (kinds_of output)) (length-append input block)
+    output = subst (λ i. PartStands (table_of u v rows past) i (length output) output (kinds_of output)) (length-append input block)
         (stands (input ++ block) output [] output-behind (output_kinds u k v));
     sum = stands [] rows [] (sym (append-nil rows)) (kinds_law (fabric_totals u k v).family);
     whole = ap length in_order_lem ∙ length-append input (block ++ output) ∙ omega (arith, length-append block output);
@@ -123,7 +123,7 @@ module _ (u k v : ℕ) (table : List ℕ) (e : fabric_fault u k v (length table)
   promised : SheetStands u k v (fabric_result u k v table) (kind_counting u k v)
   promised =
       subst (λ (t : List ℕ). SheetStands u k v t (kind_counting u k v)) (sym written)
-      (subst (λ (o : SheetOutcome). SheetStands u k v (table_of_lem u v rows past) o) (sym counts_pass) sheet-stands)
+      (subst (λ (o : SheetOutcome). SheetStands u k v (table_of u v rows past) o) (sym counts_pass) sheet-stands)
 
 pub sheet_promise : SheetPromise
 sheet_promise = promised

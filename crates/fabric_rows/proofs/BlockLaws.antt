@@ -13,7 +13,7 @@ use Rattle.fault.proofs.PartsLaws.{length_over, over-part}
 use Rattle.elements.specs.declared.Kind.{Kind}
 use Rattle.elements.specs.Elements.{max_wires}
 use Rattle.elements.specs.declared.Counts.{Counts}
-use Rattle.blocks.specs.Elements.{Y, Gate, stride, flat, row_of_lem, wires_put, pair_rows, rows_put}
+use Rattle.blocks.specs.Elements.{Y, Gate, stride, flat, row_of, wires_put, pair_rows, rows_put}
 use Rattle.blocks.proofs.ElementsLaws.{flat_append, length-flat, wires-put, wire_after, length-pair_rows, length-flat-pairs, rows-put}
 use Rattle.blocks.specs.Networks.{selection_rows, selection_outs, selection_count, selection_wires}
 use Rattle.blocks.proofs.NetworksLaws.{length-selection_rows, selection-totals, length-selection_outs}
@@ -133,7 +133,7 @@ over-behind a b L n e =
 -- ---- the Y rows: P are the pins, with what was selected in front
 
 mix_pairs : (count : ℕ) (pins selected : List ℕ) → pair_rows Kind.Y count (drop count pins) selected 1 ≡ mix_rows count pins selected
-unfolding pair_rows mix_rows row_of_lem
+unfolding pair_rows mix_rows row_of
 mix_pairs count pins selected =
     list_of_ext count _ _ (λ j l.
     let e : 1 * j ≡ j = omega arith in

@@ -9,7 +9,7 @@ use lib.ListN.{length, get_or, take, drop, set}
 use lib.Seq.{get_or-take, get_or-drop}
 use Rattle.lists.specs.Lists.{list_of}
 use Rattle.lists.proofs.ListsLaws.{get_or-list_of}
-use Rattle.blocks.specs.Elements.{X, Y, Gate, gate_bits, takes, row_of_lem, choose, State, outputs, line_of_lem, gate_on_bits, bit_at, unpack}
+use Rattle.blocks.specs.Elements.{X, Y, Gate, gate_bits, takes, row_of, choose, State, outputs, line_of, gate_on_bits, bit_at, unpack}
 use Rattle.blocks.proofs.ElementsLaws.{unpack-at}
 use Rattle.fabric_run.specs.RunRows.{row_state, row_done, left_of, right_of, RowRoom}
 
@@ -43,8 +43,8 @@ choose-other (suc (suc b)) l r h = absurd (omega arith)
 
 -- ---- what a row makes of what it sees
 
-line_of_lem : (a b : ℕ) → line_of_lem 0 (a ∷ b ∷ []) ≡ 2 * a + b
-unfolding line_of_lem
+line_of_lem : (a b : ℕ) → line_of 0 (a ∷ b ∷ []) ≡ 2 * a + b
+unfolding line_of
 line_of_lem a b = omega arith
 
 module _ (program : List ℕ) (p : ℕ) (work : List ℕ) where
@@ -76,7 +76,7 @@ module _ (program : List ℕ) (n p : ℕ) (work : List ℕ) (s : State ℕ) (lef
   left-bit : (i : ℕ) → p + i < n → get_or s.bits i 0 ≡ bit_at program (p + i)
   left-bit i h = rw (left, get_or-drop p (unpack n program) i 0) (unpack-at n program (p + i) h)
 
-  left-table : p + gate_bits ≤ n → (a b : ℕ) → a ≤ 1 → b ≤ 1 → get_or (take gate_bits s.bits) (line_of_lem 0 (a ∷ b ∷ [])) 0 ≡ bit_at program (p + (2 * a + b))
+  left-table : p + gate_bits ≤ n → (a b : ℕ) → a ≤ 1 → b ≤ 1 → get_or (take gate_bits s.bits) (line_of 0 (a ∷ b ∷ [])) 0 ≡ bit_at program (p + (2 * a + b))
   left-table h a b ha hb =
       rw (line_of_lem a b, get_or-take gate_bits s.bits (2 * a + b) 0 (omega arith)) (left-bit (2 * a + b) (omega arith))
 
@@ -94,9 +94,9 @@ module _ (program : List ℕ) (n p : ℕ) (work : List ℕ) (s : State ℕ) (lef
     unfolding outputs gate_on_bits
     sees-g h = rw (g-makes program p work l r a b) (rw (el, er, left-table h (get_or work l 0) (get_or work r 0) a b))
 
-    pub sees_row : (kind : ℕ) → p + takes (row_of_lem kind l r) ≤ n
-        → outputs 0 gate_on_bits (row_of_lem kind l r) s ≡ outputs 0 gate_on_bits (row_of_lem kind l r) (row_state program p work)
-    unfolding row_of_lem takes
+    pub sees_row : (kind : ℕ) → p + takes (row_of kind l r) ≤ n
+        → outputs 0 gate_on_bits (row_of kind l r) s ≡ outputs 0 gate_on_bits (row_of kind l r) (row_state program p work)
+    unfolding row_of takes
     sees_row zero h = sees-g h
     sees_row (suc zero) h = sees-x h
     sees_row (suc (suc zero)) h = sees-y h

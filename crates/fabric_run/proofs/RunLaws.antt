@@ -9,7 +9,7 @@ use lib.Seq.{sets, length-sets}
 use Rattle.lists.specs.Lists.{list_of}
 use Rattle.fault.specs.Buffers.{over}
 use Rattle.elements.specs.Elements.{max_wires}
-use Rattle.blocks.specs.Elements.{makes, total, row_of_lem, outputs, step, run, gate_on_bits, unpack, AreBits, State}
+use Rattle.blocks.specs.Elements.{makes, total, row_of, outputs, step, run, gate_on_bits, unpack, AreBits, State}
 use Rattle.blocks.proofs.ElementsLaws.{run-append, run-wires, run-bits, unpack-bits}
 use Rattle.fabric_sizes.specs.Layout.{inputs_in, rows_in, kind_at, left_at, right_at, row_at, rows_to, wires_before, bits_before, wires_in, bits_in, row_start}
 use Rattle.fabric_sizes.proofs.LayoutLaws.{wires-more, bits-more}
@@ -124,7 +124,7 @@ module _ {table program row old : List ℕ} {i bit made : ℕ} {work : List ℕ}
 
     -- behind it the run stands before the next row
     pub stands-more : {at kind : ℕ} (c : RowCounts) (after : List ℕ) → at ≡ row_start i → kind ≡ kind_at table i → CountsOf kind c
-        → after ≡ row_done (row_of_lem kind (left_of table at) (right_of table at)) program bit made work
+        → after ≡ row_done (row_of kind (left_of table at) (right_of table at)) program bit made work
         → RunStands table program row old (i + 1) (bit + c.bits) (made + c.wires) after
     unfolding row_at
     stands-more c after ea ek own e =

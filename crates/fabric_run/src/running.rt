@@ -3,7 +3,7 @@
 ghost use Rattle.std.specs.Prelude.{◌≡◌, [], ◌∷◌, ◌++◌, ◌+◌, ◌<◌, ◌≤◌, length};
 ghost use Rattle.std.proofs.lemmas.List.Edits.{sets};
 ghost use Rattle.fault.specs.Buffers.{over};
-ghost use Rattle.blocks.specs.Elements.{X, Y, Gate, row_of_lem, choose};
+ghost use Rattle.blocks.specs.Elements.{X, Y, Gate, row_of, choose};
 ghost use Rattle.fabric_table_checks.specs.Counting.{kind_wires};
 ghost use Rattle.fabric_run.specs.Running.{run_wires};
 ghost use Rattle.fabric_run.specs.RunRows.{Runnable, RowRoom, ResultRoom, outputs_on, left_of, right_of, row_done};
@@ -56,7 +56,7 @@ fn run_row(
     work: &mut [u8],
 )
     requires { RowRoom (kind_wires kind) table.now at bit made work.old }
-    ensures { work.new ≡ row_done (row_of_lem kind (left_of table.now at) (right_of table.now at)) program.now bit made work.old }
+    ensures { work.new ≡ row_done (row_of kind (left_of table.now at) (right_of table.now at)) program.now bit made work.old }
 {
     if kind == KIND_X {
         run_x(table, at, program, bit, made, work);

@@ -2,7 +2,7 @@
 -- the wires and program bits that its rows make and take. Rows and outputs count from 0.
 use Rattle.std.specs.Prelude.{ℕ, suc, ◌+◌, ◌*◌, List, get_or}
 use Rattle.lists.specs.Lists.{list_of}
-use Rattle.blocks.specs.Elements.{Row, stride, makes, takes, total, row_of_lem}
+use Rattle.blocks.specs.Elements.{Row, stride, makes, takes, total, row_of}
 
 -- ---- where the entries stand
 
@@ -53,7 +53,7 @@ abbrev pub right_at : List ℕ → ℕ → ℕ
 right_at table i = get_or table (row_start i + right_place) 0
 
 unfoldable pub row_at : List ℕ → ℕ → Row
-row_at table i = row_of_lem (kind_at table i) (left_at table i) (right_at table i)
+row_at table i = row_of (kind_at table i) (left_at table i) (right_at table i)
 
 -- output wire j
 abbrev pub output_wire_at : List ℕ → ℕ → ℕ

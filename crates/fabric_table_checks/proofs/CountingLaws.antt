@@ -7,7 +7,7 @@ use native.Mathlib.Numerals.{add-one}
 use native.Mathlib.Decide.{ℕ_discrete}
 use Rattle.lists.specs.Lists.{list_of}
 use Rattle.elements.specs.Elements.{max_wires}
-use Rattle.blocks.specs.Elements.{X, Y, Gate, gate_bits, makes, takes, total, row_of_lem}
+use Rattle.blocks.specs.Elements.{X, Y, Gate, gate_bits, makes, takes, total, row_of}
 use Rattle.plan.specs.Record.{max_inputs}
 use Rattle.fabric_sizes.specs.Layout.{inputs_in, kind_at, left_at, right_at, row_at, wires_before, bits_before}
 use Rattle.fabric_sizes.proofs.LayoutLaws.{wires-more, bits-more}
@@ -26,16 +26,16 @@ pub record Countable (w b : ℕ) : Type 0 where
 
 -- ---- the row of a kind
 
-pub kind-x : (kind l r : ℕ) → kind ≡ 1 → row_of_lem kind l r ≡ X l r
-unfolding row_of_lem
+pub kind-x : (kind l r : ℕ) → kind ≡ 1 → row_of kind l r ≡ X l r
+unfolding row_of
 kind-x kind l r e = rw e
 
-pub kind-y : (kind l r : ℕ) → kind ≡ 2 → row_of_lem kind l r ≡ Y l r
-unfolding row_of_lem
+pub kind-y : (kind l r : ℕ) → kind ≡ 2 → row_of kind l r ≡ Y l r
+unfolding row_of
 kind-y kind l r e = rw e
 
-pub kind-g : (kind l r : ℕ) → (kind ≡ 1 → ⊥) → (kind ≡ 2 → ⊥) → row_of_lem kind l r ≡ Gate (l ∷ r ∷ [])
-unfolding row_of_lem
+pub kind-g : (kind l r : ℕ) → (kind ≡ 1 → ⊥) → (kind ≡ 2 → ⊥) → row_of kind l r ≡ Gate (l ∷ r ∷ [])
+unfolding row_of
 kind-g zero l r nx ny = refl
 kind-g (suc zero) l r nx ny = absurd (nx refl)
 kind-g (suc (suc zero)) l r nx ny = absurd (ny refl)
@@ -43,13 +43,13 @@ kind-g (suc (suc (suc k))) l r nx ny = refl
 
 -- it makes and takes what its kind says: two wires and four bits at most
 pub record OfKind (kind l r : ℕ) : Type 0 where
-  pub wires : makes (row_of_lem kind l r) ≡ kind_wires kind
-  pub bits : takes (row_of_lem kind l r) ≡ kind_bits kind
+  pub wires : makes (row_of kind l r) ≡ kind_wires kind
+  pub bits : takes (row_of kind l r) ≡ kind_bits kind
   pub few_wires : kind_wires kind ≤ 2
   pub few_bits : kind_bits kind ≤ gate_bits
 
 pub of_kind_lem : (kind l r : ℕ) → OfKind kind l r
-unfolding row_of_lem makes takes
+unfolding row_of makes takes
 of_kind_lem zero l r = record { wires = refl; bits = refl; few_wires = omega arith; few_bits = omega arith }
 of_kind_lem (suc zero) l r = record { wires = refl; bits = refl; few_wires = omega arith; few_bits = omega arith }
 of_kind_lem (suc (suc zero)) l r = record { wires = refl; bits = refl; few_wires = omega arith; few_bits = omega arith }

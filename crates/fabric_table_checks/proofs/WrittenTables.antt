@@ -12,26 +12,26 @@ use lib.Seq.{get_or-append-add}
 use Rattle.lists.specs.Lists.{list_of, Below, Every, every-none, every_more}
 use Rattle.lists.proofs.ListsLaws.{list_of_ext, list_of-get_or, below-append, below_more}
 use Rattle.elements.specs.Elements.{max_wires}
-use Rattle.blocks.specs.Elements.{Row, X, Y, Gate, stride, inputs_of, makes, takes, total, entries, flat, row_of_lem, InFamily, MadeBefore, made_none, made_more}
+use Rattle.blocks.specs.Elements.{Row, X, Y, Gate, stride, inputs_of, makes, takes, total, entries, flat, row_of, InFamily, MadeBefore, made_none, made_more}
 use Rattle.blocks.proofs.ElementsLaws.{length-flat, decode-flat, decode-at}
 use Rattle.plan.specs.Record.{max_inputs, max_outputs}
 use Rattle.fabric_sizes.specs.Layout.{header, kind_at, left_at, right_at, row_at, output_wire_at, rows_to, table_rows, wires_before, bits_before, wires_in, bits_in}
 use Rattle.fabric_table_checks.specs.TableFault.{WellFormed, RowWithin}
 
 -- the table of these rows and output wires
-abbrev pub table_of_lem : ℕ → ℕ → List Row → List ℕ → List ℕ
-table_of_lem u v rows outs = u ∷ v ∷ length rows ∷ (flat rows ++ outs)
+abbrev pub table_of : ℕ → ℕ → List Row → List ℕ → List ℕ
+table_of u v rows outs = u ∷ v ∷ length rows ∷ (flat rows ++ outs)
 
 module _ (u v : ℕ) (rows : List Row) (outs : List ℕ) (family : Every InFamily rows) where
   -- what stands past the header, among the rows
-  past-header : (x : ℕ) → get_or (table_of_lem u v rows outs) (header + x) 0 ≡ get_or (flat rows ++ outs) x 0
+  past-header : (x : ℕ) → get_or (table_of u v rows outs) (header + x) 0 ≡ get_or (flat rows ++ outs) x 0
   past-header x = get_or-append-add (u ∷ v ∷ length rows ∷ []) (flat rows ++ outs) x 0
 
-  row-entry : (x : ℕ) → x < stride * length rows → get_or (table_of_lem u v rows outs) (header + x) 0 ≡ get_or (flat rows) x 0
+  row-entry : (x : ℕ) → x < stride * length rows → get_or (table_of u v rows outs) (header + x) 0 ≡ get_or (flat rows) x 0
   row-entry x l = past-header x ∙ get_or-append (flat rows) outs 0 x (rw (length-flat family) l)
 
   -- row i, the rows, and output j are read back
-  pub row_at_of : (i : ℕ) (d : Row) → i < length rows → row_at (table_of_lem u v rows outs) i ≡ get_or rows i d
+  pub row_at_of : (i : ℕ) (d : Row) → i < length rows → row_at (table_of u v rows outs) i ≡ get_or rows i d
   unfolding row_at
   row_at_of i d l =
       let at = decode-at (flat rows) i d (rw (decode-flat family) l) in
@@ -43,12 +43,12 @@ module _ (u v : ℕ) (rows : List Row) (outs : List ℕ) (family : Every InFamil
         row-entry (stride * i + 2) (omega arith),
       ) (sym at ∙ ap (λ (rs : List Row). get_or rs i d) (decode-flat family))
 
-  pub table_rows_of : table_rows (table_of_lem u v rows outs) ≡ rows
+  pub table_rows_of : table_rows (table_of u v rows outs) ≡ rows
   table_rows_of = list_of_ext (length rows) _ (λ i. get_or rows i (X 0 0)) (λ i l. row_at_of i (X 0 0) l) ∙ list_of-get_or rows (X 0 0)
 
-  pub output_of_lem : (j : ℕ) → output_wire_at (table_of_lem u v rows outs) j ≡ get_or outs j 0
+  pub output_of_lem : (j : ℕ) → output_wire_at (table_of u v rows outs) j ≡ get_or outs j 0
   output_of_lem j =
-      ap (λ x. get_or (table_of_lem u v rows outs) x 0) (add_assoc header (stride * length rows) j) ∙ past-header (stride * length rows + j)
+      ap (λ x. get_or (table_of u v rows outs) x 0) (add_assoc header (stride * length rows) j) ∙ past-header (stride * length rows + j)
       ∙ ap (λ x. get_or (flat rows ++ outs) (x + j) 0) (sym (length-flat family)) ∙ get_or-append-add (flat rows) outs j 0
 
 -- ---- its kinds
@@ -82,13 +82,13 @@ kind-at (every_more {a = row} {l = rows} f fs) (suc i) d l =
     rw (e, past_row row (flat rows) (stride * i) f) (kind-at fs i d (omega arith))
 
 pub kind_at_of : (u v : ℕ) (rows : List Row) (outs : List ℕ) → Every InFamily rows → (i : ℕ) (d : Row) → i < length rows
-    → kind_at (table_of_lem u v rows outs) i ≡ get_or (entries (get_or rows i d)) 0 0
+    → kind_at (table_of u v rows outs) i ≡ get_or (entries (get_or rows i d)) 0 0
 kind_at_of u v rows outs family i d l = row-entry u v rows outs family (stride * i) (omega arith) ∙ kind-at family i d l
 
 -- ---- its wires
 
-wires_of : (k l r : ℕ) → inputs_of (row_of_lem k l r) ≡ l ∷ r ∷ []
-unfolding inputs_of row_of_lem
+wires_of : (k l r : ℕ) → inputs_of (row_of k l r) ≡ l ∷ r ∷ []
+unfolding inputs_of row_of
 wires_of zero l r = refl
 wires_of (suc zero) l r = refl
 wires_of (suc (suc zero)) l r = refl
@@ -137,18 +137,18 @@ flat-below {limit} h (made_more {row = row} b m) l =
 
 -- rows of the family whose wires are made before them, and outputs that are made, give a well_formed_lem table
 module _ (u v : ℕ) (rows : List Row) (outs : List ℕ) (family : Every InFamily rows) where
-  pub wires_in_of : wires_in (table_of_lem u v rows outs) ≡ suc u + total makes rows
+  pub wires_in_of : wires_in (table_of u v rows outs) ≡ suc u + total makes rows
   unfolding wires_before
   wires_in_of = ap (λ (rs : List Row). suc u + total makes rs) (table_rows_of u v rows outs family)
 
-  pub bits_in_of : bits_in (table_of_lem u v rows outs) ≡ total takes rows
+  pub bits_in_of : bits_in (table_of u v rows outs) ≡ total takes rows
   unfolding bits_before
   bits_in_of = ap (total takes) (table_rows_of u v rows outs family)
 
-  row_of_lem : MadeBefore (suc u) rows → (i : ℕ) → i < length rows → RowWithin (table_of_lem u v rows outs) i
+  row_of_lem : MadeBefore (suc u) rows → (i : ℕ) → i < length rows → RowWithin (table_of u v rows outs) i
   unfolding wires_before row_at
   row_of_lem made i l =
-      let table : List ℕ = table_of_lem u v rows outs in
+      let table : List ℕ = table_of u v rows outs in
       let kind : (1 ≤ kind_at table i) × (kind_at table i ≤ 3)
       = rw (kind_at_of u v rows outs family i (X 0 0) l) (kind-within (get_or rows i (X 0 0))) in
       let before : Below (suc u + total makes (rows_to table i)) (left_at table i ∷ right_at table i ∷ [])
@@ -157,7 +157,7 @@ module _ (u v : ℕ) (rows : List Row) (outs : List ℕ) (family : Every InFamil
       record { some_kind = kind.0; kind = kind.1; left = before.each 0 (omega arith); right = before.each 1 (omega arith) }
 
   pub well_formed_of : (1 ≤ u) × (u ≤ max_inputs) → (1 ≤ v) × (v ≤ max_outputs) → MadeBefore (suc u) rows → length outs ≡ v
-      → Below (suc u + total makes rows) outs → suc u + total makes rows ≤ max_wires → WellFormed (table_of_lem u v rows outs)
+      → Below (suc u + total makes rows) outs → suc u + total makes rows ≤ max_wires → WellFormed (table_of u v rows outs)
   well_formed_of hu hv made size below limit = record {
     start = record {
       long = omega arith;

@@ -1,7 +1,7 @@
 -- Wires and program bits, as the code counts them through the rows.
 use Rattle.std.specs.Prelude.{ℕ, ◌*◌, ◌≤◌, ◌≡◌}
 use Rattle.elements.specs.Elements.{max_wires}
-use Rattle.blocks.specs.Elements.{gate_bits, makes, takes, row_of_lem}
+use Rattle.blocks.specs.Elements.{gate_bits, makes, takes, row_of}
 use Rattle.fabric_table_checks.specs.declared.table.RowCounts.{RowCounts}
 
 -- the program bits of the longest table, which has fewer than 65,536 rows
@@ -10,10 +10,10 @@ max_bits = gate_bits * max_wires
 
 -- what a row of a kind makes and takes is the same whatever its wires
 abbrev pub kind_wires : ℕ → ℕ
-kind_wires kind = makes (row_of_lem kind 0 0)
+kind_wires kind = makes (row_of kind 0 0)
 
 abbrev pub kind_bits : ℕ → ℕ
-kind_bits kind = takes (row_of_lem kind 0 0)
+kind_bits kind = takes (row_of kind 0 0)
 
 -- both, as the code counts them
 pub record CountsOf (kind : ℕ) (c : RowCounts) : Type 0 where

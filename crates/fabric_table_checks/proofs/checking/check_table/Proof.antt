@@ -26,12 +26,12 @@ header-passes : (c : tie.After-enum-told) → 0 ≡ header_fault (start c).args.
 header-passes c = ap answer_number (sym c.enum_told.given.1) ∙ c.before.before.check-header.ensures
 
 module _ (c : tie.After-c) where
-  abbrev table_of_lem : List ℕ
-  table_of_lem = (start c.before.before.before).args.table.now
+  abbrev table_of : List ℕ
+  table_of = (start c.before.before.before).args.table.now
 
-  rows_pass : CountedBy (first_of (row_fault table_of_lem) (rows_in table_of_lem)) table_of_lem c.c.given.0.0
+  rows_pass : CountedBy (first_of (row_fault table_of) (rows_in table_of)) table_of c.c.given.0.0
   rows_pass =
-      counted_by (first_of (row_fault table_of_lem) (rows_in table_of_lem)) table_of_lem c.c.given.0.0
+      counted_by (first_of (row_fault table_of) (rows_in table_of)) table_of c.c.given.0.0
       (ap check_outcome (sym c.c.given.1) ∙ c.before.before.check-rows.ensures.0)
 
 for_rows : tie.Need-check-rows-requires
@@ -39,7 +39,7 @@ for_rows c κs = (header-faultless (start c).args.table.now).0 (sym (header-pass
 
 for_end : tie.Need-check-end-requires
 for_end c κs =
-    ((header-faultless (table_of_lem c.before)).0 (sym (header-passes c.before.before.before.before)), (rows_pass c.before).counted.wires)
+    ((header-faultless (table_of c.before)).0 (sym (header-passes c.before.before.before.before)), (rows_pass c.before).counted.wires)
 
 bad-header : tie.Need-returns
 unfolding table_fault
@@ -70,7 +70,7 @@ bad_end c =
     let f = c.before.f3.given in
     let asked = c.before.before.before in
     let rows = asked.before.before in (
-      refused-table f.0.0 (table_fault (table_of_lem rows)) (table_of_lem rows)
+      refused-table f.0.0 (table_fault (table_of rows)) (table_of rows)
           (◌then◌ (header-passes rows.before.before.before)
           (◌then◌ (rows_pass rows).passes (ap answer_number (sym f.1) ∙ asked.check-end.ensures))),
       omega arith,
@@ -82,7 +82,7 @@ well_formed_lem c =
     let asked = c.before.before in
     let rows = asked.before.before in
     let counts = rows.c.given in (
-      counted-table (table_fault (table_of_lem rows)) (table_of_lem rows) counts.0.0
+      counted-table (table_fault (table_of rows)) (table_of rows) counts.0.0
           (◌then◌ (header-passes rows.before.before.before)
           (◌then◌ (rows_pass rows).passes (ap answer_number (sym c.enum-told2.given.1) ∙ asked.check-end.ensures)))
           (rows_pass rows).counted,
