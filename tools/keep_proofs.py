@@ -104,7 +104,7 @@ def convert(text, entry, asked, where):
     # today's name of a need to its old one
     older = {b: a for a, b in entry["needs"]}
     needs = [norm(older.get(a, "same-length" if a.startswith("shape_of") else a)) for a in asked]
-    kinds = [norm(typed[a]) if a in typed else None for a in args[n_loops:]]
+    kinds = [re.sub(r"-lem(?=-|$)", "", norm(typed[a])) if a in typed else None for a in args[n_loops:]]
     paired, dropped = align(args[n_loops:], kinds, needs)
     need_names = {}
     for j, i in enumerate(paired):
@@ -145,7 +145,8 @@ def convert(text, entry, asked, where):
         for word in ("invariant", "decreases"):
             if name.startswith(word + "-"):
                 return f"tie.{word}-" + loops.get(norm(name[len(word) + 1:]), name[len(word) + 1:])
-        return "tie." + places.get(norm(name), name)
+        n = norm(name)
+        return "tie." + (places.get(n) or places.get(re.sub(r"-lem$", "", n)) or name)
 
     text = re.sub(rf"tie\.({WORD})", of_tie, text)
     for a, new in need_names.items():
@@ -160,8 +161,10 @@ def convert(text, entry, asked, where):
         while i < len(steps):
             s = steps[i]
             n = norm(s)
+            if n not in fields and n.endswith("-lem"):
+                n = n[:-4]
             own = n in fields and re.search(r"-1$", fields[n][0]) and not (steps[i - 1] == "before" if i else before in ("c", "s", "at", "past"))
-            if n in fields and not (i and steps[i - 1] in VALUES) and not (i == 0 and before in given) and not own:
+            if n in fields and not (i and steps[i - 1] in (*VALUES, *loops.values())) and not (i == 0 and before in given) and not own:
                 new, callee, subs = fields[n]
                 out.append(new)
                 i += 1
