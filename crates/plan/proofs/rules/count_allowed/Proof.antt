@@ -4,11 +4,11 @@ use Rattle.plan.specs.Rules.{count_allowed}
 use Rattle.plan.proofs.rules.count_allowed.Statement.{statement}
 use Rattle.plan.proofs.rules.count_allowed.Tie as tie
 
-none : tie.Need-returns
+none : tie.Need-returns-then-count-eq0
 unfolding count_allowed
-none c = rw c.if1.true
+none c = rw c.if-count-eq0.true
 
-some : tie.Need-returns-2
+some : tie.Need-returns
 unfolding count_allowed
 some c = rw (le-leb 1 c.before.args.count (omega arith))
 

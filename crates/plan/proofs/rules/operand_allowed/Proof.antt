@@ -4,11 +4,11 @@ use Rattle.plan.specs.Rules.{operand_allowed}
 use Rattle.plan.proofs.rules.operand_allowed.Statement.{statement}
 use Rattle.plan.proofs.rules.operand_allowed.Tie as tie
 
-zero-wire : tie.Need-returns
+zero-wire : tie.Need-returns-then-wire-eq0
 unfolding operand_allowed
-zero-wire c = rw c.if1.true
+zero-wire c = rw c.if-wire-eq0.true
 
-other-wire : tie.Need-returns-2
+other-wire : tie.Need-returns
 unfolding operand_allowed
 other-wire c = rw (le-leb 1 c.before.before.before.before.args.wire.0 (omega arith))
 

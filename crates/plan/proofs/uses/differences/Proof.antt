@@ -5,31 +5,29 @@ use Rattle.lists.specs.Counting.{count_of}
 use Rattle.plan.proofs.uses.differences.Statement.{statement}
 use Rattle.plan.proofs.uses.differences.Tie as tie
 
-abbrev invariant_loop : tie.invariant-loop
+abbrev invariant_loop : tie.invariant-loop-i
 invariant_loop n a b different₀ i₀ different i = (i ≤ n) × (different ≤ i) × (different ≡ count_of (λ i. not (eqb (get_or a i 0) (get_or b i 0))) i)
 
-abbrev decreases_loop : tie.decreases-loop
+abbrev decreases_loop : tie.decreases-loop-i
 decreases_loop n a b different₀ i₀ different i = n - i
 
-holds : tie.Need-loop-init invariant_loop decreases_loop
+holds : tie.Need-loop-i-init invariant_loop decreases_loop
 unfolding count_of
 holds c = (omega arith, omega arith, refl)
 
-small : tie.Need-overflow-add-different invariant_loop decreases_loop
-small c = let loop = c.before.before.before.before.loop in Fits-below {n = 321} tt (omega (arith, loop.invariant.1, c.differ.ensures.1))
+small : tie.Need-overflow_add-different invariant_loop decreases_loop
+small c = let loop = c.before.before.before.before.loop-i in Fits-below {n = 321} tt (omega (arith, loop.invariant.1, c.differ-different.ensures.1))
 
-again : tie.Need-loop-preserved invariant_loop decreases_loop
+again : tie.Need-loop-i-preserved invariant_loop decreases_loop
 unfolding count_of
 again c =
-    let loop = c.before.before.before.before.loop in
-    (omega arith, omega (arith, loop.invariant.1, c.differ.ensures.1), rw (add-one loop.i) (ap₂ ◌+◌ loop.invariant.2 c.differ.ensures.0))
+    let loop = c.before.before.before.before.loop-i in
+    (omega arith, omega (arith, loop.invariant.1, c.differ-different.ensures.1), rw (add-one loop.i) (ap₂ ◌+◌ loop.invariant.2 c.differ-different.ensures.0))
 
 found : tie.Need-returns invariant_loop decreases_loop
-found c = let loop = c.before.loop in let all : loop.i ≡ c.before.before.args.n = omega arith in rw (← all) loop.invariant.2
+found c = let loop = c.before.loop-i in let all : loop.i ≡ c.before.before.args.n = omega arith in rw (← all) loop.invariant.2
 
 pub differences_spec : {M : Type 1} → statement M
 differences_spec =
     tie.close
-    (tie.spec invariant_loop decreases_loop
-    holds (λ c. search rules) (λ c. search rules) (λ c. search rules) (λ c. search rules) (λ c κs. search rules) small (λ c. search rules)
-    (λ c. search rules) again found)
+    (tie.spec invariant_loop decreases_loop holds (λ c. search rules) (λ c. search rules) (λ c. search rules) (λ c. search rules) (λ c κs. search rules) small (λ c. search rules) (λ c. search rules) again found)
