@@ -13,26 +13,24 @@ use Rattle.block_sizes.proofs.SizesLaws.{RowCount, row_count}
 use Rattle.block_sizes.proofs.permutation_count.Statement.{statement}
 use Rattle.block_sizes.proofs.permutation_count.Tie as tie
 
-power : (c : tie.After-ceil-log) → c.before.ceil-power.result ≡ 2 ^ c.ceil-log.result
+power : (c : tie.After-ceil_log-level) → c.before.ceil_power-size.result ≡ 2 ^ c.ceil_log-level.result
 unfolding ceil_power
-power c = c.before.ceil-power.ensures ∙ ap (λ k. 2 ^ k) (sym c.ceil-log.ensures)
+power c = c.before.ceil_power-size.ensures ∙ ap (λ k. 2 ^ k) (sym c.ceil_log-level.ensures)
 
-counted : (c : tie.After-ceil-log) → RowCount c.before.ceil-power.result c.ceil-log.result
+counted : (c : tie.After-ceil_log-level) → RowCount c.before.ceil_power-size.result c.ceil_log-level.result
 counted c = row_count (power c)
 
 -- 2 to the power 32, 32 times, at most
-small : (c : tie.After-ceil-log) → c.before.ceil-power.result * c.ceil-log.result ≤ 2 ^ 32 * 32
+small : (c : tie.After-ceil_log-level) → c.before.ceil_power-size.result * c.ceil_log-level.result ≤ 2 ^ 32 * 32
 small c =
-    let few : c.ceil-log.result ≤ 32 = omega (arith, ceil_log-least c.before.before.args.n 32 (omega arith)) in
-    let top : c.before.ceil-power.result ≤ 2 ^ 32 = rw (power c) (pow_mono few) in
+    let few : c.ceil_log-level.result ≤ 32 = omega (arith, ceil_log-least c.before.before.args.n 32 (omega arith)) in
+    let top : c.before.ceil_power-size.result ≤ 2 ^ 32 = rw (power c) (pow_mono few) in
     mul-le-mul top few
 
 counts : tie.Need-returns
-counts c = (counted c).count ∙ ap permutation_count c.ceil-log.ensures
+counts c = (counted c).count ∙ ap permutation_count c.ceil_log-level.ensures
 
 pub permutation_count_spec : {M : Type 1} → statement M
 permutation_count_spec =
     tie.close
-    (tie.spec
-    (λ c κs. search rules) (λ c κs. search rules) (λ c. search rules)
-    (λ c. omega (arith, small c)) (λ c. omega (arith, small c)) (λ c. (counted c).enough) counts)
+    (tie.spec (λ c κs. search rules) (λ c κs. search rules) (λ c. search rules) (λ c. omega (arith, small c)) (λ c. omega (arith, small c)) (λ c. (counted c).enough) counts)

@@ -8,20 +8,20 @@ use Rattle.block_sizes.proofs.SizesLaws.{SelectionCounts, selection-counts}
 use Rattle.block_sizes.proofs.selection_count.Statement.{statement}
 use Rattle.block_sizes.proofs.selection_count.Tie as tie
 
-counted : (c : tie.After-permutation-count)
-    → let a = c.before.before.before.args in SelectionCounts a.m a.n c.permutation-count.result c.before.before.selection-positions.result
+counted : (c : tie.After-permutation_count-one)
+    → let a = c.before.before.before.args in SelectionCounts a.m a.n c.permutation_count-one.result c.before.before.selection_positions-size.result
 counted c =
     let a = c.before.before.before.args in
     selection-counts a.m a.n _ _ (omega arith) (omega arith)
-    (c.permutation-count.ensures ∙ ap (λ n. permutation_count (level_of n)) c.before.larger.ensures) c.before.before.selection-positions.ensures
+    (c.permutation_count-one.ensures ∙ ap (λ n. permutation_count (level_of n)) c.before.larger.ensures) c.before.before.selection_positions-size.ensures
 
-some : tie.Need-overflow-sub-result
+some : tie.Need-overflow_sub-result
 some c = (counted c).some
 
-fits : tie.Need-overflow-add-result
+fits : tie.Need-overflow_add-result
 fits c = let s = counted c in omega arith
 
-all-fits : tie.Need-overflow-add-result-2
+all-fits : tie.Need-overflow_add-result-2
 all-fits c = let s = counted c in omega arith
 
 counts : tie.Need-returns

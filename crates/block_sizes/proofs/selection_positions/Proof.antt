@@ -8,7 +8,7 @@ use Rattle.block_sizes.proofs.selection_positions.Tie as tie
 
 size : tie.Need-returns
 unfolding selection_level ceil_power
-size c = c.ceil-power.ensures ∙ ap ceil_power c.before.larger.ensures
+size c = c.ceil_power.ensures ∙ ap ceil_power c.before.larger.ensures
 
 pub selection_positions_spec : {M : Type 1} → statement M
 selection_positions_spec = tie.close (tie.spec (λ c κs. search rules) (λ c κs. search rules) size)
