@@ -179,6 +179,18 @@ def convert(text, entry, asked, where):
                 out.append("requires")
                 i += 1
                 continue
+            # what a callee left in its parameters goes by their names
+            if s in ("last", "new") and out:
+                out.append("new")
+                i += 1
+                k = i
+                while k < len(steps) and steps[k] == "1":
+                    k += 1
+                names = entry["params"].get(callee, ())
+                if k < len(steps) and steps[k] == "0" and k - i < len(names):
+                    out.append(names[k - i])
+                    i = k + 1
+                continue
             if s == "inv":
                 out.append("invariant")
                 i += 1

@@ -11,19 +11,19 @@ use Rattle.block_rows.proofs.WiresLaws.{copied-front}
 use Rattle.block_rows.proofs.wires.copy_wires.Statement.{statement}
 use Rattle.block_rows.proofs.wires.copy_wires.Tie as tie
 
-abbrev invariant_loop : tie.invariant-loop-i
+abbrev invariant_loop : tie.invariant-loop
 invariant_loop from to₀ end i₀ to i = (i ≤ end) × (length to ≡ length to₀) × (to ≡ over (list_of i (λ j. get_or from j 0)) to₀)
 
-abbrev decreases_loop : tie.decreases-loop-i
+abbrev decreases_loop : tie.decreases-loop
 decreases_loop from to₀ end i₀ to i = end - i
 
-holds : tie.Need-loop-i-init invariant_loop decreases_loop
+holds : tie.Need-loop-init invariant_loop decreases_loop
 unfolding list_of
 holds c = (omega arith, refl, refl)
 
-again : tie.Need-loop-i-preserved invariant_loop decreases_loop
+again : tie.Need-loop-preserved invariant_loop decreases_loop
 again c =
-    let loop = c.before.before.loop-i in
+    let loop = c.before.before.loop in
     let a = c.before.before.before.before.before.before.args in
     let written =
     ap (λ l. set l loop.i (get_or a.from.now loop.i 0)) loop.invariant.2
@@ -33,9 +33,11 @@ again c =
 all : tie.Need-returns invariant_loop decreases_loop
 all c =
     let a = c.before.before.before.before.before.args in
-    copied-front a.from.now a.to.now _ c.before.loop-i.i c.before.loop-i.invariant.2 (omega arith)
+    copied-front a.from.now a.to.now _ c.before.loop.i c.before.loop.invariant.2 (omega arith)
 
 pub copy_wires_spec : {M : Type 1} → statement M
 copy_wires_spec =
     tie.close
-    (tie.spec invariant_loop decreases_loop (λ c κs. search rules) holds (λ c. search rules) (λ c. search rules) (λ c. search rules) (λ c. search rules) (λ c. search rules) (λ c. search rules) again (λ c. search rules) all)
+    (tie.spec invariant_loop decreases_loop
+    (λ c κs. search rules) holds (λ c. search rules) (λ c. search rules) (λ c. search rules) (λ c. search rules) (λ c. search rules)
+    (λ c. search rules) again (λ c. search rules) all)
