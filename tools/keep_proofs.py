@@ -90,7 +90,13 @@ def convert(text, entry, asked, where):
     fields = {}
     for name, parent, pair, callee, subs in entry["places"]:
         if pair[0]:
-            fields[norm(pair[0])] = (pair[1], callee, {norm(a): b for a, b in subs})
+            before = fields.get(norm(pair[0]), (0, 0, {}))[2]
+            fields[norm(pair[0])] = (pair[1], callee, {**before, **{norm(a): b for a, b in subs}})
+    # an arm of a match is one step, which has what its parts had
+    arms = {}
+    for arm in entry["arms"]:
+        for field, step, way in arm[2] if arm else ():
+            arms.setdefault(norm(step), {})[tuple(way)] = (arm[0], field)
     places = {norm(old[0]): new for old, new in zip(entry["places"], entry["places_by_name"])}
     loops = {norm(pair[0]): pair[1] for pair, _ in entry["loops"]}
 
@@ -163,6 +169,15 @@ def convert(text, entry, asked, where):
             n = norm(s)
             if n not in fields and n.endswith("-lem"):
                 n = n[:-4]
+            if n in arms:
+                ways = [w for w in arms[n] if list(w) == ["given" if x == "known" else x for x in steps[i + 1:i + 1 + len(w)]]]
+                if ways:
+                    w = max(ways, key=len)
+                    arm, field = arms[n][w]
+                    out += [arm] if not w else [arm, field]
+                    callee, subs = None, {}
+                    i += 1 + len(w)
+                    continue
             own = n in fields and re.search(r"-1$", fields[n][0]) and not (steps[i - 1] == "before" if i else before in ("c", "s", "at", "past"))
             if n in fields and not (i and steps[i - 1] in (*VALUES, *loops.values())) and not (i == 0 and before in given) and not own:
                 new, callee, subs = fields[n]
@@ -205,6 +220,123 @@ def convert(text, entry, asked, where):
             out.append(line)
         else:
             out.append(re.sub(rf"(?<=[\w)₀-₉'])(?:\.(?!\s){WORD})+", path, line))
+    return reached("\n".join(out), entry)
+
+
+def reached(text, entry):
+    """Reads each step straight off the place at hand, and counts anew the way back to the place that a helper takes: today's code can have a step more or less."""
+    parent, new_of, base = {}, dict(zip([p[0] for p in entry["places"]], entry["places_by_name"])), {}
+    for (old, up, *_), new, arm in zip(entry["places"], entry["places_by_name"], entry["arms"]):
+        parent[new] = new_of.get(up)
+        if arm:
+            base.setdefault(arm[0], new_of.get(up))
+            parent[new] = base[arm[0]]
+    asked = {b: at[1] for (a, b), at in zip(entry["needs"], entry["asked_at"])}
+
+    def way(low, high):
+        n = 0
+        while low is not None and low != high:
+            low, n = parent.get(low), n + 1
+        return n if low == high and low is not None else None
+
+    # what each helper takes, and what it gives where that is a place
+    takes, gives = {}, {}
+    blocks, module = [], None
+    for block in re.split(r"\n(?=[^\s)])", text):
+        m = re.match(rf"module _ \(({WORD}) : tie\.({WORD})[^)]*\)", block)
+        if m:
+            for h in re.findall(rf"(?m)^  (?:abbrev )?({WORD}) :", block):
+                takes[h] = m[2]
+        m = re.match(rf"(?:abbrev )?({WORD}) : \({WORD} : tie\.({WORD})", block)
+        if m:
+            takes[m[1]] = m[2]
+        m = re.match(rf"(?:abbrev )?({WORD}) : tie\.((?!Need|invariant|decreases){WORD})((?: {WORD})*) → tie\.({WORD})", block)
+        if m:
+            takes[m[1]], gives[m[1]] = m[2], m[4]
+        m = re.match(rf"(?:abbrev )?({WORD}) : tie\.((?!Need|invariant|decreases){WORD})((?: {WORD})*) → ", block)
+        if m and m[1] not in takes:
+            takes[m[1]] = m[2]
+
+    def body(block, root, place):
+        """The block with its paths from root, which is at the place, written anew."""
+        aliases = {root}
+        chain = rf"(?:\.before)*"
+        helper = "|".join(re.escape(g) for g in sorted(gives, key=len, reverse=True)) or "(?!)"
+
+        def places():
+            return "|".join(re.escape(a) for a in sorted(aliases, key=len, reverse=True))
+
+        def expression():
+            simple = rf"(?:{places()}){chain}(?![\w.'-])"
+            once = rf"\((?:{helper}) (?:{simple})\){chain}(?![\w.'-])|(?:{helper}) (?:{simple})"
+            twice = rf"\((?:{helper}) \((?:{helper}) (?:{simple})\)\){chain}(?![\w.'-])|(?:{helper}) \((?:{helper}) (?:{simple})\)"
+            return rf"(?:{twice}|{once}|{simple})"
+
+        while True:
+            m = re.search(rf"let ({WORD}) = ({expression()}) in\s*", block)
+            if not m:
+                break
+            aliases.add(m[1])
+            block = block[:m.start()] + block[m.end():]
+        start = rf"(?<![\w.'«-])"
+        # a step behind any way back is the place's own
+        for _ in range(3):
+            block = re.sub(rf"{start}(?:\((?:{helper}) (?:{places()}){chain}\)|\((?:{helper}) \((?:{helper}) (?:{places()}){chain}\)\)){chain}\.(?!before)", f"{root}.", block)
+            block = re.sub(rf"{start}(?:{places()}){chain}\.(?!before)(?=[\w«])", f"{root}.", block)
+
+        # what is handed to a helper
+        def handed(m):
+            if m[1] not in takes or place is None:
+                return m[0]
+            n = way(place, takes[m[1]])
+            if n is None:
+                return m[0]
+            to = root + ".before" * n
+            return f"{m[1]} {to}"
+
+        names = "|".join(re.escape(h) for h in sorted(takes, key=len, reverse=True)) or "(?!)"
+        return re.sub(rf"{start}({names}) (?:\((?:{helper}) (?:{places()}){chain}\){chain}|\((?:{helper}) \((?:{helper}) (?:{places()}){chain}\)\){chain}|(?:{places()}){chain})(?![\w.'-])", handed, block)
+
+    out = []
+    for block in re.split(r"\n(?=[^\s)])", text):
+        m = re.match(rf"module _ \(({WORD}) : tie\.({WORD})[^)]*\)", block)
+        if m:
+            head, _, rest = block.partition("\n")
+            out.append(head + "\n" + body(rest, m[1], m[2]))
+            continue
+        out.append(block)
+    # a signature and its clause stand in blocks that follow one another
+    done, i = [], 0
+    while i < len(out):
+        block = out[i]
+        m = re.match(rf"(?:abbrev )?({WORD}) :", block)
+        if m and not block.startswith("module"):
+            name = m[1]
+            j = i + 1
+            place = None
+            need = re.search(rf": tie\.Need-({WORD})", block)
+            if need:
+                place = asked.get(need[1])
+            elif name in takes:
+                place = takes[name]
+            while j < len(out) and (out[j].startswith("unfolding") or out[j].startswith(name + " ")):
+                c = re.match(rf"{re.escape(name)} ({WORD})", out[j])
+                if c and (need or name in takes):
+                    if name in gives:
+                        n = way(takes[name], gives[name])
+                        if n is not None:
+                            out[j] = f"{name} {c[1]} = {c[1]}" + ".before" * n + ("\n" if out[j].endswith("\n") else "")
+                    else:
+                        head, eq, rest = out[j].partition("=")
+                        out[j] = head + eq + body(rest, c[1], place)
+                        if name in takes:
+                            p = re.match(rf"(?s)((?:abbrev )?{re.escape(name)} : \(({WORD}) : [^)]*\))(.*)", block)
+                            if p:
+                                out[i] = p[1] + body(p[3], p[2], place)
+                j += 1
+            i = j
+            continue
+        i += 1
     return "\n".join(out)
 
 

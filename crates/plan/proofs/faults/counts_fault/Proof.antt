@@ -9,31 +9,29 @@ use Rattle.plan.specs.Faults.{counts_fault}
 use Rattle.plan.proofs.faults.counts_fault.Statement.{statement}
 use Rattle.plan.proofs.faults.counts_fault.Tie as tie
 
-inputs_pass : (c : tie.Else-not-count_allowed) → 0 ≡ unless (count_allowed max_inputs c.before.before.args.inputs) Fault.Inputs
-inputs_pass c = test_passes Fault.Inputs c.before.count_allowed.ensures c.if-not-count_allowed.false-raw
+inputs_pass : (c : tie.Else-not-count_allowed) → 0 ≡ unless (count_allowed max_inputs c.args.inputs) Fault.Inputs
+inputs_pass c = test_passes Fault.Inputs c.count_allowed.ensures c.if-not-count_allowed.false-raw
 
-gates_pass : (c : tie.Else-not-count_allowed-2) → 0 ≡ unless (count_allowed max_gates c.before.before.before.before.args.gates) Fault.Gates
-gates_pass c = test_passes Fault.Gates c.before.count_allowed-2.ensures c.if-not-count_allowed-2.false-raw
+gates_pass : (c : tie.Else-not-count_allowed-2) → 0 ≡ unless (count_allowed max_gates c.args.gates) Fault.Gates
+gates_pass c = test_passes Fault.Gates c.count_allowed-2.ensures c.if-not-count_allowed-2.false-raw
 
 inputs : tie.Need-returns-then-not-count_allowed
 unfolding counts_fault
-inputs c = stop Fault.Inputs _ (test_refuses Fault.Inputs c.before.count_allowed.ensures c.if-not-count_allowed.true-raw)
+inputs c = stop Fault.Inputs _ (test_refuses Fault.Inputs c.count_allowed.ensures c.if-not-count_allowed.true-raw)
 
 gates : tie.Need-returns-then-not-count_allowed-2
 unfolding counts_fault
-gates c = inputs_pass c.before.before then stop Fault.Gates _ (test_refuses Fault.Gates c.before.count_allowed-2.ensures c.if-not-count_allowed-2.true-raw)
+gates c = inputs_pass c.before.before then stop Fault.Gates _ (test_refuses Fault.Gates c.count_allowed-2.ensures c.if-not-count_allowed-2.true-raw)
 
 outputs : tie.Need-returns-then-not-count_allowed-3
 unfolding counts_fault
 outputs c =
-    let past = c.before.before in
-    inputs_pass past.before.before then gates_pass past then test_refuses Fault.Outputs c.before.count_allowed-3.ensures c.if-not-count_allowed-3.true-raw
+    inputs_pass c.before.before.before.before then gates_pass c.before.before then test_refuses Fault.Outputs c.count_allowed-3.ensures c.if-not-count_allowed-3.true-raw
 
 within : tie.Need-returns
 unfolding counts_fault
 within c =
-    let past = c.before.before in
-    inputs_pass past.before.before then gates_pass past then test_passes Fault.Outputs c.before.count_allowed-3.ensures c.if-not-count_allowed-3.false-raw
+    inputs_pass c.before.before.before.before then gates_pass c.before.before then test_passes Fault.Outputs c.count_allowed-3.ensures c.if-not-count_allowed-3.false-raw
 
 pub counts_fault_spec : {M : Type 1} → statement M
 counts_fault_spec =

@@ -8,33 +8,31 @@ use Rattle.plan.specs.Faults.{gate_fault}
 use Rattle.plan.proofs.faults.gate_fault.Statement.{statement}
 use Rattle.plan.proofs.faults.gate_fault.Tie as tie
 
-first_passes : (c : tie.Else-not-operand_allowed) → let a = c.before.before.args in 0 ≡ unless (operand_allowed a.own.0 a.gate.first.0) Fault.Operand
-first_passes c = test_passes Fault.Operand c.before.operand_allowed.ensures c.if-not-operand_allowed.false-raw
+first_passes : (c : tie.Else-not-operand_allowed) → let a = c.args in 0 ≡ unless (operand_allowed a.own.0 a.gate.first.0) Fault.Operand
+first_passes c = test_passes Fault.Operand c.operand_allowed.ensures c.if-not-operand_allowed.false-raw
 
 second-passes : (c : tie.Else-not-operand_allowed-2)
-    → let a = c.before.before.before.before.args in 0 ≡ unless (operand_allowed a.own.0 a.gate.second.0) Fault.Operand
-second-passes c = test_passes Fault.Operand c.before.operand_allowed-2.ensures c.if-not-operand_allowed-2.false-raw
+    → let a = c.args in 0 ≡ unless (operand_allowed a.own.0 a.gate.second.0) Fault.Operand
+second-passes c = test_passes Fault.Operand c.operand_allowed-2.ensures c.if-not-operand_allowed-2.false-raw
 
 first : tie.Need-returns-then-not-operand_allowed
 unfolding gate_fault
-first c = stop Fault.Operand _ (test_refuses Fault.Operand c.before.operand_allowed.ensures c.if-not-operand_allowed.true-raw)
+first c = stop Fault.Operand _ (test_refuses Fault.Operand c.operand_allowed.ensures c.if-not-operand_allowed.true-raw)
 
 second : tie.Need-returns-then-not-operand_allowed-2
 unfolding gate_fault
 second c =
-    first_passes c.before.before then stop Fault.Operand _ (test_refuses Fault.Operand c.before.operand_allowed-2.ensures c.if-not-operand_allowed-2.true-raw)
+    first_passes c.before.before.before then stop Fault.Operand _ (test_refuses Fault.Operand c.operand_allowed-2.ensures c.if-not-operand_allowed-2.true-raw)
 
 table : tie.Need-returns-then-not-table_allowed
 unfolding gate_fault
 table c =
-    let past = c.before.before in
-    first_passes past.before.before then second-passes past then test_refuses Fault.Table c.before.table_allowed.ensures c.if-not-table_allowed.true-raw
+    first_passes c.before.before.before.before.before then second-passes c.before.before then test_refuses Fault.Table c.table_allowed.ensures c.if-not-table_allowed.true-raw
 
 within : tie.Need-returns
 unfolding gate_fault
 within c =
-    let past = c.before.before in
-    first_passes past.before.before then second-passes past then test_passes Fault.Table c.before.table_allowed.ensures c.if-not-table_allowed.false-raw
+    first_passes c.before.before.before.before.before then second-passes c.before.before then test_passes Fault.Table c.table_allowed.ensures c.if-not-table_allowed.false-raw
 
 pub gate_fault_spec : {M : Type 1} → statement M
 gate_fault_spec =

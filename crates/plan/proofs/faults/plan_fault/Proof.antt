@@ -31,11 +31,11 @@ decreases_loop2 plan inputs count gate-count output-count outputs uses counted�
 
 -- the plan, where its counts passed
 abbrev the_plan : tie.In-Done invariant_loop decreases_loop invariant_loop2 decreases_loop2 → Plan
-the_plan c = c.before.before.before.before.before.before.args.plan
+the_plan c = c.args.plan
 
 module _ (c : tie.In-Done invariant_loop decreases_loop invariant_loop2 decreases_loop2) where
   counts_pass : let p = the_plan c in 0 ≡ counts_fault p.inputs p.gate_count p.output_count
-  counts_pass = answer-passes c.enum_told-1.given.1 c.before.before.counts_fault.ensures
+  counts_pass = answer-passes c.in-Done.is c.counts_fault.ensures
 
   within : let p = the_plan c in CountsWithin p.inputs p.gate_count p.output_count
   within = counts-within _ _ _ (sym counts_pass)
@@ -49,7 +49,7 @@ first-loop c = c.before.before
 
 counts : tie.Need-returns-in-Refused invariant_loop decreases_loop invariant_loop2 decreases_loop2
 unfolding plan_fault
-counts c = stop c.before.f-1.given.0.0 _ (answer-refuses c.before.f-1.given.1 c.before.before.before.counts_fault.ensures)
+counts c = stop c.in-Refused.f _ (answer-refuses c.in-Refused.is c.counts_fault.ensures)
 
 -- ---- the gates
 
@@ -59,74 +59,65 @@ holds c = (omega arith, refl, none-counted _ _)
 
 -- what a turn asks is the fault of gate i, whose own wire has 16 bits
 gate-i : (c : tie.After-gate_fault invariant_loop decreases_loop invariant_loop2 decreases_loop2)
-    → let turn = c.before.before.before.before in
-    let plan = the_plan (known turn) in
-    let i = turn.loop-i.i in
+    → let plan = the_plan c.before.before.before.before.before.before.before.before.before in
+    let i = c.loop-i.i in
     answer_number c.gate_fault.result ≡ gate_fault (gate_wire plan.inputs i) (gate_at plan i)
 gate-i c =
-    let turn = c.before.before.before.before in
-    let w = within (known turn) in
+    let w = within c.before.before.before.before.before.before.before.before.before in
     c.gate_fault.ensures
-    ∙ ap (λ o. gate_fault o (gate_at (the_plan (known turn)) turn.loop-i.i))
-    (c.before.gate_wire.ensures ∙ wire-fits {i = turn.loop-i.i} w.inputs (omega (arith, c.before.before.before.loop-i-test.true, w.gates)))
+    ∙ ap (λ o. gate_fault o (gate_at (the_plan c.before.before.before.before.before.before.before.before.before) c.loop-i.i))
+    (c.gate_wire.ensures ∙ wire-fits {i = c.loop-i.i} w.inputs (omega (arith, c.loop-i-test.true, w.gates)))
 
 gate-refused : tie.Need-returns-in-Refused-gate_fault invariant_loop decreases_loop invariant_loop2 decreases_loop2
 unfolding plan_fault
 gate-refused c =
-    let met = c.before.before.before in
-    let turn = met.before.before.before.before in
-    let e = first-fails _ _ turn.loop-i.i _ met.before.before.before.loop-i-test.true turn.loop-i.invariant.1
-    (answer-refuses c.before.f-in-Refused-gate_fault-1.given.1 (gate-i met)) (number-positive c.before.f-in-Refused-gate_fault-1.given.0.0) in
-    counts_pass (known turn) then stop c.before.f-in-Refused-gate_fault-1.given.0.0 _ e
+    let e = first-fails _ _ c.loop-i.i _ c.loop-i-test.true c.loop-i.invariant.1
+    (answer-refuses c.in-Refused-gate_fault.is (gate-i c.before)) (number-positive c.in-Refused-gate_fault.f) in
+    counts_pass c.before.before.before.before.before.before.before.before.before.before then stop c.in-Refused-gate_fault.f _ e
 
 again : tie.Need-loop-i-preserved invariant_loop decreases_loop invariant_loop2 decreases_loop2
 again c =
-    let met = c.before.before.before.before in
-    let turn = met.before.before.before.before in
-    let loop = turn.loop-i in
-    let low : loop.i < (the_plan (known turn)).gate_count = met.before.before.before.loop-i-test.true in
-    let few : loop.i ≤ max_gates = omega (arith, low, (within (known turn)).gates) in
+    let loop = c.loop-i in
+    let low : loop.i < (the_plan c.before.before.before.before.before.before.before.before.before.before.before.before).gate_count = c.loop-i-test.true in
+    let few : loop.i ≤ max_gates = omega (arith, low, (within c.before.before.before.before.before.before.before.before.before.before.before.before).gates) in
     let more = gate-counted loop.invariant.2 few (omega arith) refl in (
       omega (arith, low),
-      rw (add-one loop.i) (next-passes _ loop.i loop.invariant.1 (sym (answer-passes c.before.before.enum_told-in-Done-gate_fault-1.given.1 (gate-i met)))),
+      rw (add-one loop.i) (next-passes _ loop.i loop.invariant.1 (sym (answer-passes c.in-Done-gate_fault.is (gate-i c.before.before.before)))),
       rw (add-one loop.i) (subst (UsesCounted (suc loop.i) 0 _ _) (sym c.count_operands.ensures) more),
     )
 
 -- where the first loop ends no gate has a fault
 gates_pass : (c : tie.After-loop-i invariant_loop decreases_loop invariant_loop2 decreases_loop2)
-    → let p = the_plan (known c.before) in 0 ≡ gates_fault p p.gate_count
+    → let p = the_plan c.before.before.before.before.before.before in 0 ≡ gates_fault p p.gate_count
 gates_pass c =
-    let loop = c.before.loop-i in
-    let all : loop.i ≡ (the_plan (known c.before)).gate_count = le_antisymm loop.invariant.0 c.loop-i-test.false in
-    sym loop.invariant.1 ∙ ap (gates_fault (the_plan (known c.before))) all
+    let loop = c.loop-i in
+    let all : loop.i ≡ (the_plan c.before.before.before.before.before.before).gate_count = le_antisymm loop.invariant.0 c.loop-i-test.false in
+    sym loop.invariant.1 ∙ ap (gates_fault (the_plan c.before.before.before.before.before.before)) all
 
 -- ---- the outputs
 
 holds2 : tie.Need-loop-j-init invariant_loop decreases_loop invariant_loop2 decreases_loop2
 unfolding first_of
 holds2 c =
-    let loop = c.before.loop-i in
-    let all : loop.i ≡ (the_plan (known c.before)).gate_count = le_antisymm loop.invariant.0 c.loop-i-test.false in
-    let p = the_plan (known c.before) in
+    let loop = c.loop-i in
+    let all : loop.i ≡ (the_plan c.before.before.before.before.before.before).gate_count = le_antisymm loop.invariant.0 c.loop-i-test.false in
+    let p = the_plan c.before.before.before.before.before.before in
     (omega arith, refl, subst (λ n. UsesCounted n 0 p.gates p.outputs loop.counted) all loop.invariant.2)
 
 output-refused : tie.Need-returns-then-not-source_allowed invariant_loop decreases_loop invariant_loop2 decreases_loop2
 unfolding plan_fault output_fault
 output-refused c =
-    let turn = c.before.before.before.before in
-    let e = test_refuses Fault.Source c.before.source_allowed.ensures c.if-not-source_allowed.true-raw in
-    counts_pass (known (first-loop turn)) then gates_pass turn.before
-    then stop Fault.Source _ (first-fails _ _ turn.loop-j.j _ c.before.before.before.loop-j-test.true turn.loop-j.invariant.1 e (omega arith))
+    let e = test_refuses Fault.Source c.source_allowed.ensures c.if-not-source_allowed.true-raw in
+    counts_pass c.before.before.before.before.before.before.before.before.before.before.before then gates_pass c.before.before.before.before.before
+    then stop Fault.Source _ (first-fails _ _ c.loop-j.j _ c.loop-j-test.true c.loop-j.invariant.1 e (omega arith))
 
 again2 : tie.Need-loop-j-preserved invariant_loop decreases_loop invariant_loop2 decreases_loop2
 unfolding output_fault
 again2 c =
-    let met = c.before.before in
-    let turn = met.before.before.before.before in
-    let loop = turn.loop-j in
-    let w = within (known (first-loop turn)) in
-    let low : loop.j < (the_plan (known (first-loop turn))).output_count = met.before.before.before.loop-j-test.true in
-    let e = test_passes Fault.Source met.before.source_allowed.ensures met.if-not-source_allowed.false-raw in
+    let loop = c.loop-j in
+    let w = within c.before.before.before.before.before.before.before.before.before.before.before.before.before in
+    let low : loop.j < (the_plan c.before.before.before.before.before.before.before.before.before.before.before.before.before).output_count = c.loop-j-test.true in
+    let e = test_passes Fault.Source c.source_allowed.ensures c.if-not-source_allowed.false-raw in
     let more = output-counted loop.invariant.2 w.gates (omega (arith, low, w.outputs)) refl in (
       omega (arith, low),
       rw (add-one loop.j) (next-passes _ loop.j loop.invariant.1 (sym e)),
@@ -135,21 +126,19 @@ again2 c =
 
 for_tally : tie.Need-tally_fault-requires invariant_loop decreases_loop invariant_loop2 decreases_loop2
 for_tally c κs =
-    let w = within (known (first-loop c.before.before.before)) in
+    let w = within c.before.before.before.before.before.before.before.before.before.before in
     omega (arith, w.inputs, w.gates)
 
 tallied : tie.Need-returns-after-loop-j invariant_loop decreases_loop invariant_loop2 decreases_loop2
 unfolding plan_fault
 tallied c =
-    let past = c.before.before.before in
-    let turn = past.before in
-    let w = within (known (first-loop turn)) in
-    let p = the_plan (known (first-loop turn)) in
-    let loop = turn.loop-j in
-    let all : loop.j ≡ p.output_count = le_antisymm loop.invariant.0 past.loop-j-test.false in
+    let w = within c.before.before.before.before.before.before.before.before.before.before.before in
+    let p = the_plan c.before.before.before.before.before.before.before.before.before.before.before in
+    let loop = c.loop-j in
+    let all : loop.j ≡ p.output_count = le_antisymm loop.invariant.0 c.loop-j-test.false in
     let outputs : 0 ≡ outputs_fault p p.output_count = sym loop.invariant.1 ∙ ap (outputs_fault p) all in
     let counted = subst (λ n. UsesCounted p.gate_count n p.gates p.outputs loop.counted) all loop.invariant.2 in
-    counts_pass (known (first-loop turn)) then gates_pass turn.before then outputs
+    counts_pass c.before.before.before.before.before.before.before.before.before.before.before then gates_pass c.before.before.before.before.before then outputs
     then (c.tally_fault.ensures ∙ figures_same _ _ _ _ _ _ (λ i l. counted.each i (omega (arith, w.inputs, w.gates))))
 
 pub plan_fault_spec : {M : Type 1} → statement M

@@ -10,7 +10,7 @@ none c = rw c.if-count-eq0.true
 
 some : tie.Need-returns
 unfolding count_allowed
-some c = rw (le-leb 1 c.before.args.count (omega arith))
+some c = rw (le-leb 1 c.args.count (omega arith))
 
 pub count_allowed_spec : {M : Type 1} → statement M
 count_allowed_spec = tie.close (tie.spec none some)

@@ -10,7 +10,7 @@ zero-wire c = rw c.if-wire-eq0.true
 
 other-wire : tie.Need-returns
 unfolding operand_allowed
-other-wire c = rw (le-leb 1 c.before.before.before.before.args.wire.0 (omega arith))
+other-wire c = rw (le-leb 1 c.args.wire.0 (omega arith))
 
 pub operand_allowed_spec : {M : Type 1} → statement M
 operand_allowed_spec = tie.close (tie.spec zero-wire other-wire)

@@ -6,7 +6,7 @@ use Rattle.plan.proofs.uses.count_operands.Tie as tie
 
 both : tie.Need-returns
 unfolding with_operands
-both c = c.count_use-2.ensures ∙ ap (with_use _) c.before.before.count_use.ensures
+both c = c.count_use-2.ensures ∙ ap (with_use _) c.count_use.ensures
 
 pub count_operands_spec : {M : Type 1} → statement M
 count_operands_spec = tie.close (tie.spec (λ c κs. search rules) (λ c κs. search rules) both)

@@ -16,16 +16,16 @@ unfolding count_of
 holds c = (omega arith, omega arith, refl)
 
 small : tie.Need-overflow_add-different invariant_loop decreases_loop
-small c = let loop = c.before.before.before.before.loop-i in Fits-below {n = 321} tt (omega (arith, loop.invariant.1, c.differ-different.ensures.1))
+small c = let loop = c.loop-i in Fits-below {n = 321} tt (omega (arith, loop.invariant.1, c.differ-different.ensures.1))
 
 again : tie.Need-loop-i-preserved invariant_loop decreases_loop
 unfolding count_of
 again c =
-    let loop = c.before.before.before.before.loop-i in
+    let loop = c.loop-i in
     (omega arith, omega (arith, loop.invariant.1, c.differ-different.ensures.1), rw (add-one loop.i) (ap₂ ◌+◌ loop.invariant.2 c.differ-different.ensures.0))
 
 found : tie.Need-returns invariant_loop decreases_loop
-found c = let loop = c.before.loop-i in let all : loop.i ≡ c.before.before.args.n = omega arith in rw (← all) loop.invariant.2
+found c = let loop = c.loop-i in let all : loop.i ≡ c.args.n = omega arith in rw (← all) loop.invariant.2
 
 pub differences_spec : {M : Type 1} → statement M
 differences_spec =

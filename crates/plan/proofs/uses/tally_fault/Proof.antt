@@ -7,18 +7,18 @@ use Rattle.plan.proofs.uses.tally_fault.Statement.{statement}
 use Rattle.plan.proofs.uses.tally_fault.Tie as tie
 
 places_differ : tie.Need-returns-then-ceil_power-places
-places_differ c = places-fault _ _ _ _ _ (λ e. c.if-ceil_power-places.true (c.before.ceil_power.ensures ∙ e))
+places_differ c = places-fault _ _ _ _ _ (λ e. c.if-ceil_power-places.true (c.ceil_power.ensures ∙ e))
 
 -- the counted differences, where K is the counted one
 uses_differ : tie.Need-returns-then-differences-ne0
 uses_differ c =
-    ap (λ b. unless b Fault.Tally) (sym (ne_eqb _ 0 c.if-differences-ne0.true) ∙ ap (λ (n : ℕ). eqb n 0) c.before.differences.ensures)
-    ∙ uses-fault _ _ _ _ _ (sym c.before.before.before.ceil_power.ensures ∙ c.before.before.if-ceil_power-places.false)
+    ap (λ b. unless b Fault.Tally) (sym (ne_eqb _ 0 c.if-differences-ne0.true) ∙ ap (λ (n : ℕ). eqb n 0) c.differences.ensures)
+    ∙ uses-fault _ _ _ _ _ (sym c.ceil_power.ensures ∙ c.if-ceil_power-places.false)
 
 all_same : tie.Need-returns
 all_same c =
-    ap (λ b. unless b Fault.Tally) (sym (eq-eqb _ 0 c.if-differences-ne0.false) ∙ ap (λ (n : ℕ). eqb n 0) c.before.differences.ensures)
-    ∙ uses-fault _ _ _ _ _ (sym c.before.before.before.ceil_power.ensures ∙ c.before.before.if-ceil_power-places.false)
+    ap (λ b. unless b Fault.Tally) (sym (eq-eqb _ 0 c.if-differences-ne0.false) ∙ ap (λ (n : ℕ). eqb n 0) c.differences.ensures)
+    ∙ uses-fault _ _ _ _ _ (sym c.ceil_power.ensures ∙ c.if-ceil_power-places.false)
 
 pub tally_fault_spec : {M : Type 1} → statement M
 tally_fault_spec =
