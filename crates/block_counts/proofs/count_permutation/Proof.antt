@@ -14,21 +14,21 @@ use Rattle.block_sizes.proofs.SizesLaws.{size_is, few-rows}
 use Rattle.block_counts.proofs.count_permutation.Statement.{statement}
 use Rattle.block_counts.proofs.count_permutation.Tie as tie
 
-refused : tie.Need-returns
-refused c = rw (← c.before.size-allowed.ensures, not-true c.before.size-allowed.result c.if1.true)
+refused : tie.Need-returns-then-not-size_allowed
+refused c = rw (← c.size_allowed.ensures, not-true c.size_allowed.result c.if-not-size_allowed.true-raw)
 
 -- where the size is allowed
-allowed : (c : tie.Else1) → size_allowed c.before.before.args.n ≡ true
-allowed c = sym c.before.size-allowed.ensures ∙ not-false c.before.size-allowed.result c.if1.false
+allowed : (c : tie.Else-not-size_allowed) → size_allowed c.args.n ≡ true
+allowed c = sym c.size_allowed.ensures ∙ not-false c.size_allowed.result c.if-not-size_allowed.false-raw
 
-few : (c : tie.After-permutation-count) → c.permutation-count.result ≤ max_level * max_size
-few c = omega (arith, c.permutation-count.ensures, few-rows _ (size_is _ (allowed c.before)).level)
+few : (c : tie.After-permutation_count-rows) → c.permutation_count-rows.result ≤ max_level * max_size
+few c = omega (arith, c.permutation_count-rows.ensures, few-rows _ (size_is _ (allowed c.before)).level)
 
-counted : tie.Need-returns-2
+counted : tie.Need-returns
 counted c =
-    let rows = c.permutation-count.result in
+    let rows = c.permutation_count-rows.result in
     given-counts _ (record { rows = rows; wires = 2 * rows; bits = rows }) (sym ((unless-zero _ Fault.Inputs).1 (allowed c.before)))
-    (record { is_rows = c.permutation-count.ensures; is_wires = ap (λ k. 2 * k) c.permutation-count.ensures; is_bits = c.permutation-count.ensures })
+    (record { is_rows = c.permutation_count-rows.ensures; is_wires = ap (λ k. 2 * k) c.permutation_count-rows.ensures; is_bits = c.permutation_count-rows.ensures })
 
 pub count_permutation_spec : {M : Type 1} → statement M
 count_permutation_spec =
