@@ -22,29 +22,25 @@ no_room rows old h = rw (lt-leb (stride * length rows) (length old) h)
 put-room : (rows : List Row) (old l : List ℕ) {count : ℕ} → length rows ≡ count → stride * count ≤ length old → l ≡ over (flat rows) old → l ≡ rows_put rows old
 put-room rows old l e h put = put ∙ sym (rows-put rows old (rw e h))
 
-within : tie.Need-put-within-requires
+within : tie.Need-put_within-requires
 within c κs = (omega arith, omega arith, omega arith)
 
-done : tie.Need-returns
+done : tie.Need-returns-then-last_place-smaller
 done c =
-    let put = c.before.before in
-    let a = put.before.before.before.before.before.before.before.before.before.before.args in
-    put-room _ a.rows.now _ (length-pair_rows a.kind a.count a.lefts.now a.rights.now a.step) (omega arith) put.put-within.ensures
+    let a = c.args in
+    put-room _ a.rows.now _ (length-pair_rows a.kind a.count a.lefts.now a.rights.now a.step) (omega arith) c.put_within.ensures
 
-done_any : tie.Need-returns-2
+done_any : tie.Need-returns-else-last_place-smaller
 done_any c =
-    let put = c.before.before in
-    let a = put.before.before.before.before.before.before.before.before.before.before.args in
-    put-room _ a.rows.now _ (length-pair_rows a.kind a.count a.lefts.now a.rights.now a.step) (omega arith) put.put_all_lem.ensures
+    let a = c.args in
+    put-room _ a.rows.now _ (length-pair_rows a.kind a.count a.lefts.now a.rights.now a.step) (omega arith) c.put_all.ensures
 
-kept : tie.Need-returns-3
+kept : tie.Need-returns-else-row_place-rows
 kept c =
-    let a = c.before.before.before.before.before.args in
+    let a = c.args in
     no_room _ _ (rw (length-pair_rows a.kind a.count a.lefts.now a.rights.now a.step) (omega arith))
 
 pub put_pairs_spec : {M : Type 1} → statement M
 put_pairs_spec =
     tie.close
-    (tie.spec
-    (λ c κs. search rules) (λ c κs. search rules) (λ c κs. search rules) within (λ c κs. search rules)
-    (λ c. search rules) done (λ c. search rules) done_any kept)
+    (tie.spec (λ c κs. search rules) (λ c κs. search rules) (λ c κs. search rules) within (λ c κs. search rules) (λ c. search rules) done (λ c. search rules) done_any kept)

@@ -23,19 +23,14 @@ kept : (l : List ℕ) (kind left right : ℕ) → length l < stride → l ≡ ro
 unfolding row_put
 kept l kind left right h = rw (lt-leb stride (length l) h)
 
-row : tie.Need-returns
+row : tie.Need-returns-then-rows-ge-STRIDE
 row c =
-    let stored = c.before.before in
-    let number = stored.before.before.before in
-    let then = number.before.before in
-    put then.before.before.args.rows.now _ number.number.result _ _ _ then.if1.true number.number.ensures stored.store-row.ensures
+    put c.args.rows.now _ c.number.result _ _ _ c.if-rows-ge-STRIDE.true c.number.ensures c.store_row.ensures
 
-short : tie.Need-returns-2
+short : tie.Need-returns-else-rows-ge-STRIDE
 short c = kept _ _ _ _ (omega arith)
 
 pub put_row_spec : {M : Type 1} → statement M
 put_row_spec =
     tie.close
-    (tie.spec
-    (λ c κs. search rules) (λ c. search rules) (λ c. search rules) (λ c. search rules) (λ c. search rules) (λ c κs. search rules)
-    (λ c. search rules) row short)
+    (tie.spec (λ c κs. search rules) (λ c. search rules) (λ c. search rules) (λ c. search rules) (λ c. search rules) (λ c κs. search rules) (λ c. search rules) row short)
