@@ -7,7 +7,7 @@ use Prim.Native.Nat.{◌/◌, ◌^◌}
 use Rattle.plan_fields.proofs.gate.map_bit.Statement.{statement}
 use Rattle.plan_fields.proofs.gate.map_bit.Tie as tie
 
-within : tie.Need-overflow-shr-result
+within : tie.Need-overflow_shr-result
 within c = search rules
 
 bit : tie.Need-returns

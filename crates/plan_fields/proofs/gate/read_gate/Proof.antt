@@ -7,15 +7,14 @@ use Rattle.plan_fields.specs.Answers.{map_answer}
 use Rattle.plan_fields.proofs.gate.read_gate.Statement.{statement}
 use Rattle.plan_fields.proofs.gate.read_gate.Tie as tie
 
-refused : tie.Need-returns
+refused : tie.Need-returns-in-Refused
 unfolding gate_step_within
-refused c = ap (followed _ _) (ap map_answer (sym c.before.x.given.1) ∙ c.before.before.before.map-byte.ensures)
+refused c = ap (followed _ _) (ap map_answer (sym c.in-Refused.is) ∙ c.map_byte.ensures)
 
-fields : tie.Need-returns-2
+fields : tie.Need-returns-in-Map
 unfolding gate_step_within
 fields c =
-    let met = c.before.before in
-    c.read-fields.ensures ∙ ap (followed _ _) (ap map_answer (sym met.map.given.1) ∙ met.before.before.map-byte.ensures)
+    c.read_fields.ensures ∙ ap (followed _ _) (ap map_answer (sym c.in-Map.is) ∙ c.map_byte.ensures)
 
 pub read_gate_spec : {M : Type 1} → statement M
 read_gate_spec = tie.close (tie.spec (λ c κs. search rules) (λ c. search rules) (λ c. search rules) (λ c κs. search rules) refused fields)

@@ -4,11 +4,11 @@ use borrow.Author.Rules.{rules}
 use Rattle.plan_fields.proofs.gate.standing_table.Statement.{statement}
 use Rattle.plan_fields.proofs.gate.standing_table.Tie as tie
 
-stands : tie.Need-returns
-stands c = rw (← c.before.before.map-bit.ensures, c.before.if1.true) c.table.ensures
+stands : tie.Need-returns-then-map_bit
+stands c = rw (← c.map_bit.ensures, c.if-map_bit.true) c.table.ensures
 
-absent : tie.Need-returns-2
-absent c = rw (← c.before.map-bit.ensures, c.if1.false) refl
+absent : tie.Need-returns
+absent c = rw (← c.map_bit.ensures, c.if-map_bit.false) refl
 
 pub standing_table_spec : {M : Type 1} → statement M
 standing_table_spec = tie.close (tie.spec (λ c κs. search rules) (λ c κs. search rules) stands absent)

@@ -6,14 +6,14 @@ use Rattle.plan_fields.proofs.ParsingLaws.{field_cut, field-got, field-bad}
 use Rattle.plan_fields.proofs.cursor.Cursor.map_byte.Statement.{statement}
 use Rattle.plan_fields.proofs.cursor.Cursor.map_byte.Tie as tie
 
-cut : tie.Need-returns
+cut : tie.Need-returns-then-left_of-lt1
 cut c = field_cut _ _ _ _ _ _ (omega arith)
 
-value : tie.Need-returns-2
-value c = field-got _ _ _ _ _ _ refl c.before.map-allowed.ensures (omega arith) c.if2.true
+value : tie.Need-returns-then-map_allowed
+value c = field-got _ _ _ _ _ _ refl c.map_allowed.ensures (omega arith) c.if-map_allowed.true
 
-bad : tie.Need-returns-3
-bad c = field-bad _ _ _ _ _ _ refl c.before.map-allowed.ensures (omega arith) c.if2.false
+bad : tie.Need-returns
+bad c = field-bad _ _ _ _ _ _ refl c.map_allowed.ensures (omega arith) c.if-map_allowed.false
 
 pub map_byte_spec : {M : Type 1} → statement M
 map_byte_spec =

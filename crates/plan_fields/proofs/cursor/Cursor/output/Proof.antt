@@ -5,16 +5,16 @@ use Rattle.plan_fields.proofs.ParsingLaws.{field_cut, field-got, field-bad}
 use Rattle.plan_fields.proofs.cursor.Cursor.output.Statement.{statement}
 use Rattle.plan_fields.proofs.cursor.Cursor.output.Tie as tie
 
-cut : tie.Need-returns
+cut : tie.Need-returns-then-left_of-lt2
 cut c = field_cut _ _ _ _ _ _ (omega arith)
 
-value : tie.Need-returns-2
+value : tie.Need-returns-then-source_allowed
 value c =
-    field-got _ _ _ _ _ _ c.before.before.word_at.ensures c.before.source-allowed.ensures (omega arith) c.if2.true
+    field-got _ _ _ _ _ _ c.word_at.ensures c.source_allowed.ensures (omega arith) c.if-source_allowed.true
 
-bad : tie.Need-returns-3
+bad : tie.Need-returns
 bad c =
-    field-bad _ _ _ _ _ _ c.before.before.word_at.ensures c.before.source-allowed.ensures (omega arith) c.if2.false
+    field-bad _ _ _ _ _ _ c.word_at.ensures c.source_allowed.ensures (omega arith) c.if-source_allowed.false
 
 pub output_spec : {M : Type 1} → statement M
 output_spec =
