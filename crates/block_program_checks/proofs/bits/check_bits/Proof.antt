@@ -8,17 +8,17 @@ use Rattle.block_program_checks.specs.Bits.{bits_at_fault}
 use Rattle.block_program_checks.proofs.bits.check_bits.Statement.{statement}
 use Rattle.block_program_checks.proofs.bits.check_bits.Tie as tie
 
-short : tie.Need-returns
+short : tie.Need-returns-then-room-bit_byte
 unfolding bits_at_fault
 short c =
-    let a = c.before.before.before.before.args in
+    let a = c.args in
     let h : bits_held a.room < a.start + a.count = omega arith in
     rw (lt-leb (a.start + a.count) (bits_held a.room) h)
 
-room : tie.Need-returns-2
+room : tie.Need-returns
 unfolding bits_at_fault
 room c =
-    let a = c.before.before.before.before.args in
+    let a = c.args in
     let h : a.start + a.count ≤ bits_held a.room = omega arith in
     rw (le-leb (a.start + a.count) (bits_held a.room) h)
 

@@ -5,11 +5,11 @@ use Rattle.block_program_checks.proofs.ChecksLaws.{selected-within}
 use Rattle.block_program_checks.proofs.permutation.check_once.Statement.{statement}
 use Rattle.block_program_checks.proofs.permutation.check_once.Tie as tie
 
-small : tie.Need-check-once-small-requires
-small c κs = selected-within (omega arith) c.before.before.requires.0
+small : tie.Need-check_once_small-requires
+small c κs = selected-within (omega arith) c.requires.0
 
-large : tie.Need-check-once-large-requires
-large c κs = selected-within (omega arith) c.before.before.requires.0
+large : tie.Need-check_once_large-requires
+large c κs = selected-within (omega arith) c.requires.0
 
 pub check_once_spec : {M : Type 1} → statement M
 check_once_spec = tie.close (tie.spec small large (λ c. search rules) (λ c. search rules))

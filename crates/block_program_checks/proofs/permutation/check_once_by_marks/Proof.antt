@@ -11,59 +11,51 @@ use Rattle.block_program_checks.proofs.ChecksLaws.{marked_more, comes_first, com
 use Rattle.block_program_checks.proofs.permutation.check_once_by_marks.Statement.{statement}
 use Rattle.block_program_checks.proofs.permutation.check_once_by_marks.Tie as tie
 
-abbrev invariant_loop : tie.invariant-loop
+abbrev invariant_loop : tie.invariant-loop-i
 invariant_loop wanted mark₀ i₀ mark i = (i ≤ length wanted) × (first_source (is_new wanted) i ≡ 0) × (Marked wanted i mark) × (length mark ≡ length mark₀)
 
-abbrev decreases_loop : tie.decreases-loop
+abbrev decreases_loop : tie.decreases-loop-i
 decreases_loop wanted mark₀ i₀ mark i = length wanted - i
 
-holds : tie.Need-loop-init invariant_loop decreases_loop
+holds : tie.Need-loop-i-init invariant_loop decreases_loop
 unfolding first_of
-holds c = (omega arith, refl, c.before.before.requires.1, refl)
+holds c = (omega arith, refl, c.requires.1, refl)
 
 -- the next wanted input has a mark
-module _ (c : tie.After-wide invariant_loop decreases_loop) where
-  low : 1 ≤ c.wide.result
+module _ (c : tie.After-wide-x invariant_loop decreases_loop) where
+  low : 1 ≤ c.wide-x.result
   low =
-      let at = c.before.before.before in
-      rw c.wide.ensures.0 (at.before.before.before.requires.0.low at.loop.i (omega arith))
+      rw c.wide-x.ensures.0 (c.requires.0.low c.loop-i.i (omega arith))
 
-  here : let at = c.before.before.before in suc (c.wide.result - 1) ≡ get_or at.before.before.before.args.wanted.now at.loop.i 0
-  here = omega (arith, low, c.wide.ensures.0)
+  here : suc (c.wide-x.result - 1) ≡ get_or c.args.wanted.now c.loop-i.i 0
+  here = omega (arith, low, c.wide-x.ensures.0)
 
-  fits : c.wide.result - 1 < length c.before.before.before.loop.mark
+  fits : c.wide-x.result - 1 < length c.loop-i.mark
   fits =
-      let at = c.before.before.before in
-      omega (arith, here, at.loop.invariant.3, at.before.before.before.requires.0.high at.loop.i (omega arith))
+      omega (arith, here, c.loop-i.invariant.3, c.requires.0.high c.loop-i.i (omega arith))
 
-twice : tie.Need-returns invariant_loop decreases_loop
+twice : tie.Need-returns-then-mark-x-ne0 invariant_loop decreases_loop
 unfolding twice_fault
 twice c =
-    let next = c.before.before in
-    let at = next.before.before.before in
-    source-refused (is_new at.before.before.before.args.wanted.now) _ at.loop.i (omega arith) at.loop.invariant.1
-    (comes_again at.loop.invariant.2 (here next) (fits next) c.if1.true)
+    source-refused (is_new c.args.wanted.now) _ c.loop-i.i (omega arith) c.loop-i.invariant.1
+    (comes_again c.loop-i.invariant.2 (here c.before.before) (fits c.before.before) c.if-mark-x-ne0.true)
 
-again : tie.Need-loop-preserved invariant_loop decreases_loop
+again : tie.Need-loop-i-preserved invariant_loop decreases_loop
 again c =
-    let next = c.before.before in
-    let at = next.before.before.before in
-    let new = comes_first at.loop.invariant.2 (here next) (fits next) c.if1.false in (
+    let new = comes_first c.loop-i.invariant.2 (here c.before.before) (fits c.before.before) c.if-mark-x-ne0.false in (
       omega arith,
-      source-passed (is_new at.before.before.before.args.wanted.now) at.loop.i at.loop.invariant.1 new,
-      marked_more at.loop.invariant.2 (here next) (fits next),
-      simp length-set at.loop.invariant.3,
+      source-passed (is_new c.args.wanted.now) c.loop-i.i c.loop-i.invariant.1 new,
+      marked_more c.loop-i.invariant.2 (here c.before.before) (fits c.before.before),
+      simp length-set c.loop-i.invariant.3,
     )
 
-all : tie.Need-returns-2 invariant_loop decreases_loop
+all : tie.Need-returns invariant_loop decreases_loop
 unfolding twice_fault
 all c =
-    let e : length c.before.before.before.before.args.wanted.now ≡ c.before.loop.i = omega arith in
-    rw e (sym c.before.loop.invariant.1)
+    let e : length c.args.wanted.now ≡ c.loop-i.i = omega arith in
+    rw e (sym c.loop-i.invariant.1)
 
 pub check_once_by_marks_spec : {M : Type 1} → statement M
 check_once_by_marks_spec =
     tie.close
-    (tie.spec invariant_loop decreases_loop
-    holds (λ c. search rules) (λ c. search rules) (λ c κs. search rules) low (λ c. fits c.before) (λ c. search rules) twice
-    (λ c. fits c.before.before) (λ c. search rules) (λ c. search rules) again (λ c. search rules) all)
+    (tie.spec invariant_loop decreases_loop holds (λ c. search rules) (λ c. search rules) (λ c κs. search rules) low (λ c. fits c.before) (λ c. search rules) twice (λ c. fits c.before.before) (λ c. search rules) (λ c. search rules) again (λ c. search rules) all)

@@ -5,8 +5,8 @@ use Rattle.block_program_checks.proofs.ChecksLaws.{marked-none}
 use Rattle.block_program_checks.proofs.permutation.check_once_small.Statement.{statement}
 use Rattle.block_program_checks.proofs.permutation.check_once_small.Tie as tie
 
-none : tie.Need-check-once-by-marks-requires
-none c κs = (c.before.before.requires, marked-none c.before.before.args.wanted.now small_size)
+none : tie.Need-check_once_by_marks-requires
+none c κs = (c.requires, marked-none c.args.wanted.now small_size)
 
 pub check_once_small_spec : {M : Type 1} → statement M
 check_once_small_spec = tie.close (tie.spec (λ c. search rules) none (λ c. search rules))

@@ -11,24 +11,23 @@ use Rattle.block_program_checks.proofs.permutation.check_permutation.Statement.{
 use Rattle.block_program_checks.proofs.permutation.check_permutation.Tie as tie
 
 -- where the other checks are done, none fails
-none : (c : tie.After-enum-told) → let a = c.before.before.before.before.args in 0 ≡ wanted_fault a.n a.wanted.now
-none c = answer-passes c.enum_told.given.1 c.before.before.check-permutation-wanted.ensures
+none : (c : tie.In-Done) → let a = c.args in 0 ≡ wanted_fault a.n a.wanted.now
+none c = answer-passes c.in-Done.is c.check_permutation_wanted.ensures
 
-few : tie.Need-overflow-cast-check-bits
-few c = omega (arith, few_bits_lem (size_is _ ((wanted-faultless _ _).0 (sym (none c.before))).0), c.permutation-count.ensures)
+few : tie.Need-overflow_cast-permutation_count
+few c = omega (arith, few_bits_lem (size_is _ ((wanted-faultless _ _).0 (sym (none c.before))).0), c.permutation_count.ensures)
 
-refused : tie.Need-returns
+refused : tie.Need-returns-in-Refused
 refused c =
-    stop c.before.f.given.0.0 _ (answer-refuses c.before.f.given.1 c.before.before.before.check-permutation-wanted.ensures)
+    stop c.in-Refused.f _ (answer-refuses c.in-Refused.is c.check_permutation_wanted.ensures)
 
-room : tie.Need-returns-2
+room : tie.Need-returns-in-Done
 room c =
-    let a = c.before.before.before.before.before.before.args in
+    let a = c.args in
     ◌then◌ (none c.before.before)
-    (c.check-bits.ensures ∙ ap (λ k. bits_at_fault k a.start a.room) c.before.permutation-count.ensures)
+    (c.check_bits.ensures ∙ ap (λ k. bits_at_fault k a.start a.room) c.permutation_count.ensures)
 
 pub check_permutation_spec : {M : Type 1} → statement M
 check_permutation_spec =
     tie.close
-    (tie.spec
-    (λ c κs. search rules) (λ c. search rules) (λ c. search rules) (λ c κs. search rules) few (λ c κs. search rules) refused room)
+    (tie.spec (λ c κs. search rules) (λ c. search rules) (λ c. search rules) (λ c κs. search rules) few (λ c κs. search rules) refused room)

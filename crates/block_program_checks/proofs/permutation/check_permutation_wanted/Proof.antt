@@ -8,22 +8,21 @@ use Rattle.block_program_checks.specs.Checks.{wanted_fault}
 use Rattle.block_program_checks.proofs.permutation.check_permutation_wanted.Statement.{statement}
 use Rattle.block_program_checks.proofs.permutation.check_permutation_wanted.Tie as tie
 
-size-fails : tie.Need-returns
+size-fails : tie.Need-returns-then-not-size_allowed
 unfolding wanted_fault
-size-fails c = rw (sym c.before.size-allowed.ensures ∙ not-true _ c.if1.true)
+size-fails c = rw (sym c.size_allowed.ensures ∙ not-true _ c.if-not-size_allowed.true-raw)
 
-length-fails : tie.Need-returns-2
+length-fails : tie.Need-returns-then-wanted-n
 unfolding wanted_fault list_fault
-length-fails c = rw (sym c.before.before.size-allowed.ensures ∙ not-false _ c.before.if1.false, ne_eqb _ _ c.if2.true)
+length-fails c = rw (sym c.size_allowed.ensures ∙ not-false _ c.if-not-size_allowed.false-raw, ne_eqb _ _ c.if-wanted-n.true)
 
-for_sources : tie.Need-check-sources-requires
-for_sources c κs = (size_is _ (sym c.before.before.size-allowed.ensures ∙ not-false _ c.before.if1.false)).most
+for_sources : tie.Need-check_sources-requires
+for_sources c κs = (size_is _ (sym c.size_allowed.ensures ∙ not-false _ c.if-not-size_allowed.false-raw)).most
 
-sources : tie.Need-returns-3
+sources : tie.Need-returns
 unfolding wanted_fault list_fault
 sources c =
-    let len = c.before in
-    rw (sym len.before.before.size-allowed.ensures ∙ not-false _ len.before.if1.false, eq-eqb _ _ len.if2.false) c.check-sources.ensures
+    rw (sym c.size_allowed.ensures ∙ not-false _ c.if-not-size_allowed.false-raw, eq-eqb _ _ c.if-wanted-n.false) c.check_sources.ensures
 
 pub check_permutation_wanted_spec : {M : Type 1} → statement M
 check_permutation_wanted_spec = tie.close (tie.spec (λ c κs. search rules) size-fails length-fails for_sources sources)

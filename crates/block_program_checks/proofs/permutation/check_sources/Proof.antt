@@ -8,22 +8,21 @@ use Rattle.block_program_checks.proofs.permutation.check_sources.Statement.{stat
 use Rattle.block_program_checks.proofs.permutation.check_sources.Tie as tie
 
 -- where the ranges are checked, none fails
-none : (c : tie.After-enum-told) → let a = c.before.before.before.before.args in 0 ≡ selected_fault a.n a.wanted.now
-none c = answer-passes c.enum_told.given.1 c.before.before.check-selected.ensures
+none : (c : tie.In-Done) → let a = c.args in 0 ≡ selected_fault a.n a.wanted.now
+none c = answer-passes c.in-Done.is c.check_selected.ensures
 
-in_range : tie.Need-check-once-requires
+in_range : tie.Need-check_once-requires
 in_range c κs =
-    let s = c.before.before.before.before in
-    ((selected-faultless s.args.n s.args.wanted.now).0 (sym (none c)), s.requires)
+    ((selected-faultless c.args.n c.args.wanted.now).0 (sym (none c)), c.requires)
 
-refused : tie.Need-returns
+refused : tie.Need-returns-in-Refused
 unfolding source_fault
 refused c =
-    stop c.before.f.given.0.0 _ (answer-refuses c.before.f.given.1 c.before.before.before.check-selected.ensures)
+    stop c.in-Refused.f _ (answer-refuses c.in-Refused.is c.check_selected.ensures)
 
-once : tie.Need-returns-2
+once : tie.Need-returns-in-Done
 unfolding source_fault
-once c = ◌then◌ (none c.before) c.check-once.ensures
+once c = ◌then◌ (none c.before) c.check_once.ensures
 
 pub check_sources_spec : {M : Type 1} → statement M
 check_sources_spec = tie.close (tie.spec (λ c κs. search rules) (λ c. search rules) (λ c. search rules) in_range refused once)

@@ -10,48 +10,44 @@ use Rattle.block_program_checks.proofs.ChecksLaws.{source-refused, source-passed
 use Rattle.block_program_checks.proofs.selection.check_selected.Statement.{statement}
 use Rattle.block_program_checks.proofs.selection.check_selected.Tie as tie
 
-abbrev invariant_loop : tie.invariant-loop
+abbrev invariant_loop : tie.invariant-loop-o
 invariant_loop m wanted o₀ o = (o ≤ length wanted) × (first_source (selected_allowed m wanted) o ≡ 0)
 
-abbrev decreases_loop : tie.decreases-loop
+abbrev decreases_loop : tie.decreases-loop-o
 decreases_loop m wanted o₀ o = length wanted - o
 
-holds : tie.Need-loop-init invariant_loop decreases_loop
+holds : tie.Need-loop-o-init invariant_loop decreases_loop
 unfolding first_of
 holds c = (omega arith, refl)
 
-zero : tie.Need-returns invariant_loop decreases_loop
+zero : tie.Need-returns-then-input-eq0 invariant_loop decreases_loop
 unfolding selected_fault
 zero c =
-    let at = c.before.before.before.before in
-    let a = at.before.before.args in
-    source-refused (selected_allowed a.m a.wanted.now) _ at.loop.o (omega arith) at.loop.invariant.1
-    (selected-low a.m a.wanted.now at.loop.o (sym c.before.wide.ensures.0 ∙ c.if1.true))
+    let a = c.args in
+    source-refused (selected_allowed a.m a.wanted.now) _ c.loop-o.o (omega arith) c.loop-o.invariant.1
+    (selected-low a.m a.wanted.now c.loop-o.o (sym c.wide-input.ensures.0 ∙ c.if-input-eq0.true))
 
-above : tie.Need-returns-2 invariant_loop decreases_loop
+above : tie.Need-returns-then-m-input invariant_loop decreases_loop
 unfolding selected_fault
 above c =
-    let at = c.before.before.before.before.before in
-    let a = at.before.before.args in
-    source-refused (selected_allowed a.m a.wanted.now) _ at.loop.o (omega arith) at.loop.invariant.1
-    (selected-high a.m a.wanted.now at.loop.o (omega arith) (omega arith))
+    let a = c.args in
+    source-refused (selected_allowed a.m a.wanted.now) _ c.loop-o.o (omega arith) c.loop-o.invariant.1
+    (selected-high a.m a.wanted.now c.loop-o.o (omega arith) (omega arith))
 
-again : tie.Need-loop-preserved invariant_loop decreases_loop
+again : tie.Need-loop-o-preserved invariant_loop decreases_loop
 again c =
-    let at = c.before.before.before.before.before in
-    let a = at.before.before.args in
-    let allowed = selected-is a.m a.wanted.now at.loop.o (omega arith) (omega arith) in
-    (omega arith, source-passed (selected_allowed a.m a.wanted.now) at.loop.o at.loop.invariant.1 allowed)
+    let a = c.args in
+    let allowed = selected-is a.m a.wanted.now c.loop-o.o (omega arith) (omega arith) in
+    (omega arith, source-passed (selected_allowed a.m a.wanted.now) c.loop-o.o c.loop-o.invariant.1 allowed)
 
-all : tie.Need-returns-3 invariant_loop decreases_loop
+all : tie.Need-returns invariant_loop decreases_loop
 unfolding selected_fault
 all c =
-    let a = c.before.before.before.args in
-    let e : length a.wanted.now ≡ c.before.loop.o = omega arith in
-    rw e (sym c.before.loop.invariant.1)
+    let a = c.args in
+    let e : length a.wanted.now ≡ c.loop-o.o = omega arith in
+    rw e (sym c.loop-o.invariant.1)
 
 pub check_selected_spec : {M : Type 1} → statement M
 check_selected_spec =
     tie.close
-    (tie.spec invariant_loop decreases_loop
-    holds (λ c. search rules) (λ c. search rules) (λ c κs. search rules) zero above (λ c. search rules) (λ c. search rules) again all)
+    (tie.spec invariant_loop decreases_loop holds (λ c. search rules) (λ c. search rules) (λ c κs. search rules) zero above (λ c. search rules) (λ c. search rules) again all)

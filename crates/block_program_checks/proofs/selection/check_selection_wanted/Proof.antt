@@ -10,21 +10,21 @@ use Rattle.block_program_checks.proofs.selection.check_selection_wanted.Statemen
 use Rattle.block_program_checks.proofs.selection.check_selection_wanted.Tie as tie
 
 -- where the sizes are allowed
-none : (c : tie.After-enum-told) → let a = c.before.before.before.before.args in 0 ≡ selection_sizes_fault a.m a.n
-none c = answer-passes c.enum_told.given.1 c.before.before.check-selection-sizes.ensures
+none : (c : tie.In-Done) → let a = c.args in 0 ≡ selection_sizes_fault a.m a.n
+none c = answer-passes c.in-Done.is c.check_selection_sizes.ensures
 
-length-fails : tie.Need-returns
+length-fails : tie.Need-returns-then-wanted-n
 unfolding selection_wanted_fault list_fault
-length-fails c = ◌then◌ (none c.before) (rw (ne_eqb _ _ c.if1.true))
+length-fails c = ◌then◌ (none c.before) (rw (ne_eqb _ _ c.if-wanted-n.true))
 
-refused : tie.Need-returns-2
+refused : tie.Need-returns-in-Refused
 unfolding selection_wanted_fault
 refused c =
-    stop c.before.f.given.0.0 _ (answer-refuses c.before.f.given.1 c.before.before.before.check-selection-sizes.ensures)
+    stop c.in-Refused.f _ (answer-refuses c.in-Refused.is c.check_selection_sizes.ensures)
 
-selected : tie.Need-returns-3
+selected : tie.Need-returns-else-wanted-n
 unfolding selection_wanted_fault list_fault
-selected c = ◌then◌ (none c.before.before) (rw (eq-eqb _ _ c.before.if1.false) c.check-selected.ensures)
+selected c = ◌then◌ (none c.before.before) (rw (eq-eqb _ _ c.if-wanted-n.false) c.check_selected.ensures)
 
 pub check_selection_wanted_spec : {M : Type 1} → statement M
 check_selection_wanted_spec =
