@@ -9,21 +9,21 @@ use Rattle.block_write_checks.proofs.selection.check_selection_write.Statement.{
 use Rattle.block_write_checks.proofs.selection.check_selection_write.Tie as tie
 
 -- where the sizes are allowed
-allowed : (c : tie.After-enum-told) → let a = c.before.before.before.before.args in 0 ≡ selection_sizes_fault a.m a.n
-allowed c = answer-passes c.enum_told.given.1 c.before.before.check-selection-sizes.ensures
+allowed : (c : tie.In-Done) → let a = c.args in 0 ≡ selection_sizes_fault a.m a.n
+allowed c = answer-passes c.in-Done.is c.check_selection_sizes.ensures
 
-sizes : tie.Need-check-wires-and-room-requires
+sizes : tie.Need-check_wires_and_room-requires
 sizes c κs = (selection-sizes-allowed _ _).0 (sym (allowed c))
 
-refused : tie.Need-returns
+refused : tie.Need-returns-in-Refused
 unfolding selection_write_fault
 refused c =
-    stop c.before.f.given.0.0 _
-    (answer-refuses c.before.f.given.1 c.before.before.before.check-selection-sizes.ensures)
+    stop c.in-Refused.f _
+    (answer-refuses c.in-Refused.is c.check_selection_sizes.ensures)
 
-asked : tie.Need-returns-2
+asked : tie.Need-returns-in-Done
 unfolding selection_write_fault
-asked c = ◌then◌ (allowed c.before) c.check-wires-and-room.ensures
+asked c = ◌then◌ (allowed c.before) c.check_wires_and_room.ensures
 
 pub check_selection_write_spec : {M : Type 1} → statement M
 check_selection_write_spec =

@@ -13,59 +13,51 @@ use Rattle.block_write_checks.specs.Wires.{wires_fault, buffers_fault}
 use Rattle.block_write_checks.proofs.selection.check_wires_and_room.Statement.{statement}
 use Rattle.block_write_checks.proofs.selection.check_wires_and_room.Tie as tie
 
-other_length : tie.Need-returns
+other_length : tie.Need-returns-then-inputs-m
 unfolding list_fault
 other_length c =
-    let a = c.before.before.args in
+    let a = c.args in
     let other : length a.inputs.now ≡ a.m → ⊥ = λ e. omega arith in
     rw (ne_eqb (length a.inputs.now) a.m other)
 
 -- where the list has its length
-listed : (c : tie.Else1) → let a = c.before.before.args in 0 ≡ list_fault a.m a.inputs.now
+listed : (c : tie.Else-inputs-m) → let a = c.args in 0 ≡ list_fault a.m a.inputs.now
 listed c =
-    let a = c.before.before.args in
+    let a = c.args in
     let same : length a.inputs.now ≡ a.m = omega arith in
     sym ((list-faultless a.m a.inputs.now).1 same)
 
-few-made : tie.Need-overflow-cast-check-wires
+few-made : tie.Need-overflow_cast-selection_wires
 few-made c =
-    let start = c.before.before.before in
-    omega (arith, few-wires start.args.m start.args.n start.requires)
+    omega (arith, few-wires c.args.m c.args.n c.requires)
 
-few-rows : tie.Need-overflow-cast-check-room
+few-rows : tie.Need-overflow_cast-selection_count
 few-rows c =
-    let asked = c.before.before.before in
-    let start = asked.before.before.before.before in
-    let m = start.args.m in
-    let n = start.args.n in
-    omega (arith, few-wires m n start.requires, rows_make m n)
+    let m = c.args.m in
+    let n = c.args.n in
+    omega (arith, few-wires m n c.requires, rows_make m n)
 
 -- the wires are checked for as many as S makes
-made : (c : tie.After-check-wires) → let a = c.before.before.before.before.args in
-    answer_number c.check-wires.result ≡ wires_fault a.inputs.now (selection_wires a.m a.n) a.next.0
-made c = rw (← c.before.selection-wires.ensures) c.check-wires.ensures
+made : (c : tie.After-check_wires) → let a = c.args in
+    answer_number c.check_wires.result ≡ wires_fault a.inputs.now (selection_wires a.m a.n) a.next.0
+made c = rw (← c.selection_wires.ensures) c.check_wires.ensures
 
 -- and the room for as many rows as it has
-roomed : (c : tie.After-check-room) → let asked = c.before.before.before.before in let a = asked.before.before.before.before.args in
-    answer_number c.check-room.result ≡ buffers_fault (selection_count a.m a.n) a.n a.rows a.outputs
-roomed c = rw (← c.before.selection-count.ensures) c.check-room.ensures
+roomed : (c : tie.After-check_room) → let a = c.args in
+    answer_number c.check_room.result ≡ buffers_fault (selection_count a.m a.n) a.n a.rows a.outputs
+roomed c = rw (← c.selection_count.ensures) c.check_room.ensures
 
-wires : tie.Need-returns-2
+wires : tie.Need-returns-in-Refused
 wires c =
-    let asked = c.before.before.before in
-    ◌then◌ (listed asked.before.before)
-    (stop c.before.f.given.0.0 _ (answer-refuses c.before.f.given.1 (made asked)))
+    ◌then◌ (listed c.before.before.before)
+    (stop c.in-Refused.f _ (answer-refuses c.in-Refused.is (made c.before)))
 
-room : tie.Need-returns-3
+room : tie.Need-returns-in-Done
 room c =
-    let told = c.before.before in
-    let asked = told.before.before in
-    ◌then◌ (listed asked.before.before)
-    (◌then◌ (answer-passes told.enum_told.given.1 (made asked)) (roomed c))
+    ◌then◌ (listed c.before.before.before.before.before)
+    (◌then◌ (answer-passes c.in-Done.is (made c.before.before.before)) (roomed c))
 
 pub check_wires_and_room_spec : {M : Type 1} → statement M
 check_wires_and_room_spec =
     tie.close
-    (tie.spec
-    other_length (λ c κs. search rules) few-made (λ c κs. search rules) (λ c. search rules) (λ c. search rules) (λ c κs. search rules) few-rows
-    (λ c κs. search rules) wires room)
+    (tie.spec other_length (λ c κs. search rules) few-made (λ c κs. search rules) (λ c. search rules) (λ c. search rules) (λ c κs. search rules) few-rows (λ c κs. search rules) wires room)

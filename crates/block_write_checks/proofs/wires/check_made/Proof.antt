@@ -14,38 +14,36 @@ use Rattle.block_write_checks.specs.Wires.{unmade_fault}
 use Rattle.block_write_checks.proofs.wires.check_made.Statement.{statement}
 use Rattle.block_write_checks.proofs.wires.check_made.Tie as tie
 
-abbrev invariant_loop : tie.invariant-loop
+abbrev invariant_loop : tie.invariant-loop-i
 invariant_loop inputs next i₀ i = (i ≤ length inputs) × (first_of (λ j. unless (ltb (get_or inputs j 0) next.0) Fault.Fabric) i ≡ 0)
 
-abbrev decreases_loop : tie.decreases-loop
+abbrev decreases_loop : tie.decreases-loop-i
 decreases_loop inputs next i₀ i = length inputs - i
 
-holds : tie.Need-loop-init invariant_loop decreases_loop
+holds : tie.Need-loop-i-init invariant_loop decreases_loop
 unfolding first_of
 holds c = (omega arith, refl)
 
-unmade : tie.Need-returns invariant_loop decreases_loop
+unmade : tie.Need-returns-then-next-wire invariant_loop decreases_loop
 unfolding unmade_fault
 unmade c =
-    let read = c.before.before.before in
-    let loop = read.before.before.loop in
-    let a = read.before.before.before.before.args in
+    let loop = c.loop-i in
+    let a = c.args in
     let e = ap (λ t. unless t Fault.Fabric) (sym (le-ltb (get_or a.inputs.now loop.i 0) a.next.0 (omega arith))) in
     first-fails _ _ loop.i _ (omega arith) loop.invariant.1 e (omega arith)
 
-again : tie.Need-loop-preserved invariant_loop decreases_loop
+again : tie.Need-loop-i-preserved invariant_loop decreases_loop
 again c =
-    let read = c.before.before.before in
-    let loop = read.before.before.loop in
-    let a = read.before.before.before.before.args in
+    let loop = c.loop-i in
+    let a = c.args in
     let e = ap (λ t. unless t Fault.Fabric) (lt-ltb (get_or a.inputs.now loop.i 0) a.next.0 (omega arith)) in
     (omega arith, rw (add-one loop.i) (next-passes _ loop.i loop.invariant.1 e))
 
-all : tie.Need-returns-2 invariant_loop decreases_loop
+all : tie.Need-returns invariant_loop decreases_loop
 unfolding unmade_fault
 all c =
-    let e : c.before.loop.i ≡ length c.before.before.before.args.inputs.now = omega arith in
-    rw (← e) (sym c.before.loop.invariant.1)
+    let e : c.loop-i.i ≡ length c.args.inputs.now = omega arith in
+    rw (← e) (sym c.loop-i.invariant.1)
 
 pub check_made_spec : {M : Type 1} → statement M
 check_made_spec =

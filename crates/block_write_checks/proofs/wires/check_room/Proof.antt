@@ -9,25 +9,25 @@ use Rattle.block_write_checks.specs.Wires.{buffers_fault}
 use Rattle.block_write_checks.proofs.wires.check_room.Statement.{statement}
 use Rattle.block_write_checks.proofs.wires.check_room.Tie as tie
 
-few-entries : tie.Need-returns
+few-entries : tie.Need-returns-then-rows-row_place
 unfolding room_fault buffers_fault
 few-entries c =
-    let a = c.before.before.args in
+    let a = c.args in
     let h : a.rows < stride * a.count = omega arith in
     rw (lt-leb (stride * a.count))
 
-few-places : tie.Need-returns-2
+few-places : tie.Need-returns-then-outputs-outs
 unfolding room_fault buffers_fault
 few-places c =
-    let a = c.before.before.before.args in
+    let a = c.args in
     let h : stride * a.count ≤ a.rows = omega arith in
     let l : a.outputs < a.outs = omega arith in
     rw (le-leb (stride * a.count), lt-leb a.outs)
 
-room : tie.Need-returns-3
+room : tie.Need-returns
 unfolding room_fault buffers_fault
 room c =
-    let a = c.before.before.before.args in
+    let a = c.args in
     let h : stride * a.count ≤ a.rows = omega arith in
     let l : a.outs ≤ a.outputs = omega arith in
     rw (le-leb (stride * a.count), le-leb a.outs)

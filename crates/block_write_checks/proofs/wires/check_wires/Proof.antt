@@ -8,26 +8,26 @@ use Rattle.block_write_checks.proofs.wires.check_wires.Statement.{statement}
 use Rattle.block_write_checks.proofs.wires.check_wires.Tie as tie
 
 -- where the input wires are made
-made : (c : tie.After-enum-told) → let a = c.before.before.before.before.args in 0 ≡ unmade_fault a.inputs.now a.next.0
-made c = answer-passes c.enum_told.given.1 c.before.before.check-made.ensures
+made : (c : tie.In-Done) → let a = c.args in 0 ≡ unmade_fault a.inputs.now a.next.0
+made c = answer-passes c.in-Done.is c.check_made.ensures
 
-past : tie.Need-returns
+past : tie.Need-returns-then-not-wires_fit
 unfolding wires_fault
 past c =
     ◌then◌ (made c.before.before)
-    (rw (← c.before.wires-fit.ensures, not-true c.before.wires-fit.result c.if1.true))
+    (rw (← c.wires_fit.ensures, not-true c.wires_fit.result c.if-not-wires_fit.true-raw))
 
-unmade : tie.Need-returns-2
+unmade : tie.Need-returns-in-Refused
 unfolding wires_fault
 unmade c =
-    stop c.before.f.given.0.0 _
-    (answer-refuses c.before.f.given.1 c.before.before.before.check-made.ensures)
+    stop c.in-Refused.f _
+    (answer-refuses c.in-Refused.is c.check_made.ensures)
 
-fit : tie.Need-returns-3
+fit : tie.Need-returns-else-not-wires_fit
 unfolding wires_fault
 fit c =
     ◌then◌ (made c.before.before)
-    (rw (← c.before.wires-fit.ensures, not-false c.before.wires-fit.result c.if1.false))
+    (rw (← c.wires_fit.ensures, not-false c.wires_fit.result c.if-not-wires_fit.false-raw))
 
 pub check_wires_spec : {M : Type 1} → statement M
 check_wires_spec =

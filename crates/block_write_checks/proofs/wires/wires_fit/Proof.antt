@@ -5,13 +5,13 @@ use Rattle.block_write_checks.specs.Wires.{wires_fit}
 use Rattle.block_write_checks.proofs.wires.wires_fit.Statement.{statement}
 use Rattle.block_write_checks.proofs.wires.wires_fit.Tie as tie
 
-none : tie.Need-returns
+none : tie.Need-returns-then-made-eq0
 unfolding wires_fit
-none c = rw (eq-eqb _ _ c.if1.true)
+none c = rw (eq-eqb _ _ c.if-made-eq0.true)
 
-some : tie.Need-returns-2
+some : tie.Need-returns
 unfolding wires_fit
-some c = rw (ne_eqb _ _ c.before.if1.false)
+some c = rw (ne_eqb _ _ c.if-made-eq0.false)
 
 pub wires_fit_spec : {M : Type 1} → statement M
 wires_fit_spec = tie.close (tie.spec none (λ c. search rules) (λ c. search rules) some)
