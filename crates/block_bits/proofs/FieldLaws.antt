@@ -16,7 +16,7 @@ use Rattle.lists.specs.Lists.{list_of}
 use Rattle.lists.proofs.ListsLaws.{list_of_ext}
 use Rattle.block_elements.specs.Bits.{bit_byte, bit_place, bit_of, with_bit, set_bit, store_bits, bits_held}
 use Rattle.block_elements.proofs.BitsLaws.{AreBytes}
-use Rattle.block_bits.specs.Stores.{field_bits, number_of, with_field}
+use Rattle.block_bits.specs.Stores.{field_bits, number_of, with_field, two_bytes, put_two_bytes}
 use Rattle.block_bits.proofs.StoreLaws.{store_more}
 
 -- ---- the number of some bits
@@ -162,14 +162,6 @@ bit_in_high q b w =
     rw (above, mod-pow-add w q 8, pow-add 2 q 8) (omega arith)
 
 -- ---- in the bytes
-
--- two bytes as a number, the lower first; past the end they are 0
-abbrev two_bytes : List ℕ → ℕ → ℕ
-two_bytes bytes i = get_or bytes i 0 + 256 * get_or bytes (i + 1) 0
-
--- the bytes with two made those of w; past the end nothing changes
-abbrev put_two_bytes : List ℕ → ℕ → ℕ → List ℕ
-put_two_bytes bytes i w = set (set bytes i (w % 256)) (i + 1) (w / 256)
 
 -- a bit more in two bytes that are made those of w; the upper one may lie past the end
 word-bit : (s : List ℕ) (i p b w : ℕ) → i < length s → p < 16 → b < 2 → set_bit (put_two_bytes s i w) (bits_held i + p) b ≡ put_two_bytes s i (with_bit p b w)

@@ -1,5 +1,5 @@
 -- The bits that are stored at once: those of a byte, and the lowest bits of many bytes.
-use Rattle.std.specs.Prelude.{ℕ, zero, suc, ◌+◌, ◌*◌, ◌/◌, ◌%◌, ◌^◌, min, List, length, get_or}
+use Rattle.std.specs.Prelude.{ℕ, zero, suc, ◌+◌, ◌*◌, ◌/◌, ◌%◌, ◌^◌, min, List, length, get_or, set}
 use Rattle.lists.specs.Lists.{list_of}
 use Rattle.block_elements.specs.Bits.{bit_of, bits_held}
 
@@ -23,3 +23,11 @@ number_of f (suc n) = f 0 + 2 * number_of (λ i. f (suc i)) n
 -- x with the n bits from a place on made those of v, which has no more: what lies above them, v, what lies below
 abbrev pub with_field : ℕ → ℕ → ℕ → ℕ → ℕ
 with_field place n v x = (x / 2 ^ (n + place) * 2 ^ n + v) * 2 ^ place + x % 2 ^ place
+
+-- two bytes as a number, the lower first; past the end they are 0
+abbrev pub two_bytes : List ℕ → ℕ → ℕ
+two_bytes bytes i = get_or bytes i 0 + 256 * get_or bytes (i + 1) 0
+
+-- the bytes with two made those of w; past the end nothing changes
+abbrev pub put_two_bytes : List ℕ → ℕ → ℕ → List ℕ
+put_two_bytes bytes i w = set (set bytes i (w % 256)) (i + 1) (w / 256)
