@@ -101,6 +101,7 @@ def convert(text, entry, asked, where):
     loops = {norm(pair[0]): pair[1] for pair, _ in entry["loops"]}
 
     head, _, tail = text.rpartition("tie.spec")
+    tail = re.sub(r"(?m)^ *--.*\n", "", tail)
     args = split_args(tail)
     typed = dict(re.findall(rf"(?m)^({WORD}) : tie\.Need-({WORD})", text))
     typed.update(re.findall(rf"(?m)^  +({WORD}) : tie\.Need-({WORD})", text))
@@ -188,6 +189,12 @@ def convert(text, entry, asked, where):
                 out.append(subs[n])
                 i += 1
                 continue
+            if s in ("taken", "left") and out and (out[-1].startswith("if-") or out[-1].endswith("-test")):
+                s = {"taken": "true", "left": "false"}[s]
+                if s in subs:
+                    s = subs[s]
+            if "-" in s and i and steps[i - 1] in VALUES:
+                s = s.replace("-", "_")
             if s == "true" and out and out[-1].startswith("if-not-"):
                 s = "true-raw"
             if s == "pre":
@@ -195,8 +202,8 @@ def convert(text, entry, asked, where):
                 i += 1
                 continue
             # what a callee left in its parameters goes by their names
-            if s in ("last", "new") and out:
-                out.append("new")
+            if s in ("last", "new", "kept", "auto") and out:
+                out.append({"last": "new", "kept": "auto"}.get(s, s))
                 i += 1
                 k = i
                 while k < len(steps) and steps[k] == "1":
@@ -302,6 +309,12 @@ def reached(text, entry):
         m = re.match(rf"module _ \(({WORD}) : tie\.({WORD})[^)]*\)", block)
         if m:
             head, _, rest = block.partition("\n")
+
+            def shown(it):
+                n = way(m[2], it[3])
+                return it[0] if n is None else it[1] + m[1] + ".before" * n
+
+            rest = re.sub(rf"(?m)^(  (?:abbrev )?({WORD}) : tie\.({WORD})[^\n]*\n  \2 = ){re.escape(m[1])}(?:\.before)*$", shown, rest)
             out.append(head + "\n" + body(rest, m[1], m[2]))
             continue
         out.append(block)
