@@ -4,11 +4,11 @@ use Rattle.fault.proofs.ChecksLaws.{answer-passes, answer-refuses, ◌then◌, s
 use Rattle.plan_series_checks.proofs.check_plan_series.Statement.{statement}
 use Rattle.plan_series_checks.proofs.check_plan_series.Tie as tie
 
-faulty : tie.Need-returns
-faulty c = stop c.before.f.given.0.0 _ (answer-refuses c.before.f.given.1 c.before.before.before.plan-fault.ensures)
+faulty : tie.Need-returns-in-Refused
+faulty c = stop c.in-Refused.f _ (answer-refuses c.in-Refused.is c.plan_fault.ensures)
 
-passed : tie.Need-returns-2
-passed c = let told = c.before in answer-passes told.enum_told.given.1 told.before.before.plan-fault.ensures then c.check-series.ensures
+passed : tie.Need-returns-in-Done
+passed c = answer-passes c.in-Done.is c.plan_fault.ensures then c.check_series.ensures
 
 pub check_plan_series_spec : {M : Type 1} → statement M
 check_plan_series_spec =

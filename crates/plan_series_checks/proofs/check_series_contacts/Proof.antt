@@ -6,18 +6,16 @@ use Rattle.plan_series_checks.proofs.SeriesChecksLaws.{entries_fit}
 use Rattle.plan_series_checks.proofs.check_series_contacts.Statement.{statement}
 use Rattle.plan_series_checks.proofs.check_series_contacts.Tie as tie
 
-all_fit : tie.Need-overflow-mul-contact-fault
-all_fit c = let s = c.before.before in entries_fit s.requires.1 (omega arith)
+all_fit : tie.Need-overflow_mul-intervals
+all_fit c = entries_fit c.requires.1 (omega arith)
 
-bad-fresh : tie.Need-returns
-bad-fresh c = stop c.before.f.given.0.0 _ (answer-refuses c.before.f.given.1 c.before.before.before.contact-fault.ensures)
+bad-fresh : tie.Need-returns-in-Refused
+bad-fresh c = stop c.in-Refused.f _ (answer-refuses c.in-Refused.is c.contact_fault.ensures)
 
-bad-start : tie.Need-returns-2
-bad-start c = let told = c.before in answer-passes told.enum_told.given.1 told.before.before.contact-fault.ensures then c.contact-fault2.ensures
+bad-start : tie.Need-returns-in-Done
+bad-start c = answer-passes c.in-Done.is c.contact_fault.ensures then c.contact_fault-in-Done.ensures
 
 pub check_series_contacts_spec : {M : Type 1} → statement M
 check_series_contacts_spec =
     tie.close
-    (tie.spec
-    (λ c. search rules) all_fit (λ c κs. search rules) (λ c. search rules) (λ c. search rules) (λ c κs. search rules)
-    bad-fresh bad-start)
+    (tie.spec (λ c. search rules) all_fit (λ c κs. search rules) (λ c. search rules) (λ c. search rules) (λ c κs. search rules) bad-fresh bad-start)

@@ -7,17 +7,17 @@ use Rattle.plan_series_checks.proofs.SeriesChecksLaws.{entries_fit}
 use Rattle.plan_series_checks.proofs.check_series_rooms.Statement.{statement}
 use Rattle.plan_series_checks.proofs.check_series_rooms.Tie as tie
 
-rows_fit : tie.Need-overflow-mul-if1
+rows_fit : tie.Need-overflow_mul-intervals
 rows_fit c = entries_fit c.requires (omega arith)
 
-short-rows : tie.Need-returns
-short-rows c = stop Fault.Short _ (room-refuses refl c.if1.true)
+short-rows : tie.Need-returns-then-results-intervals
+short-rows c = stop Fault.Short _ (room-refuses refl c.if-results-intervals.true)
 
-short-state : tie.Need-returns-2
-short-state c = room-passes refl c.before.if1.false then room-refuses refl c.if2.true
+short-state : tie.Need-returns-then-end-hold
+short-state c = room-passes refl c.if-results-intervals.false then room-refuses refl c.if-end-hold.true
 
-room : tie.Need-returns-3
-room c = room-passes refl c.before.if1.false then room-passes refl c.if2.false
+room : tie.Need-returns
+room c = room-passes refl c.if-results-intervals.false then room-passes refl c.if-end-hold.false
 
 pub check_series_rooms_spec : {M : Type 1} → statement M
 check_series_rooms_spec = tie.close (tie.spec rows_fit short-rows short-state room)
