@@ -16,52 +16,46 @@ use Rattle.plan_edits.proofs.edits.append_gate.Statement.{statement}
 use Rattle.plan_edits.proofs.edits.append_gate.Tie as tie
 
 -- the function's start, where the checks passed
-abbrev start : tie.After-enum-told → tie.Start
-start c = c.before.before.before
+abbrev start : tie.In-Done → tie.Start
+start c = c.before.before
 
-module _ (c : tie.After-enum-told) where
-  passes : let a = (start c).args in 0 ≡ append_gate_fault a.plan a.new-gate
-  passes = answer-passes c.enum_told.given.1 c.before.before.check-append-gate.ensures
+module _ (c : tie.In-Done) where
+  passes : let a = c.args in 0 ≡ append_gate_fault a.plan a.new-gate
+  passes = answer-passes c.in-Done.is c.check_append_gate.ensures
 
-  can : let a = (start c).args in CanAppendGate a.plan a.new-gate
+  can : let a = c.args in CanAppendGate a.plan a.new-gate
   can = can-append-gate _ _ passes
 
 -- where the counts were read
-abbrev met : tie.After-struct-known3 → tie.After-enum-told
+abbrev met : tie.After-struct_known-in-Done-2-1 → tie.In-Done
 met c = c.before.before.before
 
-count_fits : tie.Need-overflow-add-count
-count_fits c = Fits-below {n = 257} tt (omega (arith, (can (met c)).room))
+count_fits : tie.Need-overflow_add-count
+count_fits c = Fits-below {n = 257} tt (omega (arith, (can c.before.before.before).room))
 
 -- K
-counted-places : (c : tie.After-ceil-power) → c.ceil-power.result ≡ ceil_power (suc (start (met c.before)).args.plan.gate_count)
-counted-places c = c.ceil-power.ensures ∙ ap ceil_power (add-one _)
+counted-places : (c : tie.After-ceil_power) → c.ceil_power.result ≡ ceil_power (suc c.args.plan.gate_count)
+counted-places c = c.ceil_power.ensures ∙ ap ceil_power (add-one _)
 
-places-fit : tie.Need-overflow-cast-edited
-places-fit c = Fits-below {n = 256} tt (places_le (counted-places c) (can (met c.before)).room)
+places-fit : tie.Need-overflow_cast-edited
+places-fit c = Fits-below {n = 256} tt (places_le (counted-places c) (can c.before.before.before.before).room)
 
-refused : tie.Need-returns
+refused : tie.Need-returns-in-Refused
 unfolding gate_appended
 refused c =
-    let answer = c.before.before in
-    ap edited_outcome c.refused-edit.ensures
-    ∙ edit_refused answer.f.given.0.0 _ _ (answer-refuses answer.f.given.1 answer.before.before.check-append-gate.ensures)
+    ap edited_outcome c.refused_edit.ensures
+    ∙ edit_refused c.in-Refused.f _ _ (answer-refuses c.in-Refused.is c.check_append_gate.ensures)
 
-appended : tie.Need-returns-2
+appended : tie.Need-returns-in-Done
 unfolding gate_appended
 appended c =
-    let then = c.before.before.before.before in
-    let passed = met then.before in
-    let a = can passed in
-    rw (add-one (start passed).args.plan.gate_count)
-    (edit_done (with_gate_at _ _ _ (start passed).args.plan) _ _ _ (passes passed) (counted-places then)
-    (c.count-operands.ensures ∙ ap (with_operands _) c.before.before.clear-uses.ensures
-    ∙ gate-appended _ (has-places _ (start passed).good.0) a.accepted a.room _ a.gate))
+    let a = can c.before.before.before.before.before.before.before.before in
+    rw (add-one c.args.plan.gate_count)
+    (edit_done (with_gate_at _ _ _ c.args.plan) _ _ _ (passes c.before.before.before.before.before.before.before.before) (counted-places c.before.before.before.before)
+    (c.count_operands.ensures ∙ ap (with_operands _) c.clear_uses.ensures
+    ∙ gate-appended _ (has-places _ c.good.0) a.accepted a.room _ a.gate))
 
 pub append_gate_spec : {M : Type 1} → statement M
 append_gate_spec =
     tie.close
-    (tie.spec
-    (λ c κs. search rules) (λ c. search rules) (λ c κs. search rules) (λ c. search rules) (λ c. search rules) (λ c. search rules) count_fits (λ c. search rules)
-    (λ c. (can (met c)).room) (λ c. search rules) (λ c κs. search rules) places-fit (λ c. search rules)
-    (λ c κs. (can (met c.before.before)).in_uses) (λ c κs. search rules) refused appended)
+    (tie.spec (λ c κs. search rules) (λ c. search rules) (λ c κs. search rules) (λ c. search rules) (λ c. search rules) (λ c. search rules) count_fits (λ c. search rules) (λ c. (can (met c)).room) (λ c. search rules) (λ c κs. search rules) places-fit (λ c. search rules) (λ c κs. (can (met c.before.before)).in_uses) (λ c κs. search rules) refused appended)

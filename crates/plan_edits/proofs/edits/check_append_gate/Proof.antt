@@ -14,37 +14,34 @@ use Rattle.plan_edits.proofs.EditsLaws.{own-fault}
 use Rattle.plan_edits.proofs.edits.check_append_gate.Statement.{statement}
 use Rattle.plan_edits.proofs.edits.check_append_gate.Tie as tie
 
-plan-passes : (c : tie.After-enum-told) → 0 ≡ plan_fault c.before.before.before.args.plan
-plan-passes c = answer-passes c.enum_told.given.1 c.before.before.plan-fault.ensures
+plan-passes : (c : tie.In-Done) → 0 ≡ plan_fault c.args.plan
+plan-passes c = answer-passes c.in-Done.is c.plan_fault.ensures
 
 -- where the number of gates was asked
-abbrev met : tie.After-count-allowed → tie.After-enum-told
+abbrev met : tie.After-count_allowed → tie.In-Done
 met c = c.before.before.before
 
-one_more : (c : tie.After-count-allowed)
-    → c.count-allowed.result ≡ count_allowed max_gates (suc (met c).before.before.before.args.plan.gate_count)
-one_more c = c.count-allowed.ensures ∙ ap (count_allowed max_gates) (add-one _)
+one_more : (c : tie.After-count_allowed)
+    → c.count_allowed.result ≡ count_allowed max_gates (suc c.args.plan.gate_count)
+one_more c = c.count_allowed.ensures ∙ ap (count_allowed max_gates) (add-one _)
 
-too_many : tie.Need-returns
+too_many : tie.Need-returns-then-not-count_allowed
 unfolding append_gate_fault
-too_many c = plan-passes (met c.before) then stop Fault.Gates _ (test_refuses Fault.Gates (one_more c.before) c.if1.true)
+too_many c = plan-passes c.before.before.before.before then stop Fault.Gates _ (test_refuses Fault.Gates (one_more c.before) c.if-not-count_allowed.true-raw)
 
-plan-refused : tie.Need-returns-2
+plan-refused : tie.Need-returns-in-Refused
 unfolding append_gate_fault
-plan-refused c = stop c.before.f.given.0.0 _ (answer-refuses c.before.f.given.1 c.before.before.before.plan-fault.ensures)
+plan-refused c = stop c.in-Refused.f _ (answer-refuses c.in-Refused.is c.plan_fault.ensures)
 
-gate-asked : tie.Need-returns-3
+gate-asked : tie.Need-returns-else-not-count_allowed
 unfolding append_gate_fault
 gate-asked c =
-    let past = c.before.before in
-    let plan = plan-passes (met past.before) in
+    let plan = plan-passes c.before.before.before.before.before.before in
     let counts = accepted-counts _ (sym plan) in
-    plan then test_passes Fault.Gates (one_more past.before) past.if1.false
-    then (c.gate-fault.ensures ∙ own-fault _ c.before.gate-wire.ensures counts.inputs counts.gates)
+    plan then test_passes Fault.Gates (one_more c.before.before.before) c.if-not-count_allowed.false-raw
+    then (c.gate_fault.ensures ∙ own-fault _ c.gate_wire.ensures counts.inputs counts.gates)
 
 pub check_append_gate_spec : {M : Type 1} → statement M
 check_append_gate_spec =
     tie.close
-    (tie.spec
-    (λ c κs. search rules) (λ c. search rules) (λ c. search rules) (λ c. search rules) (λ c. search rules) (λ c. search rules)
-    (λ c κs. search rules) too_many (λ c κs. search rules) (λ c κs. search rules) plan-refused gate-asked)
+    (tie.spec (λ c κs. search rules) (λ c. search rules) (λ c. search rules) (λ c. search rules) (λ c. search rules) (λ c. search rules) (λ c κs. search rules) too_many (λ c κs. search rules) (λ c κs. search rules) plan-refused gate-asked)

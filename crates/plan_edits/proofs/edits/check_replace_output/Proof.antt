@@ -8,42 +8,38 @@ use Rattle.plan_edits.specs.Edits.{place_fault, replace_output_fault}
 use Rattle.plan_edits.proofs.edits.check_replace_output.Statement.{statement}
 use Rattle.plan_edits.proofs.edits.check_replace_output.Tie as tie
 
-plan-passes : (c : tie.After-enum-told) → 0 ≡ plan_fault c.before.before.before.args.plan
-plan-passes c = answer-passes c.enum_told.given.1 c.before.before.plan-fault.ensures
+plan-passes : (c : tie.In-Done) → 0 ≡ plan_fault c.args.plan
+plan-passes c = answer-passes c.in-Done.is c.plan_fault.ensures
 
 -- where the place passed
-abbrev met : tie.Else1 → tie.After-enum-told
+abbrev met : tie.Else-not-count_allowed → tie.In-Done
 met c = c.before.before.before
 
-place-passes : (c : tie.Else1) → let a = (met c).before.before.before.args in 0 ≡ place_fault a.plan.output_count a.output
+place-passes : (c : tie.Else-not-count_allowed) → let a = c.args in 0 ≡ place_fault a.plan.output_count a.output
 unfolding place_fault
-place-passes c = test_passes Fault.Place c.before.count-allowed.ensures c.if1.false
+place-passes c = test_passes Fault.Place c.count_allowed.ensures c.if-not-count_allowed.false-raw
 
-no_place : tie.Need-returns
+no_place : tie.Need-returns-then-not-count_allowed
 unfolding replace_output_fault place_fault
 no_place c =
     plan-passes c.before.before.before
-    then stop Fault.Place _ (test_refuses Fault.Place c.before.count-allowed.ensures c.if1.true)
+    then stop Fault.Place _ (test_refuses Fault.Place c.count_allowed.ensures c.if-not-count_allowed.true-raw)
 
-wire-refused : tie.Need-returns-2
+wire-refused : tie.Need-returns-then-not-source_allowed
 unfolding replace_output_fault output_fault
 wire-refused c =
-    let past = c.before.before in
-    plan-passes (met past) then place-passes past then test_refuses Fault.Source c.before.source-allowed.ensures c.if2.true
+    plan-passes c.before.before.before.before.before then place-passes c.before.before then test_refuses Fault.Source c.source_allowed.ensures c.if-not-source_allowed.true-raw
 
-plan-refused : tie.Need-returns-3
+plan-refused : tie.Need-returns-in-Refused
 unfolding replace_output_fault
-plan-refused c = stop c.before.f.given.0.0 _ (answer-refuses c.before.f.given.1 c.before.before.before.plan-fault.ensures)
+plan-refused c = stop c.in-Refused.f _ (answer-refuses c.in-Refused.is c.plan_fault.ensures)
 
-all_pass : tie.Need-returns-4
+all_pass : tie.Need-returns-else-not-source_allowed
 unfolding replace_output_fault output_fault
 all_pass c =
-    let past = c.before.before in
-    plan-passes (met past) then place-passes past then test_passes Fault.Source c.before.source-allowed.ensures c.if2.false
+    plan-passes c.before.before.before.before.before then place-passes c.before.before then test_passes Fault.Source c.source_allowed.ensures c.if-not-source_allowed.false-raw
 
 pub check_replace_output_spec : {M : Type 1} → statement M
 check_replace_output_spec =
     tie.close
-    (tie.spec
-    (λ c κs. search rules) (λ c. search rules) (λ c. search rules) (λ c. search rules) (λ c κs. search rules) no_place (λ c κs. search rules)
-    wire-refused plan-refused all_pass)
+    (tie.spec (λ c κs. search rules) (λ c. search rules) (λ c. search rules) (λ c. search rules) (λ c κs. search rules) no_place (λ c κs. search rules) wire-refused plan-refused all_pass)

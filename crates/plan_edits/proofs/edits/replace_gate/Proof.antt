@@ -12,44 +12,39 @@ use Rattle.plan_edits.proofs.edits.replace_gate.Statement.{statement}
 use Rattle.plan_edits.proofs.edits.replace_gate.Tie as tie
 
 -- the function's start, where the checks passed
-abbrev start : tie.After-enum-told → tie.Start
-start c = c.before.before.before
+abbrev start : tie.In-Done → tie.Start
+start c = c.before.before
 
-module _ (c : tie.After-enum-told) where
-  passes : let a = (start c).args in 0 ≡ replace_gate_fault a.plan a.gate a.new-gate
-  passes = answer-passes c.enum_told.given.1 c.before.before.check-replace-gate.ensures
+module _ (c : tie.In-Done) where
+  passes : let a = c.args in 0 ≡ replace_gate_fault a.plan a.gate a.new-gate
+  passes = answer-passes c.in-Done.is c.check_replace_gate.ensures
 
-  can : let a = (start c).args in CanReplaceGate a.plan a.gate a.new-gate
+  can : let a = c.args in CanReplaceGate a.plan a.gate a.new-gate
   can = can_replace_gate _ _ _ passes
 
-  places : HasPlaces (start c).args.plan
-  places = has-places _ (start c).well-formed.0
+  places : HasPlaces c.args.plan
+  places = has-places _ c.well-formed.0
 
-for_drop : tie.Need-drop-operands-requires
+for_drop : tie.Need-drop_operands-requires
 for_drop c κs =
-    let met = c.before.before in
-    let a = can met in
-    ((first-drops _ (places met) a.accepted _ a.low).asked, (second-drops _ (places met) a.accepted _ a.low).asked)
+    let a = can c.before.before in
+    ((first-drops _ (places c.before.before) a.accepted _ a.low).asked, (second-drops _ (places c.before.before) a.accepted _ a.low).asked)
 
-refused : tie.Need-returns
+refused : tie.Need-returns-in-Refused
 unfolding gate_replaced
 refused c =
-    let answer = c.before.before in
-    ap edited_outcome c.refused-edit.ensures
-    ∙ edit_refused answer.f.given.0.0 _ _ (answer-refuses answer.f.given.1 answer.before.before.check-replace-gate.ensures)
+    ap edited_outcome c.refused_edit.ensures
+    ∙ edit_refused c.in-Refused.f _ _ (answer-refuses c.in-Refused.is c.check_replace_gate.ensures)
 
-replaced : tie.Need-returns-2
+replaced : tie.Need-returns-in-Done
 unfolding gate_replaced
 replaced c =
-    let met = c.before.before.before.before.before in
-    let a = can met in
-    edit_done (with_gate_at _ _ _ (start met).args.plan) _ _ _ (passes met) (accepted-tallied _ a.accepted).places
-    (c.count-operands.ensures ∙ ap (with_operands _) c.before.before.drop-operands.ensures
-    ∙ gate-replaced _ (places met) a.accepted _ a.low _ a.gate)
+    let a = can c.before.before.before.before.before in
+    edit_done (with_gate_at _ _ _ c.args.plan) _ _ _ (passes c.before.before.before.before.before) (accepted-tallied _ a.accepted).places
+    (c.count_operands.ensures ∙ ap (with_operands _) c.drop_operands.ensures
+    ∙ gate-replaced _ (places c.before.before.before.before.before) a.accepted _ a.low _ a.gate)
 
 pub replace_gate_spec : {M : Type 1} → statement M
 replace_gate_spec =
     tie.close
-    (tie.spec
-    (λ c κs. search rules) (λ c. search rules) (λ c κs. search rules) (λ c. search rules) (λ c. (can c).some) (λ c. search rules) (λ c. (can c).in_gates)
-    (λ c. search rules) (λ c. (can c.before).in_gates) for_drop (λ c κs. search rules) refused replaced)
+    (tie.spec (λ c κs. search rules) (λ c. search rules) (λ c κs. search rules) (λ c. search rules) (λ c. (can c).some) (λ c. search rules) (λ c. (can c).in_gates) (λ c. search rules) (λ c. (can c.before).in_gates) for_drop (λ c κs. search rules) refused replaced)

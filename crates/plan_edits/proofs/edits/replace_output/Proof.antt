@@ -13,41 +13,37 @@ use Rattle.plan_edits.proofs.edits.replace_output.Statement.{statement}
 use Rattle.plan_edits.proofs.edits.replace_output.Tie as tie
 
 -- the function's start, where the checks passed
-abbrev start : tie.After-enum-told → tie.Start
-start c = c.before.before.before
+abbrev start : tie.In-Done → tie.Start
+start c = c.before.before
 
-module _ (c : tie.After-enum-told) where
-  passes : let a = (start c).args in 0 ≡ replace_output_fault a.plan a.output a.wire
-  passes = answer-passes c.enum_told.given.1 c.before.before.check-replace-output.ensures
+module _ (c : tie.In-Done) where
+  passes : let a = c.args in 0 ≡ replace_output_fault a.plan a.output a.wire
+  passes = answer-passes c.in-Done.is c.check_replace_output.ensures
 
-  can : let a = (start c).args in CanReplaceOutput a.plan a.output a.wire
+  can : let a = c.args in CanReplaceOutput a.plan a.output a.wire
   can = can_replace_output _ _ _ passes
 
-  places : HasPlaces (start c).args.plan
-  places = has-places _ (start c).well-formed.0
+  places : HasPlaces c.args.plan
+  places = has-places _ c.well-formed.0
 
-for_drop : tie.Need-drop-use-requires
-for_drop c κs = let met = c.before.before in (output-drops _ (places met) (can met).accepted _ (can met).low).asked
+for_drop : tie.Need-drop_use-requires
+for_drop c κs = (output-drops _ (places c.before.before) (can c.before.before).accepted _ (can c.before.before).low).asked
 
-refused : tie.Need-returns
+refused : tie.Need-returns-in-Refused
 unfolding output_replaced
 refused c =
-    let answer = c.before.before in
-    ap edited_outcome c.refused-edit.ensures
-    ∙ edit_refused answer.f.given.0.0 _ _ (answer-refuses answer.f.given.1 answer.before.before.check-replace-output.ensures)
+    ap edited_outcome c.refused_edit.ensures
+    ∙ edit_refused c.in-Refused.f _ _ (answer-refuses c.in-Refused.is c.check_replace_output.ensures)
 
-replaced : tie.Need-returns-2
+replaced : tie.Need-returns-in-Done
 unfolding output_replaced
 replaced c =
-    let met = c.before.before.before.before.before in
-    let a = can met in
-    edit_done (with_output_at _ _ (start met).args.plan) _ _ _ (passes met) (accepted-tallied _ a.accepted).places
-    (c.count-use.ensures ∙ ap (with_use _) c.before.before.drop-use.ensures
-    ∙ output-replaced _ (places met) a.accepted _ a.low _ a.output)
+    let a = can c.before.before.before.before.before in
+    edit_done (with_output_at _ _ c.args.plan) _ _ _ (passes c.before.before.before.before.before) (accepted-tallied _ a.accepted).places
+    (c.count_use.ensures ∙ ap (with_use _) c.drop_use.ensures
+    ∙ output-replaced _ (places c.before.before.before.before.before) a.accepted _ a.low _ a.output)
 
 pub replace_output_spec : {M : Type 1} → statement M
 replace_output_spec =
     tie.close
-    (tie.spec
-    (λ c κs. search rules) (λ c. search rules) (λ c κs. search rules) (λ c. search rules) (λ c. (can c).some) (λ c. search rules) (λ c. (can c).in_outputs)
-    (λ c. search rules) (λ c. (can c.before).in_outputs) for_drop (λ c κs. search rules) refused replaced)
+    (tie.spec (λ c κs. search rules) (λ c. search rules) (λ c κs. search rules) (λ c. search rules) (λ c. (can c).some) (λ c. search rules) (λ c. (can c).in_outputs) (λ c. search rules) (λ c. (can c.before).in_outputs) for_drop (λ c κs. search rules) refused replaced)
