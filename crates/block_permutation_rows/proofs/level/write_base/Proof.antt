@@ -18,29 +18,25 @@ same : {n k : ℕ} (next : ℕ) (p : LevelOuts) (R₀ R : List ℕ) → n ≡ k 
 same next p R₀ R e w =
     (w.0 ∙ ap (λ n. over (flat (inner_rows n next)) R₀) (sym e), subst (λ (n : ℕ). OutsAt n next p) (sym e) w.1)
 
-eight_fits : tie.Need-write-eight-requires
-eight_fits c κs = eight-room c.before.if1.true c.before.before.before.requires.1
+eight_fits : tie.Need-write_eight-requires
+eight_fits c κs = eight-room c.if-n-eq2.true c.requires.1
 
-eight : tie.Need-returns
+eight : tie.Need-returns-then-n-eq2
 eight c =
-    let put = c.before.before in
-    let then = put.before.before in
-    let a = then.before.before.args in
-    same a.next.0 put.write-eight.result a.rows.now _ then.if1.true put.write-eight.ensures
+    let a = c.args in
+    same a.next.0 c.write_eight.result a.rows.now _ c.if-n-eq2.true c.write_eight.ensures
 
-four-fits : tie.Need-write-four-requires
-four-fits c κs = four-room c.before.if2.true c.before.before.before.before.requires.1
+four-fits : tie.Need-write_four-requires
+four-fits c κs = four-room c.if-n-eq1.true c.requires.1
 
-four : tie.Need-returns-2
+four : tie.Need-returns-then-n-eq1
 four c =
-    let put = c.before.before in
-    let then = put.before.before in
-    let a = then.before.before.before.args in
-    same a.next.0 put.write-four.result a.rows.now _ then.if2.true put.write-four.ensures
+    let a = c.args in
+    same a.next.0 c.write_four.result a.rows.now _ c.if-n-eq1.true c.write_four.ensures
 
-pair : tie.Need-returns-3
+pair : tie.Need-returns
 pair c =
-    let a = c.before.before.before.before.before.args in
+    let a = c.args in
     let e : a.n ≡ 0 = omega arith in
     (pair-kept a.n a.next.0 a.rows.now e, pair-outs a.n a.next.0 _ e refl refl refl)
 

@@ -6,53 +6,42 @@ use Rattle.block_permutation_rows.proofs.level.write_eight.Statement.{statement}
 use Rattle.block_permutation_rows.proofs.level.write_eight.Tie as tie
 
 -- the way back from the output rows over the lower half and the upper half to the start
-abbrev lower : tie.After-join-halves → tie.After-write-four2
+abbrev lower : tie.After-join_halves → tie.After-write_four-below
 lower c = c.before.before.before.before
 
-abbrev lower_inputs : tie.After-join-halves → tie.After-put-rising2
-lower_inputs c = (lower c).before.before.before.before
+abbrev lower_inputs : tie.After-join_halves → tie.After-put_rising-2
+lower_inputs c = c.before.before.before.before.before.before.before.before
 
-abbrev upper : tie.After-join-halves → tie.After-write-four
-upper c = (lower_inputs c).before.before.before.before
+abbrev upper : tie.After-join_halves → tie.After-write_four-above
+upper c = c.before.before.before.before.before.before.before.before.before.before.before.before
 
-abbrev inputs : tie.After-join-halves → tie.After-put-rising
-inputs c = (upper c).before.before.before.before
+abbrev inputs : tie.After-join_halves → tie.After-put_rising
+inputs c = c.before.before.before.before.before.before.before.before.before.before.before.before.before.before.before.before
 
-abbrev start : tie.After-join-halves → tie.Start
-start c = (inputs c).before.before.before
+abbrev start : tie.After-join_halves → tie.Start
+start c = c.before.before.before.before.before.before.before.before.before.before.before.before.before.before.before.before.before.before.before
 
-first_fits : tie.Need-overflow-add-t22
-first_fits c = let r = (start c.before.before.before.before).requires in omega arith
+first_fits : tie.Need-overflow_add-result
+first_fits c = let r = c.requires in omega arith
 
 written : tie.Need-returns
 written c =
-    let o = c.before.before.before.before in
-    let a = (start o).args in
+    let a = c.args in
     let w =
-    eight-written a.next.0 (upper o).write-four.result (lower o).write-four2.result a.rows.now (inputs o).put-rising.new.0
-    (upper o).write-four.new.1.0 (lower_inputs o).put-rising2.new.0 (lower o).write-four2.new.1.0 o.join-halves.new.0 (start o).requires
+    eight-written a.next.0 c.write_four-above.result c.write_four-below.result a.rows.now c.put_rising.new.rows
+    c.write_four-above.new.rows c.put_rising-2.new.rows c.write_four-below.new.rows c.join_halves.new.rows c.requires
     (record {
-      inputs = (inputs o).put-rising.ensures;
-      upper_rows = (upper o).write-four.ensures.0;
-      upper_wires = (upper o).write-four.ensures.1;
-      lower_inputs = (lower_inputs o).put-rising2.ensures;
-      lower_rows = (lower o).write-four2.ensures.0;
-      lower_wires = (lower o).write-four2.ensures.1;
-      output_rows = o.join-halves.ensures;
+      inputs = c.put_rising.ensures;
+      upper_rows = c.write_four-above.ensures.0;
+      upper_wires = c.write_four-above.ensures.1;
+      lower_inputs = c.put_rising-2.ensures;
+      lower_rows = c.write_four-below.ensures.0;
+      lower_wires = c.write_four-below.ensures.1;
+      output_rows = c.join_halves.ensures;
     }) in
     (w.rows, w.wires)
 
 pub write_eight_spec : {M : Type 1} → statement M
 write_eight_spec =
     tie.close
-    (tie.spec
-    -- the upper half
-    (λ c. search rules) (λ c κs. search rules) (λ c. search rules) (λ c. search rules) (λ c. search rules) (λ c. search rules)
-    (λ c. search rules) (λ c. search rules) (λ c κs. search rules)
-    -- the lower half
-    (λ c. search rules) (λ c. search rules) (λ c. search rules) (λ c. search rules) (λ c. search rules) (λ c. search rules)
-    (λ c. search rules) (λ c κs. search rules) (λ c. search rules) (λ c. search rules) (λ c. search rules) (λ c. search rules)
-    (λ c. search rules) (λ c. search rules) (λ c κs. search rules)
-    -- the output rows
-    (λ c. search rules) (λ c. search rules) (λ c. search rules) (λ c. search rules) (λ c. search rules) (λ c κs. search rules)
-    first_fits (λ c. search rules) written)
+    (tie.spec (λ c. search rules) (λ c κs. search rules) (λ c. search rules) (λ c. search rules) (λ c. search rules) (λ c. search rules) (λ c. search rules) (λ c. search rules) (λ c κs. search rules) (λ c. search rules) (λ c. search rules) (λ c. search rules) (λ c. search rules) (λ c. search rules) (λ c. search rules) (λ c. search rules) (λ c κs. search rules) (λ c. search rules) (λ c. search rules) (λ c. search rules) (λ c. search rules) (λ c. search rules) (λ c. search rules) (λ c κs. search rules) (λ c. search rules) (λ c. search rules) (λ c. search rules) (λ c. search rules) (λ c. search rules) (λ c κs. search rules) first_fits (λ c. search rules) written)

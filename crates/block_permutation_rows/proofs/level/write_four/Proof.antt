@@ -6,21 +6,13 @@ use Rattle.block_permutation_rows.proofs.level.write_four.Statement.{statement}
 use Rattle.block_permutation_rows.proofs.level.write_four.Tie as tie
 
 written : tie.Need-returns
-written c =
-    let third = c.before.before.before.before.before in
-    let second = third.before.before.before.before in
-    let first = second.before.before.before.before in
-    let start = first.before.before.before.before in (
-      four-written start.args.next.0 start.args.rows.now first.put-switch.new.0 second.put-switch2.new.0 third.put-switch3.new.0
-          start.requires first.put-switch.ensures second.put-switch2.ensures third.put-switch3.ensures,
-      four-outs _ _ refl refl refl,
-    )
+written c = (
+  four-written c.args.next.0 c.args.rows.now c.put_switch.new.rows c.put_switch-2.new.rows c.put_switch-3.new.rows
+      c.requires c.put_switch.ensures c.put_switch-2.ensures c.put_switch-3.ensures,
+  four-outs _ _ refl refl refl,
+)
 
 pub write_four_spec : {M : Type 1} → statement M
 write_four_spec =
     tie.close
-    (tie.spec
-    (λ c. search rules) (λ c. search rules) (λ c κs. search rules) (λ c. search rules) (λ c. search rules) (λ c. search rules)
-    (λ c. search rules) (λ c. search rules) (λ c κs. search rules) (λ c. search rules) (λ c. search rules) (λ c. search rules)
-    (λ c. search rules) (λ c. search rules) (λ c. search rules) (λ c. search rules) (λ c κs. search rules)
-    (λ c. search rules) (λ c. search rules) (λ c. search rules) (λ c. search rules) written)
+    (tie.spec (λ c. search rules) (λ c. search rules) (λ c κs. search rules) (λ c. search rules) (λ c. search rules) (λ c. search rules) (λ c. search rules) (λ c. search rules) (λ c κs. search rules) (λ c. search rules) (λ c. search rules) (λ c. search rules) (λ c. search rules) (λ c. search rules) (λ c. search rules) (λ c. search rules) (λ c κs. search rules) (λ c. search rules) (λ c. search rules) (λ c. search rules) (λ c. search rules) written)

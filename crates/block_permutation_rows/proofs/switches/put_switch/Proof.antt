@@ -7,7 +7,7 @@ use Rattle.block_rows.proofs.RowsLaws.{row-stored}
 use Rattle.block_permutation_rows.proofs.switches.put_switch.Statement.{statement}
 use Rattle.block_permutation_rows.proofs.switches.put_switch.Tie as tie
 
-second : tie.Need-slice-write-rows-2
+second : tie.Need-bounds-rows-1
 second c = simp length-set (omega arith)
 
 stored : tie.Need-returns

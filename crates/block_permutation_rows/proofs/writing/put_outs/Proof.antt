@@ -6,18 +6,14 @@ use Rattle.block_permutation_rows.proofs.HalvesLaws.{outs-put}
 use Rattle.block_permutation_rows.proofs.writing.put_outs.Statement.{statement}
 use Rattle.block_permutation_rows.proofs.writing.put_outs.Tie as tie
 
-second : tie.Need-slice-write-outputs-2
+second : tie.Need-bounds-outputs-rising-2
 second c = simp length-set (omega arith)
 
 put : tie.Need-returns
 put c =
-    let rise = c.before.before.before.before in
-    let start = rise.before.before.before in
-    outs-put start.args.rising start.args.outs start.args.outputs.now _ start.requires rise.put-wires.ensures
+    outs-put c.args.rising c.args.outs c.args.outputs.now _ c.requires c.put_wires.ensures
 
 pub put_outs_spec : {M : Type 1} → statement M
 put_outs_spec =
     tie.close
-    (tie.spec
-    (λ c κs. search rules) (λ c. search rules) (λ c. search rules) (λ c. search rules) (λ c. search rules)
-    (λ c. search rules) (λ c. search rules) (λ c. search rules) (λ c. search rules) second (λ c. search rules) put)
+    (tie.spec (λ c κs. search rules) (λ c. search rules) (λ c. search rules) (λ c. search rules) (λ c. search rules) (λ c. search rules) (λ c. search rules) (λ c. search rules) (λ c. search rules) second (λ c. search rules) put)

@@ -8,47 +8,39 @@ use Rattle.block_permutation_rows.proofs.writing.write_from_inputs.Statement.{st
 use Rattle.block_permutation_rows.proofs.writing.write_from_inputs.Tie as tie
 
 -- the places where the size is found and the inner rows are written, and the way back from each
-abbrev start : tie.After-size-at → tie.Start
+abbrev start : tie.After-size_at-half → tie.Start
 start c = c.before.before.before.before
 
-abbrev pairs : tie.After-write-inner → tie.After-put-pairs
+abbrev pairs : tie.After-write_inner-outs → tie.After-put_pairs
 pairs c = c.before.before.before.before
 
-abbrev placed : tie.After-write-inner → tie.After-row-place
-placed c = (pairs c).before.before.before
+abbrev placed : tie.After-write_inner-outs → tie.After-row_place-inner
+placed c = c.before.before.before.before.before.before.before
 
-some : tie.Need-overflow-sub-put-pairs
-some c = some-inputs (start c.before.before).requires
+some : tie.Need-slice_bounds-put_pairs-count
+some c = some-inputs c.requires
 
-begins : tie.Need-slice-bounds-put-pairs-start
-begins c = some-inputs (start c.before.before).requires
+begins : tie.Need-slice_bounds-put_pairs-start
+begins c = some-inputs c.requires
 
-half : tie.Need-overflow-sub-put-outs
-half c = let sized = (placed c.before.before.before).before in omega (arith, sized.size-at.ensures.0, pow_pos (start sized).args.n)
+half : tie.Need-overflow_sub-half
+half c = omega (arith, c.size_at-half.ensures.0, pow_pos c.args.n)
 
-room : tie.Need-put-outs-requires
+room : tie.Need-put_outs-requires
 room c κs =
-    let inner = c.before.before.before in
-    let sized = (placed inner).before in
-    outs-room (start sized).pre sized.size-at.result inner.write-inner.result sized.size-at.ensures.0 inner.write-inner.ensures.1
+    outs-room c.requires c.size_at-half.result c.write_inner-outs.result c.size_at-half.ensures.0 c.write_inner-outs.ensures.1
 
 written : tie.Need-returns
 written c =
-    let outs = c.before.before in
-    let inner = outs.before.before.before.before in
-    let sized = (placed inner).before in
-    let a = (start sized).args in (
-      rows_written (start sized).pre sized.size-at.result (placed inner).row-place.result a.inputs.now a.rows.now
-          (pairs inner).put-pairs.new.0 inner.write-inner.new.1.1.0 refl sized.size-at.ensures.0 (placed inner).row-place.ensures
-          (pairs inner).put-pairs.ensures inner.write-inner.ensures.0,
-      wires-written (start sized).pre sized.size-at.result inner.write-inner.result a.inputs.now a.outputs.now _
-          sized.size-at.ensures.0 inner.write-inner.ensures.1 outs.put-outs.ensures,
+    let a = c.args in (
+      rows_written c.requires c.size_at-half.result c.row_place-inner.result a.inputs.now a.rows.now
+          c.put_pairs.new.rows c.write_inner-outs.new.rows refl c.size_at-half.ensures.0 c.row_place-inner.ensures
+          c.put_pairs.ensures c.write_inner-outs.ensures.0,
+      wires-written c.requires c.size_at-half.result c.write_inner-outs.result a.inputs.now a.outputs.now _
+          c.size_at-half.ensures.0 c.write_inner-outs.ensures.1 c.put_outs.ensures,
     )
 
 pub write_from_inputs_spec : {M : Type 1} → statement M
 write_from_inputs_spec =
     tie.close
-    (tie.spec
-    (λ c κs. search rules) (λ c κs. search rules) some begins (λ c. search rules) (λ c κs. search rules) (λ c. search rules)
-    (λ c. search rules) (λ c. search rules) (λ c. search rules) (λ c κs. search rules) (λ c. search rules) half (λ c. search rules)
-    room (λ c. search rules) (λ c. search rules) written)
+    (tie.spec (λ c κs. search rules) (λ c κs. search rules) some begins (λ c. search rules) (λ c κs. search rules) (λ c. search rules) (λ c. search rules) (λ c. search rules) (λ c. search rules) (λ c κs. search rules) (λ c. search rules) half (λ c. search rules) room (λ c. search rules) (λ c. search rules) written)

@@ -7,23 +7,19 @@ use Rattle.block_write_checks.proofs.WriteChecksLaws.{write_passes}
 use Rattle.block_permutation_rows.proofs.writing.write_permutation.Statement.{statement}
 use Rattle.block_permutation_rows.proofs.writing.write_permutation.Tie as tie
 
-passes : tie.Need-write-checked-permutation-requires
+passes : tie.Need-write_checked_permutation-requires
 passes c κs =
-    let told = c.before.before in
-    write_passes _ _ _ _ _ (sym (answer-passes told.enum_told.given.1 told.before.before.check-permutation-write.ensures))
+    write_passes _ _ _ _ _ (sym (answer-passes c.in-Done.is c.check_permutation_write.ensures))
 
-refused : tie.Need-returns
-refused c = refuses-both _ _ _ _ c.before.before.before.check-permutation-write.ensures c.before.f.given.1
+refused : tie.Need-returns-in-Refused
+refused c = refuses-both _ _ _ _ c.check_permutation_write.ensures c.in-Refused.is
 
-done : tie.Need-returns-2
+done : tie.Need-returns-in-Done
 done c =
-    let put = c.before.before.before.before in
-    let told = put.before.before.before in
-    fills_both _ _ _ _ told.before.before.check-permutation-write.ensures told.enum_told.given.1
-    put.write-checked-permutation.ensures.0 put.write-checked-permutation.ensures.1
+    fills_both _ _ _ _ c.check_permutation_write.ensures c.in-Done.is
+    c.write_checked_permutation.ensures.0 c.write_checked_permutation.ensures.1
 
 pub write_permutation_spec : {M : Type 1} → statement M
 write_permutation_spec =
     tie.close
-    (tie.spec
-    (λ c κs. search rules) (λ c. search rules) (λ c. search rules) passes refused (λ c. search rules) (λ c. search rules) done)
+    (tie.spec (λ c κs. search rules) (λ c. search rules) (λ c. search rules) passes refused (λ c. search rules) (λ c. search rules) done)
