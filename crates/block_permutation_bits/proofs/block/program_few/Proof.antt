@@ -11,17 +11,14 @@ use Rattle.block_permutation_bits.proofs.block.program_few.Tie as tie
 two : {level : ℕ} → 1 < level → level ≤ 2 → level ≡ 2
 two l m = omega arith
 
-for_four : tie.Need-program-four-requires
+for_four : tie.Need-program_four-requires
 for_four c κs =
-    let s = c.before.before.before.before in
-    (s.requires.0, s.requires.1 ∙ ap (λ n. 2 ^ n) (two c.before.if1.true s.requires.2))
+    (c.requires.0, c.requires.1 ∙ ap (λ n. 2 ^ n) (two c.if-level-gt1.true c.requires.2))
 
-stored : tie.Need-returns
+stored : tie.Need-returns-then-level-gt1
 stored c =
-    let taken = c.before.before.before.before in
-    let s = taken.before.before.before in
-    c.before.before.program-four.ensures
-    ∙ ap (λ n. store_bits s.args.program.now s.args.start (list_bits n s.args.perm.now)) (sym (two taken.if1.true s.requires.2))
+    c.program_four.ensures
+    ∙ ap (λ n. store_bits c.args.program.now c.args.start (list_bits n c.args.perm.now)) (sym (two c.if-level-gt1.true c.requires.2))
 
 pub program_few_spec : {M : Type 1} → statement M
 program_few_spec = tie.close (tie.spec for_four (λ c κs. search rules) (λ c. search rules) stored (λ c. search rules) (λ c. search rules))

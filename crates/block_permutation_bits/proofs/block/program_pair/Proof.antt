@@ -6,30 +6,26 @@ use Rattle.block_loops.proofs.LevelsLaws.{no_bits, pair-some, pair-first, pair-s
 use Rattle.block_permutation_bits.proofs.block.program_pair.Statement.{statement}
 use Rattle.block_permutation_bits.proofs.block.program_pair.Tie as tie
 
-read : tie.Need-shared-slice-read-store-bit
+read : tie.Need-bounds-perm-0
 read c =
-    let s = c.before.before.before.before.before in
-    let p = s.requires in
-    pair-some s.args.perm.now p.0 p.1 p.2 c.before.before.if1.true
+    let p = c.requires in
+    pair-some c.args.perm.now p.0 p.1 p.2 c.if-level-gt0.true
 
-small : tie.Need-overflow-cast-store-bit
+small : tie.Need-overflow_cast-perm
 small c =
-    let s = c.before.before.before.before.before in
-    let p = s.requires in
-    omega (arith, pair-first s.args.perm.now p.0 p.1 p.2 c.before.before.if1.true)
+    let p = c.requires in
+    omega (arith, pair-first c.args.perm.now p.0 p.1 p.2 c.if-level-gt0.true)
 
-stored : tie.Need-returns
+stored : tie.Need-returns-then-level-gt0
 stored c =
-    let taken = c.before.before.before.before.before in
-    let s = taken.before.before.before in
-    let p = s.requires in
-    c.before.before.store-bit.ensures
-    ∙ pair-stored s.args.perm.now p.0 p.1 p.2 taken.if1.true s.args.program.now s.args.start
+    let p = c.requires in
+    c.store_bit.ensures
+    ∙ pair-stored c.args.perm.now p.0 p.1 p.2 c.if-level-gt0.true c.args.program.now c.args.start
 
-nothing : tie.Need-returns-2
+nothing : tie.Need-returns-else-level-gt0
 nothing c =
-    let a = c.before.before.before.args in
-    no_bits a.level a.start a.perm.now a.program.now c.if1.false
+    let a = c.args in
+    no_bits a.level a.start a.perm.now a.program.now c.if-level-gt0.false
 
 pub program_pair_spec : {M : Type 1} → statement M
 program_pair_spec = tie.close (tie.spec read small (λ c κs. search rules) (λ c. search rules) stored nothing)

@@ -7,15 +7,14 @@ use Rattle.block_permutation_bits.specs.Four.{four_word}
 use Rattle.block_permutation_bits.proofs.four.four_word.Statement.{statement}
 use Rattle.block_permutation_bits.proofs.four.four_word.Tie as tie
 
-crossed : tie.Need-returns
+crossed : tie.Need-returns-then-first-third
 unfolding four_word
-crossed c = rw (eq-eqb _ _ c.before.if1.true) (ap (λ w. 16 + w) c.sides-word.ensures.0)
+crossed c = rw (eq-eqb _ _ c.if-first-third.true) (ap (λ w. 16 + w) c.sides_word.ensures.0)
 
-straight : tie.Need-returns-2
+straight : tie.Need-returns
 unfolding four_word
-straight c = rw (ne_eqb _ _ c.before.if1.false) c.sides-word2.ensures.0
+straight c = rw (ne_eqb _ _ c.if-first-third.false) c.sides_word-2.ensures.0
 
 pub four_word_spec : {M : Type 1} → statement M
 four_word_spec =
-    tie.close (tie.spec (λ c. search rules) (λ c. search rules) (λ c. search rules) (λ c κs. search rules) (λ c. search rules) crossed (λ c κs. search rules)
-    straight)
+    tie.close (tie.spec (λ c. search rules) (λ c. search rules) (λ c. search rules) (λ c κs. search rules) (λ c. search rules) crossed (λ c κs. search rules) straight)

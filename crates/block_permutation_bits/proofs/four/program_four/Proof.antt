@@ -9,10 +9,9 @@ use Rattle.block_permutation_bits.proofs.four.program_four.Tie as tie
 
 stored : tie.Need-returns
 stored c =
-    let asked = c.before.before.before in
-    let a = asked.before.before.before.before.args in
-    c.before.before.store-field.ensures
-    ∙ ap (store_bits a.program.now a.start) (ap (field_bits 5) asked.four-word.ensures ∙ word-bits asked.before.before.before.before.requires.0 asked.before.before.before.before.requires.1)
+    let a = c.args in
+    c.store_field.ensures
+    ∙ ap (store_bits a.program.now a.start) (ap (field_bits 5) c.four_word.ensures ∙ word-bits c.requires.0 c.requires.1)
 
 pub program_four_spec : {M : Type 1} → statement M
 program_four_spec = tie.close (tie.spec (λ c κs. search rules) (λ c κs. search rules) (λ c. search rules) stored)

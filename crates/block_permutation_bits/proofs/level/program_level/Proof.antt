@@ -10,50 +10,42 @@ use Rattle.block_permutation_bits.proofs.level.program_level.Statement.{statemen
 use Rattle.block_permutation_bits.proofs.level.program_level.Tie as tie
 
 -- the way back from the stored rows to the sides, to the start
-abbrev sides : tie.After-store-rows → tie.After-find-sides
-sides c = c.before.before.before.before.before.before.before
+abbrev sides : tie.After-store_rows → tie.After-find_sides
+sides c = c.before.before.before.before.before.before
 
-abbrev start : tie.After-find-sides → tie.Start
+abbrev start : tie.After-find_sides → tie.Start
 start c = c.before.before.before.before.before.before.before
 
 -- as many marks as there were
-module _ (c : tie.After-find-sides) where
-  marks : length c.find-sides.new.1.1.0 ≡ length (start c).args.mark.now
-  marks = c.find-sides.auto.1.1.0
+module _ (c : tie.After-find_sides) where
+  marks : length c.find_sides.new.mark ≡ length c.args.mark.now
+  marks = c.find_sides.auto.mark
 
-front-size : tie.Need-slice-aggregate-half-maps
+front-size : tie.Need-slice_bounds-half_maps-end-2
 front-size c =
-    let at = sides c.before.before.before in
-    sym (length-take_le _ _ (omega (arith, marks at)))
+    sym (length-take_le _ _ (omega (arith, marks c.before.before.before.before.before.before.before.before)))
 
-for_halves : tie.Need-half-maps-requires
+for_halves : tie.Need-half_maps-requires
 for_halves c κs =
-    let at = sides c.before.before.before.before in
-    let s = start at in
-    let room = s.pre.1.0 in
-    let n = length s.args.mark.now / 2 in
-    let size = length-take_le n at.find-sides.last.1.1.0 (omega (arith, marks at)) in (
-      rw at.find-sides.ensures (bits-take n (rows-bits s.pre.0 room.even)),
+    let room = c.requires.1.0 in
+    let n = length c.args.mark.now / 2 in
+    let size = length-take_le n c.find_sides.new.mark (omega (arith, marks c.before.before.before.before.before.before.before.before.before)) in (
+      rw c.find_sides.ensures (bits-take n (rows-bits c.requires.0 room.even)),
       record {
         even = room.even;
         some = room.some;
         small = room.small;
-        scratch_size = at.find-sides.kept.1.0 ∙ room.scratch_size;
+        scratch_size = c.find_sides.auto.across ∙ room.scratch_size;
         marks_size = omega (arith, size, room.marks_size, room.even);
       },
     )
 
 done : tie.Need-returns
 done c =
-    let halves = c.before.before in
-    let rows = halves.before.before.before.before.before in
-    let found = sides rows in
-    let s = start found in
-    let room = s.pre.1.0 in
-    levelled s.pre.0 room.even (ap (λ n. n / 2) room.marks_size) found.find-sides.ensures rows.store-rows.ensures halves.half-maps.ensures
+    let room = c.requires.1.0 in
+    levelled c.requires.0 room.even (ap (λ n. n / 2) room.marks_size) c.find_sides.ensures c.store_rows.ensures c.half_maps.ensures
 
 pub program_level_spec : {M : Type 1} → statement M
 program_level_spec =
     tie.close
-    (tie.spec
-    (λ c κs. search rules) (λ c κs. search rules) (λ c. search rules) front-size for_halves (λ c. search rules) (λ c. search rules) (λ c. search rules) done)
+    (tie.spec (λ c κs. search rules) (λ c κs. search rules) (λ c. search rules) front-size for_halves (λ c. search rules) (λ c. search rules) (λ c. search rules) done)

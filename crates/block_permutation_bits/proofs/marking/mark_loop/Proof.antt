@@ -11,111 +11,94 @@ use Rattle.block_loops.proofs.MarkingLaws.{Walked, walked_none, walked_more, wal
 use Rattle.block_permutation_bits.proofs.marking.mark_loop.Statement.{statement}
 use Rattle.block_permutation_bits.proofs.marking.mark_loop.Tie as tie
 
-abbrev invariant_loop : tie.invariant-loop
+abbrev invariant_loop : tie.invariant-loop-o
 invariant_loop perm across mark₀ i pairs start o₀ steps₀ mark o steps = Walked perm (inverse_list perm) i mark₀ mark o steps
 
-abbrev decreases_loop : tie.decreases-loop
+abbrev decreases_loop : tie.decreases-loop-o
 decreases_loop perm across mark₀ i pairs start o₀ steps₀ mark o steps = suc (length perm) - steps
 
 -- the way back from the read input to the loop's head, to the start
-abbrev head : tie.After-wide invariant_loop decreases_loop → tie.At-loop invariant_loop decreases_loop
+abbrev head : tie.After-wide-input invariant_loop decreases_loop → tie.At-loop-o invariant_loop decreases_loop
 head c = c.before.before
 
-abbrev begin : tie.At-loop invariant_loop decreases_loop → tie.Start invariant_loop decreases_loop
+abbrev begin : tie.At-loop-o invariant_loop decreases_loop → tie.Start invariant_loop decreases_loop
 begin c = c.before.before.before.before
 
 -- at the loop's head
-module _ (c : tie.At-loop invariant_loop decreases_loop) where
-  below : c.loop.o < length (begin c).args.perm.now
+module _ (c : tie.At-loop-o invariant_loop decreases_loop) where
+  below : c.loop-o.o < length c.args.perm.now
   below =
-      let s = begin c in
-      walked_below s.pre.0 s.args.i s.pre.1.1.1.1 s.args.mark.now s.pre.1.1.1.0 c.loop.invariant
+      walked_below c.requires.0 c.args.i c.requires.1.1.1.1 c.args.mark.now c.requires.1.1.1.0 c.loop-o.invariant
 
-  short : c.loop.steps ≤ length (begin c).args.perm.now
+  short : c.loop-o.steps ≤ length c.args.perm.now
   short =
-      let s = begin c in
-      walked_short s.pre.0 s.args.i s.pre.1.1.1.1 s.args.mark.now s.pre.1.1.1.0 c.loop.invariant
+      walked_short c.requires.0 c.args.i c.requires.1.1.1.1 c.args.mark.now c.requires.1.1.1.0 c.loop-o.invariant
 
-holds : tie.Need-loop-init invariant_loop decreases_loop
+holds : tie.Need-loop-o-init invariant_loop decreases_loop
 holds c =
-    let s = c.before.before.before in
-    walked_none s.requires.0 s.args.i s.requires.1.1.1.1 s.args.mark.now s.requires.1.1.1.0
+    walked_none c.requires.0 c.args.i c.requires.1.1.1.1 c.args.mark.now c.requires.1.1.1.0
 
-output-fits : tie.Need-overflow-mul-wide invariant_loop decreases_loop
+output-fits : tie.Need-offset_bounds-perm-o invariant_loop decreases_loop
 output-fits c = omega (arith, below c)
 
-output-within : tie.Need-shared-slice-read-wide invariant_loop decreases_loop
+output-within : tie.Need-bounds-perm-o invariant_loop decreases_loop
 output-within c = below c.before
 
-pair-within : tie.Need-slice-write-mark invariant_loop decreases_loop
-pair-within c = let at = head c in omega (arith, below at, at.loop.inv.size)
+pair-within : tie.Need-bounds-mark-o invariant_loop decreases_loop
+pair-within c = omega (arith, below c.before.before, c.loop-o.invariant.size)
 
 -- when the input is read
-module _ (c : tie.After-wide invariant_loop decreases_loop) where
-  input_lt : c.wide.result < length (begin c.before.before).args.perm.now
-  input_lt = rw c.wide.ensures.0 (place_lt (begin c.before.before).pre.0 c.before.before.loop.o (below c.before.before))
+module _ (c : tie.After-wide-input invariant_loop decreases_loop) where
+  input_lt : c.wide-input.result < length c.args.perm.now
+  input_lt = rw c.wide-input.ensures.0 (place_lt c.requires.0 c.loop-o.o (below c.before.before))
 
-  input-is : c.wide.result ≡ map_of (begin c.before.before).args.perm.now c.before.before.loop.o
-  input-is = c.wide.ensures.0 ∙ read-map (begin c.before.before).args.perm.now c.before.before.loop.o (below c.before.before)
+  input-is : c.wide-input.result ≡ map_of c.args.perm.now c.loop-o.o
+  input-is = c.wide-input.ensures.0 ∙ read-map c.args.perm.now c.loop-o.o (below c.before.before)
 
-input-within : tie.Need-slice-write-mark-2 invariant_loop decreases_loop
+input-within : tie.Need-bounds-mark-pairs invariant_loop decreases_loop
 input-within c =
-    let at = head c in
-    omega (arith, input_lt c, (begin at).pre.0.even, at.loop.inv.size, length-set at.loop.mark (at.loop.o / 2) (at.loop.o % 2))
+    omega (arith, input_lt c, c.requires.0.even, c.loop-o.invariant.size, length-set c.loop-o.mark (c.loop-o.o / 2) (c.loop-o.o % 2))
 
-input-fits : tie.Need-overflow-mul-wide-2 invariant_loop decreases_loop
-input-fits c = omega (arith, input_lt c, (begin (head c)).pre.1.1.0)
+input-fits : tie.Need-offset_bounds-across-input invariant_loop decreases_loop
+input-fits c = omega (arith, input_lt c, c.requires.1.1.0)
 
-input-listed : tie.Need-shared-slice-read-wide-2 invariant_loop decreases_loop
+input-listed : tie.Need-bounds-across-input invariant_loop decreases_loop
 input-listed c =
-    let s = begin (head c.before) in
-    let p = s.args.perm.now in
-    rw (s.pre.1.0, length-list_of (length p) (across_of p)) (input_lt c.before)
+    let p = c.args.perm.now in
+    rw (c.requires.1.0, length-list_of (length p) (across_of p)) (input_lt c.before)
 
-count : tie.Need-overflow-add-steps invariant_loop decreases_loop
-count c = let at = head c.before.before.before in omega (arith, short at, (begin at).pre.1.1.0)
+count : tie.Need-overflow_add-steps invariant_loop decreases_loop
+count c = omega (arith, short c.before.before.before.before.before, c.requires.1.1.0)
 
-less : tie.Need-loop-smaller invariant_loop decreases_loop
-less c = omega (arith, short (head c.before.before.before))
+less : tie.Need-loop-o-smaller invariant_loop decreases_loop
+less c = omega (arith, short c.before.before.before.before.before)
 
 -- when the step is made
-module _ (c : tie.After-wide2 invariant_loop decreases_loop) where
-  stepped : c.wide2.result ≡ walk_in (begin (head c.before.before)).args.perm.now (inverse_list (begin (head c.before.before)).args.perm.now) (head c.before.before).loop.o
+module _ (c : tie.After-wide-o invariant_loop decreases_loop) where
+  stepped : c.wide-o.result ≡ walk_in c.args.perm.now (inverse_list c.args.perm.now) c.loop-o.o
   stepped =
-      let at = head c.before.before in
-      let s = begin at in
-      let p = s.args.perm.now in
-      c.wide2.ensures.0 ∙ ap (λ l. get_or l c.before.before.wide.result 0) s.pre.1.0
-      ∙ ap (λ x. get_or (across_list p) x 0) c.before.before.wide.ensures.0 ∙ step_is s.pre.0 at.loop.o (below at)
+      let p = c.args.perm.now in
+      c.wide-o.ensures.0 ∙ ap (λ l. get_or l c.wide-input.result 0) c.requires.1.0
+      ∙ ap (λ x. get_or (across_list p) x 0) c.wide-input.ensures.0 ∙ step_is c.requires.0 c.loop-o.o (below c.before.before.before.before)
 
-again : tie.Need-loop-preserved invariant_loop decreases_loop
+again : tie.Need-loop-o-preserved invariant_loop decreases_loop
 again c =
-    let input = c.before.before.before in
-    let at = head input in
-    let s = begin at in
-    walked_more s.pre.0 s.args.i s.pre.1.1.1.1 s.args.mark.now s.pre.1.1.1.0 at.loop.inv
-    (input-is input) (stepped c.before) c.if1.false
+    walked_more c.requires.0 c.args.i c.requires.1.1.1.1 c.args.mark.now c.requires.1.1.1.0 c.loop-o.invariant
+    (input-is c.before.before.before) (stepped c.before) c.if-o-start.false
 
-same : tie.Need-same-length invariant_loop decreases_loop
+same : tie.Need-shape_of-mark invariant_loop decreases_loop
 same c =
-    let input = c.before.before.before in
-    let at = head input in
-    let m = at.loop.mark in
-    let o = at.loop.o in
-    let x = input.wide.result in
-    length-set (set m (o / 2) (o % 2)) (length (begin at).args.perm.now / 2 + x / 2) (x % 2) ∙ length-set m (o / 2) (o % 2) ∙ at.loop.inv.size
+    let m = c.loop-o.mark in
+    let o = c.loop-o.o in
+    let x = c.wide-input.result in
+    length-set (set m (o / 2) (o % 2)) (length c.args.perm.now / 2 + x / 2) (x % 2) ∙ length-set m (o / 2) (o % 2) ∙ c.loop-o.invariant.size
 
 round : tie.Need-returns invariant_loop decreases_loop
 round c =
-    let input = c.before.before.before in
-    let at = head input in
-    let s = begin at in
-    walked_round s.pre.0 s.args.i s.pre.1.1.1.1 s.args.mark.now s.pre.1.1.1.0 at.loop.inv
-    (input-is input) (stepped c.before) c.if1.true
+    walked_round c.requires.0 c.args.i c.requires.1.1.1.1 c.args.mark.now c.requires.1.1.1.0 c.loop-o.invariant
+    (input-is c.before.before.before) (stepped c.before) c.if-o-start.true
 
 pub mark_loop_spec : {M : Type 1} → statement M
 mark_loop_spec =
     tie.close
-    (tie.spec invariant_loop decreases_loop
-    (λ c. search rules) holds output-fits output-within (λ c κs. search rules) (λ c. search rules) pair-within (λ c. search rules) (λ c. search rules) input-within
-    input-fits input-listed (λ c κs. search rules) count less again same round)
+    (tie.spec invariant_loop decreases_loop (λ c. search rules) holds output-fits output-within (λ c κs. search rules) (λ c. search rules) pair-within (λ c. search rules) (λ c. search rules) input-within input-fits input-listed (λ c κs. search rules) count less again same round)

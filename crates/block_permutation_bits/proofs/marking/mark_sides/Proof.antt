@@ -10,14 +10,14 @@ use Rattle.block_loops.proofs.MarkingLaws.{Swept, swept_none, swept_more, swept_
 use Rattle.block_permutation_bits.proofs.marking.mark_sides.Statement.{statement}
 use Rattle.block_permutation_bits.proofs.marking.mark_sides.Tie as tie
 
-abbrev invariant_loop : tie.invariant-loop
+abbrev invariant_loop : tie.invariant-loop-k
 invariant_loop perm across mark₀ pairs k₀ mark k = (1 ≤ k) × (k ≤ pairs) × Swept perm (inverse_list perm) k mark
 
-abbrev decreases_loop : tie.decreases-loop
+abbrev decreases_loop : tie.decreases-loop-k
 decreases_loop perm across mark₀ pairs k₀ mark k = pairs - k
 
 -- the way back from the loop to where the last pair's loop is marked, to the start
-abbrev last : tie.At-loop invariant_loop decreases_loop → tie.After-visit invariant_loop decreases_loop
+abbrev last : tie.At-loop-k invariant_loop decreases_loop → tie.After-visit invariant_loop decreases_loop
 last c = c.before.before.before
 
 abbrev start : tie.After-visit invariant_loop decreases_loop → tie.Start invariant_loop decreases_loop
@@ -33,40 +33,33 @@ module _ (s : tie.Start invariant_loop decreases_loop) where
 
 for_last : tie.Need-visit-requires invariant_loop decreases_loop
 for_last c κs =
-    let s = c.before.before.before.before in
-    let pre = s.requires in
-    let i = visit_first (length s.args.perm.now / 2) in
-    (pre.0, (pre.1.0, (pre.1.1.0.1, (pre.1.1.1.0, (visit_below pre.0 (some s) (none s) i, leads pre.0 (some s) (none s) i)))))
+    let pre = c.requires in
+    let i = visit_first (length c.args.perm.now / 2) in
+    (pre.0, (pre.1.0, (pre.1.1.0.1, (pre.1.1.1.0, (visit_below pre.0 (some c.before.before.before.before) (none c.before.before.before.before) i, leads pre.0 (some c.before.before.before.before) (none c.before.before.before.before) i)))))
 
-holds : tie.Need-loop-init invariant_loop decreases_loop
+holds : tie.Need-loop-k-init invariant_loop decreases_loop
 holds c =
-    let s = start c.before.before in
-    (omega arith, omega arith, swept_more s.pre.0 (some s) (none s) (visit_first (length s.args.perm.now / 2)) c.before.before.visit.ensures)
+    (omega arith, omega arith, swept_more c.requires.0 (some c.before.before.before.before.before.before.before) (none c.before.before.before.before.before.before.before) (visit_first (length c.args.perm.now / 2)) c.visit.ensures)
 
-for_visit : tie.Need-visit-requires-2 invariant_loop decreases_loop
+for_visit : tie.Need-visit-requires-in-loop-k invariant_loop decreases_loop
 for_visit c κs =
-    let at = c.before.before in
-    let s = start (last at) in
-    let S = at.loop.invariant.2 in
-    let k = c.before.loop-test.true in
-    let i = visit_next (length s.args.perm.now / 2) at.loop.k at.loop.invariant.0 in
-    (s.pre.0, (s.pre.1.0, (s.pre.1.1.0.1, (S.size, (visit_below s.pre.0 k S i, leads s.pre.0 k S i)))))
+    let S = c.loop-k.invariant.2 in
+    let k = c.loop-k-test.true in
+    let i = visit_next (length c.args.perm.now / 2) c.loop-k.k c.loop-k.invariant.0 in
+    (c.requires.0, (c.requires.1.0, (c.requires.1.1.0.1, (S.size, (visit_below c.requires.0 k S i, leads c.requires.0 k S i)))))
 
-again : tie.Need-loop-preserved invariant_loop decreases_loop
+again : tie.Need-loop-k-preserved invariant_loop decreases_loop
 again c =
-    let at = c.before.before.before.before.before in
-    let s = start (last at) in
-    let i = visit_next (length s.args.perm.now / 2) at.loop.k at.loop.invariant.0 in
-    (omega arith, omega arith, swept_more s.pre.0 c.before.before.before.before.loop-test.true at.loop.invariant.2 i c.before.before.visit2.ensures)
+    let i = visit_next (length c.args.perm.now / 2) c.loop-k.k c.loop-k.invariant.0 in
+    (omega arith, omega arith, swept_more c.requires.0 c.loop-k-test.true c.loop-k.invariant.2 i c.visit-in-loop-k.ensures)
 
-same : tie.Need-same-length invariant_loop decreases_loop
-same c = c.before.loop.invariant.2.size ∙ sym (start (last c.before)).pre.1.1.1.0
+same : tie.Need-shape_of-mark invariant_loop decreases_loop
+same c = c.loop-k.invariant.2.size ∙ sym c.requires.1.1.1.0
 
 all : tie.Need-returns invariant_loop decreases_loop
-all c = swept_all (start (last c.before)).pre.0 c.loop-test.false c.before.loop.invariant.2
+all c = swept_all c.requires.0 c.loop-k-test.false c.loop-k.invariant.2
 
 pub mark_sides_spec : {M : Type 1} → statement M
 mark_sides_spec =
     tie.close
-    (tie.spec invariant_loop decreases_loop
-    (λ c. search rules) for_last holds (λ c. search rules) for_visit (λ c. search rules) (λ c. search rules) again same all)
+    (tie.spec invariant_loop decreases_loop (λ c. search rules) for_last holds (λ c. search rules) for_visit (λ c. search rules) (λ c. search rules) again same all)

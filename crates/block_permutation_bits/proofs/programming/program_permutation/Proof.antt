@@ -17,49 +17,44 @@ use Rattle.block_permutation_bits.proofs.programming.program_permutation.Stateme
 use Rattle.block_permutation_bits.proofs.programming.program_permutation.Tie as tie
 
 -- where the checks are done, none fails
-module _ (c : tie.After-enum-told) where
-  none : let a = c.before.before.before.before.before.args in 0 ≡ program_at_fault a.n a.wanted.now 0 (length a.program.now)
-  none = answer-passes c.enum_told.given.1 c.before.before.check-permutation.ensures
+module _ (c : tie.In-Done) where
+  none : let a = c.args in 0 ≡ program_at_fault a.n a.wanted.now 0 (length a.program.now)
+  none = answer-passes c.in-Done.is c.check_permutation.ensures
 
-  passes : let a = c.before.before.before.before.before.args in ProgramPasses a.n a.wanted.now 0 (length a.program.now)
+  passes : let a = c.args in ProgramPasses a.n a.wanted.now 0 (length a.program.now)
   passes = program-passes (sym none)
 
 -- the way back from the cleared bytes to the checks
-abbrev checked : tie.After-fill-bytes → tie.After-enum-told
+abbrev checked : tie.After-fill_bytes → tie.In-Done
 checked c = c.before.before.before.before
 
-for_bits : tie.Need-program-wanted-requires
+for_bits : tie.Need-program_wanted-requires
 for_bits c κs =
-    let cleared = c.before.before.before in
-    let h = passes (checked cleared) in
-    ((h.size, h.wanted_once), rw cleared.fill-bytes.auto.0 h.fits)
+    let h = passes c.before.before.before.before.before.before.before in
+    ((h.size, h.wanted_once), rw c.fill_bytes.auto.bytes h.fits)
 
-refused : tie.Need-returns
+refused : tie.Need-returns-in-Refused
 refused c =
-    let f = c.before.f.given in
-    let a = c.before.before.before.before.before.before.args in
-    let e = answer-refuses f.1 c.before.before.before.check-permutation.ensures ∙ fault-at a.n a.wanted.now (length a.program.now) in
+    let f = c.f-1.given in
+    let a = c.args in
+    let e = answer-refuses f.1 c.check_permutation.ensures ∙ fault-at a.n a.wanted.now (length a.program.now) in
     (e, filled-refused f.0.0 _ _ _ e)
 
-done : tie.Need-returns-2
+done : tie.Need-returns-in-Done
 done c =
-    let cleared = c.before.before.before.before.before.before in
-    let bytes = cleared.before.bytes-for in
-    let counted = cleared.before.before.permutation-count in
-    let told = checked cleared in
-    let a = told.before.before.before.before.before.args in
+    let bytes = c.bytes_for in
+    let counted = c.permutation_count in
+    let a = c.args in
     let size = bytes.ensures ∙ ap bytes_for (counted.ensures ∙ sym (length-wanted_bits (level_of a.n) a.wanted.now)) in
-    let room = (passes told).fits in
-    let z = none told ∙ fault-at a.n a.wanted.now (length a.program.now) in (
+    let room = (passes c.before.before.before.before.before.before.before.before.before.before).fits in
+    let z = none c.before.before.before.before.before.before.before.before.before.before ∙ fault-at a.n a.wanted.now (length a.program.now) in (
       z,
       is-filled _ _ _ _
           (store_cleared (wanted_bits (level_of a.n) a.wanted.now) a.program.now size (omega (arith, counted.ensures, bytes.ensures, room))
-          cleared.fill-bytes.ensures c.before.before.program-wanted.ensures) z,
+          c.fill_bytes.ensures c.program_wanted.ensures) z,
     )
 
 pub program_permutation_spec : {M : Type 1} → statement M
 program_permutation_spec =
     tie.close
-    (tie.spec
-    (λ c κs. search rules) (λ c. search rules) (λ c. search rules) (λ c κs. search rules) (λ c κs. search rules) (λ c κs. search rules) for_bits refused
-    (λ c. search rules) done)
+    (tie.spec (λ c κs. search rules) (λ c. search rules) (λ c. search rules) (λ c κs. search rules) (λ c κs. search rules) (λ c κs. search rules) for_bits refused (λ c. search rules) done)

@@ -11,25 +11,24 @@ use Rattle.block_permutation_bits.proofs.programming.program_permutation_at.Stat
 use Rattle.block_permutation_bits.proofs.programming.program_permutation_at.Tie as tie
 
 -- where the checks are done, none fails
-none : (c : tie.After-enum-told) → let a = c.before.before.before.before.before.args in 0 ≡ program_at_fault a.n a.wanted.now a.start (length a.program.now)
-none c = answer-passes c.enum_told.given.1 c.before.before.check-permutation.ensures
+none : (c : tie.In-Done) → let a = c.args in 0 ≡ program_at_fault a.n a.wanted.now a.start (length a.program.now)
+none c = answer-passes c.in-Done.is c.check_permutation.ensures
 
-for_bits : tie.Need-program-wanted-requires
+for_bits : tie.Need-program_wanted-requires
 for_bits c κs = let h = program-passes (sym (none c.before)) in ((h.size, h.wanted_once), h.fits)
 
-refused : tie.Need-returns
+refused : tie.Need-returns-in-Refused
 refused c =
-    let f = c.before.f.given in
-    let e = answer-refuses f.1 c.before.before.before.check-permutation.ensures in
+    let f = c.f-1.given in
+    let e = answer-refuses f.1 c.check_permutation.ensures in
     (e, stored_refused f.0.0 _ _ _ _ e)
 
-done : tie.Need-returns-2
+done : tie.Need-returns-in-Done
 done c =
     let z = none c.before.before.before.before in
-    (z, c.before.before.program-wanted.ensures ∙ stored-done _ _ _ _ z)
+    (z, c.program_wanted.ensures ∙ stored-done _ _ _ _ z)
 
 pub program_permutation_at_spec : {M : Type 1} → statement M
 program_permutation_at_spec =
     tie.close
-    (tie.spec
-    (λ c κs. search rules) (λ c. search rules) (λ c. search rules) for_bits refused (λ c. search rules) done)
+    (tie.spec (λ c κs. search rules) (λ c. search rules) (λ c. search rules) for_bits refused (λ c. search rules) done)
