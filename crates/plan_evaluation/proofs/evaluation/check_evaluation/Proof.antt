@@ -8,34 +8,31 @@ use Rattle.plan_evaluation.proofs.evaluation.check_evaluation.Statement.{stateme
 use Rattle.plan_evaluation.proofs.evaluation.check_evaluation.Tie as tie
 
 -- what is handed over
-abbrev start : tie.After-plan-fault → tie.Start
+abbrev start : tie.After-plan_fault → tie.Start
 start c = c.before.before.before.before
 
 -- no plan fault
-accepted : (c : tie.After-enum-told) → 0 ≡ plan_fault (start c.before.before).args.plan
-accepted c = answer-passes c.enum_told.given.1 c.before.before.plan-fault.ensures
+accepted : (c : tie.In-Done) → 0 ≡ plan_fault c.args.plan
+accepted c = answer-passes c.in-Done.is c.plan_fault.ensures
 
 -- 12 is not given
-contacts : (c : tie.After-enum-told2) → let a = (start c.before.before.before.before.before).args in 0 ≡ contact_fault a.plan.inputs a.row.now
-contacts c = answer-passes c.enum-told2.given.1 c.before.before.contact-fault.ensures
+contacts : (c : tie.In-Done-contact_fault) → let a = c.args in 0 ≡ contact_fault a.plan.inputs a.row.now
+contacts c = answer-passes c.in-Done-contact_fault.is c.contact_fault.ensures
 
-faulty : tie.Need-returns
-faulty c = stop c.before.f.given.0.0 _ (answer-refuses c.before.f.given.1 c.before.before.before.plan-fault.ensures)
+faulty : tie.Need-returns-in-Refused
+faulty c = stop c.in-Refused.f _ (answer-refuses c.in-Refused.is c.plan_fault.ensures)
 
-no_contacts : tie.Need-returns-2
+no_contacts : tie.Need-returns-in-Refused-contact_fault
 no_contacts c =
-    let asked = c.before.before.before in
-    accepted asked.before then stop c.before.f2.given.0.0 _ (answer-refuses c.before.f2.given.1 asked.contact-fault.ensures)
+    accepted c.before.before then stop c.in-Refused-contact_fault.f _ (answer-refuses c.in-Refused-contact_fault.is c.contact_fault.ensures)
 
-short : tie.Need-returns-3
-short c = let told = c.before in accepted told.before.before.before then contacts told then room-refuses refl c.if1.true
+short : tie.Need-returns-then-room-outputs
+short c = accepted c.before.before.before then contacts c.before then room-refuses refl c.if-room-outputs.true
 
-passed : tie.Need-returns-4
-passed c = let told = c.before in accepted told.before.before.before then contacts told then room-passes refl c.if1.false
+passed : tie.Need-returns-else-room-outputs
+passed c = accepted c.before.before.before then contacts c.before then room-passes refl c.if-room-outputs.false
 
 pub check_evaluation_spec : {M : Type 1} → statement M
 check_evaluation_spec =
     tie.close
-    (tie.spec
-    (λ c. search rules) (λ c. search rules) (λ c κs. search rules) (λ c. search rules) (λ c. search rules) (λ c κs. search rules) (λ c. search rules) (λ c. search rules)
-    faulty no_contacts short passed)
+    (tie.spec (λ c. search rules) (λ c. search rules) (λ c κs. search rules) (λ c. search rules) (λ c. search rules) (λ c κs. search rules) (λ c. search rules) (λ c. search rules) faulty no_contacts short passed)

@@ -9,29 +9,24 @@ use Rattle.plan_evaluation.proofs.evaluation.evaluate_series.Statement.{statemen
 use Rattle.plan_evaluation.proofs.evaluation.evaluate_series.Tie as tie
 
 -- what is handed over
-abbrev start : tie.After-check-plan-series → tie.Start
+abbrev start : tie.After-check_plan_series → tie.Start
 start c = c.before.before.before.before.before
 
-for_intervals : tie.Need-evaluate-intervals-requires
+for_intervals : tie.Need-evaluate_intervals-requires
 for_intervals c κs =
-    let told = c.before.before in
-    let passes = (and_then-zero _ _).0 (sym (answer-passes told.enum_told.given.1 told.before.before.check-plan-series.ensures)) in
+    let passes = (and_then-zero _ _).0 (sym (answer-passes c.in-Done.is c.check_plan_series.ensures)) in
     (passes.0, (series-faultless _ _ _ _ _ _ _ _).0 passes.1)
 
-refused : tie.Need-returns
+refused : tie.Need-returns-in-Refused
 refused c =
-    let asked = c.before.before.before in
-    refuses-both _ _ _ _ asked.check-plan-series.ensures c.before.f.given.1
+    refuses-both _ _ _ _ c.check_plan_series.ensures c.in-Refused.is
 
-done : tie.Need-returns-2
+done : tie.Need-returns-in-Done
 done c =
-    let wrote = c.before.before.before.before in
-    let told = wrote.before.before.before in
-    fills_both _ _ _ _ told.before.before.check-plan-series.ensures told.enum_told.given.1 wrote.evaluate-intervals.ensures.0
-    wrote.evaluate-intervals.ensures.1
+    fills_both _ _ _ _ c.check_plan_series.ensures c.in-Done.is c.evaluate_intervals.ensures.0
+    c.evaluate_intervals.ensures.1
 
 pub evaluate_series_spec : {M : Type 1} → statement M
 evaluate_series_spec =
     tie.close
-    (tie.spec
-    (λ c κs. search rules) (λ c. search rules) (λ c. search rules) for_intervals refused (λ c. search rules) (λ c. search rules) done)
+    (tie.spec (λ c κs. search rules) (λ c. search rules) (λ c. search rules) for_intervals refused (λ c. search rules) (λ c. search rules) done)

@@ -7,7 +7,7 @@ use Rattle.plan_evaluation.specs.Evaluation.{table_bit}
 use Rattle.plan_evaluation.proofs.gates.gate_bit.Statement.{statement}
 use Rattle.plan_evaluation.proofs.gates.gate_bit.Tie as tie
 
-small : tie.Need-overflow-cast-result-2
+small : tie.Need-overflow_cast-result-2
 small c = omega (arith, and_mask (c.args.table / 2 ^ (2 * c.args.a + c.args.b)) 1)
 
 bit : tie.Need-returns

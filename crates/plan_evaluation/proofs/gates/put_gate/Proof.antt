@@ -8,25 +8,22 @@ use Rattle.plan_evaluation.proofs.gates.put_gate.Statement.{statement}
 use Rattle.plan_evaluation.proofs.gates.put_gate.Tie as tie
 
 -- what is handed over, from behind the second operand's place
-abbrev start : tie.After-place-of2 → tie.Start
-start c = c.before.before.before.before
+abbrev start : tie.After-place_of-2 → tie.Start
+start c = c.before.before.before.before.before.before
 
-bits : tie.Need-gate-bit-requires
+bits : tie.Need-gate_bit-requires
 bits c κs =
-    let s = start c.before in
-    (s.pre.bit _ (omega arith), s.pre.bit _ (omega arith))
+    (c.requires.bit _ (omega arith), c.requires.bit _ (omega arith))
 
 put : tie.Need-returns
 put c =
-    let s = start c.before.before in
-    let wires = s.args.wires.now in
+    let wires = c.args.wires.now in
     let bit =
-    c.gate-bit.ensures.0
-    ∙ ap₂ (λ a b. table_bit s.args.gate.table (get_or wires a 0) (get_or wires b 0)) c.before.before.before.before.place_of.ensures c.before.before.place-of2.ensures in
-    ap (set wires s.args.own) bit
+    c.gate_bit.ensures.0
+    ∙ ap₂ (λ a b. table_bit c.args.gate.table (get_or wires a 0) (get_or wires b 0)) c.place_of.ensures c.place_of-2.ensures in
+    ap (set wires c.args.own) bit
 
 pub put_gate_spec : {M : Type 1} → statement M
 put_gate_spec =
     tie.close
-    (tie.spec
-    (λ c κs. search rules) (λ c. search rules) (λ c κs. search rules) (λ c. search rules) bits (λ c. search rules) (λ c. search rules) put)
+    (tie.spec (λ c κs. search rules) (λ c. search rules) (λ c κs. search rules) (λ c. search rules) bits (λ c. search rules) (λ c. search rules) put)
