@@ -85,8 +85,8 @@ def align(args, kinds, needs):
     return out, dropped
 
 
-def convert(text, entry, asked, where):
-    # steps: the old field, its new name, its callee
+def steps_of(entry):
+    """The old name of a step to its new one, its callee and its fields; and what an arm of a match has, by the old step."""
     fields = {}
     for name, parent, pair, callee, subs in entry["places"]:
         if pair[0]:
@@ -97,6 +97,98 @@ def convert(text, entry, asked, where):
     for arm in entry["arms"]:
         for field, step, way in arm[2] if arm else ():
             arms.setdefault(norm(step), {})[tuple(way)] = (arm[0], field)
+    return fields, arms
+
+
+def named(text, entry, fields, arms, loops):
+    """The text with each path of steps in today's names."""
+    # names that a let gives to the arguments
+    given = set(re.findall(rf"let ({WORD}) = (?:(?! in )[^\n])*?\.(?:args|new) in", text))
+
+    def path(m):
+        steps = m[0][1:].split(".")
+        before = re.search(r"[\w'₀-₉]*$", m.string[:m.start()])[0]
+        out, i, callee, subs = [], 0, None, {}
+        while i < len(steps):
+            s = steps[i]
+            n = norm(s)
+            if n not in fields and n.endswith("-lem"):
+                n = n[:-4]
+            if n in arms:
+                ways = [w for w in arms[n] if list(w) == ["given" if x == "known" else x for x in steps[i + 1:i + 1 + len(w)]]]
+                if ways:
+                    w = max(ways, key=len)
+                    arm, field = arms[n][w]
+                    out += [arm] if not w else [arm, field]
+                    callee, subs = None, {}
+                    i += 1 + len(w)
+                    continue
+            own = n in fields and re.search(r"-1$", fields[n][0]) and not (steps[i - 1] == "before" if i else before in ("c", "s", "at", "past"))
+            if n in fields and not (i and steps[i - 1] in (*VALUES, *loops)) and not (i == 0 and before in given) and not own:
+                new, callee, subs = fields[n]
+                out.append(new)
+                i += 1
+                continue
+            if n in subs:
+                out.append(subs[n])
+                i += 1
+                continue
+            if s in ("taken", "left") and out and (out[-1].startswith("if-") or out[-1].endswith("-test")):
+                s = {"taken": "true", "left": "false"}[s]
+                if s in subs:
+                    s = subs[s]
+            if "-" in s and i and steps[i - 1] in VALUES:
+                s = s.replace("-", "_")
+            if s == "true" and out and out[-1].startswith("if-not-"):
+                s = "true-raw"
+            if s == "pre":
+                out.append("requires")
+                i += 1
+                continue
+            # what a callee left in its parameters goes by their names
+            if s in ("last", "new", "kept", "auto") and out:
+                out.append({"last": "new", "kept": "auto"}.get(s, s))
+                i += 1
+                k = i
+                while k < len(steps) and steps[k] == "1":
+                    k += 1
+                names = entry["params"].get(callee, ())
+                if k < len(steps) and steps[k] == "0" and k - i < len(names):
+                    out.append(names[k - i])
+                    i = k + 1
+                continue
+            if s == "inv":
+                out.append("invariant")
+                i += 1
+                continue
+            out.append(s)
+            i += 1
+        return "." + ".".join(out)
+
+    out = []
+    for line in text.split("\n"):
+        if line.startswith(("use ", "unfoldable use", "--")):
+            out.append(line)
+        else:
+            out.append(re.sub(rf"(?<=[\w)₀-₉'])(?:\.(?!\s){WORD})+", path, line))
+    return "\n".join(out)
+
+
+def of_cycle(text, names, crate):
+    """The proof of functions in a cycle of calls: its places and steps in today's names."""
+    for path, alias in re.findall(rf"(?m)^use Rattle\.{crate}\.proofs\.(\S+) as ({WORD})$", text):
+        entry = names.get(f"Rattle-{crate}-proofs.{path}")
+        if not entry or ".Lts" not in path:
+            continue
+        fields, arms = steps_of(entry)
+        places = {norm(old[0]): new for old, new in zip(entry["places"], entry["places_by_name"])}
+        text = re.sub(rf"(?<![\w.-]){re.escape(alias)}\.({WORD})", lambda m: alias + "." + places.get(norm(m[1]), m[1]), text)
+        text = named(text, entry, fields, arms, set())
+    return text
+
+
+def convert(text, entry, asked, where):
+    fields, arms = steps_of(entry)
     places = {norm(old[0]): new for old, new in zip(entry["places"], entry["places_by_name"])}
     loops = {norm(pair[0]): pair[1] for pair, _ in entry["loops"]}
 
@@ -158,76 +250,7 @@ def convert(text, entry, asked, where):
     text = re.sub(rf"tie\.({WORD})", of_tie, text)
     for a, new in need_names.items():
         text = re.sub(rf"(?m)^( *){re.escape(a)} : tie\.Need-{WORD}", rf"\1{a} : tie.Need-{new}", text)
-    # names that a let gives to the arguments
-    given = set(re.findall(rf"let ({WORD}) = (?:(?! in )[^\n])*?\.(?:args|new) in", text))
-
-    def path(m):
-        steps = m[0][1:].split(".")
-        before = re.search(r"[\w'₀-₉]*$", m.string[:m.start()])[0]
-        out, i, callee, subs = [], 0, None, {}
-        while i < len(steps):
-            s = steps[i]
-            n = norm(s)
-            if n not in fields and n.endswith("-lem"):
-                n = n[:-4]
-            if n in arms:
-                ways = [w for w in arms[n] if list(w) == ["given" if x == "known" else x for x in steps[i + 1:i + 1 + len(w)]]]
-                if ways:
-                    w = max(ways, key=len)
-                    arm, field = arms[n][w]
-                    out += [arm] if not w else [arm, field]
-                    callee, subs = None, {}
-                    i += 1 + len(w)
-                    continue
-            own = n in fields and re.search(r"-1$", fields[n][0]) and not (steps[i - 1] == "before" if i else before in ("c", "s", "at", "past"))
-            if n in fields and not (i and steps[i - 1] in (*VALUES, *loops.values())) and not (i == 0 and before in given) and not own:
-                new, callee, subs = fields[n]
-                out.append(new)
-                i += 1
-                continue
-            if n in subs:
-                out.append(subs[n])
-                i += 1
-                continue
-            if s in ("taken", "left") and out and (out[-1].startswith("if-") or out[-1].endswith("-test")):
-                s = {"taken": "true", "left": "false"}[s]
-                if s in subs:
-                    s = subs[s]
-            if "-" in s and i and steps[i - 1] in VALUES:
-                s = s.replace("-", "_")
-            if s == "true" and out and out[-1].startswith("if-not-"):
-                s = "true-raw"
-            if s == "pre":
-                out.append("requires")
-                i += 1
-                continue
-            # what a callee left in its parameters goes by their names
-            if s in ("last", "new", "kept", "auto") and out:
-                out.append({"last": "new", "kept": "auto"}.get(s, s))
-                i += 1
-                k = i
-                while k < len(steps) and steps[k] == "1":
-                    k += 1
-                names = entry["params"].get(callee, ())
-                if k < len(steps) and steps[k] == "0" and k - i < len(names):
-                    out.append(names[k - i])
-                    i = k + 1
-                continue
-            if s == "inv":
-                out.append("invariant")
-                i += 1
-                continue
-            out.append(s)
-            i += 1
-        return "." + ".".join(out)
-
-    out = []
-    for line in text.split("\n"):
-        if line.startswith(("use ", "unfoldable use", "--")):
-            out.append(line)
-        else:
-            out.append(re.sub(rf"(?<=[\w)₀-₉'])(?:\.(?!\s){WORD})+", path, line))
-    return reached("\n".join(out), entry)
+    return reached(named(text, entry, fields, arms, set(loops.values())), entry)
 
 
 def reached(text, entry):
@@ -358,6 +381,12 @@ def main():
     for f in sorted(glob.glob(f"crates/{crate}/proofs/**/Proof.antt", recursive=True)):
         folder = os.path.dirname(f).split("/proofs/")[1]
         if only and folder not in only:
+            continue
+        if folder.split("/")[-1].startswith("+"):
+            text = open(f, encoding="utf-8").read()
+            new = of_cycle(text, names, crate)
+            if new != text:
+                open(f, "w", encoding="utf-8").write(new)
             continue
         key = f"Rattle-{crate}-proofs." + folder.replace("/", ".") + ".Lts"
         text = open(f, encoding="utf-8").read()
