@@ -65,22 +65,22 @@ module _ (t : ℕ) where
   Started = write-inner-lts.Start (claims t) (write_inner_at t) write-inner.Post
 
   abbrev Parted : Type 0
-  Parted = write-inner-lts.After-level-parts (claims t) (write_inner_at t) write-inner.Post
+  Parted = write-inner-lts.After-level_parts-parts (claims t) (write_inner_at t) write-inner.Post
 
   abbrev Inputs : Type 0
-  Inputs = write-inner-lts.After-put-rising (claims t) (write_inner_at t) write-inner.Post
+  Inputs = write-inner-lts.After-put_rising (claims t) (write_inner_at t) write-inner.Post
 
   abbrev Upper : Type 0
-  Upper = write-inner-lts.After-write-inner (claims t) (write_inner_at t) write-inner.Post
+  Upper = write-inner-lts.After-write_inner-above (claims t) (write_inner_at t) write-inner.Post
 
   abbrev LowerInputs : Type 0
-  LowerInputs = write-inner-lts.After-put-rising2 (claims t) (write_inner_at t) write-inner.Post
+  LowerInputs = write-inner-lts.After-put_rising-2 (claims t) (write_inner_at t) write-inner.Post
 
   abbrev Lower : Type 0
-  Lower = write-inner-lts.After-write-inner2 (claims t) (write_inner_at t) write-inner.Post
+  Lower = write-inner-lts.After-write_inner-below (claims t) (write_inner_at t) write-inner.Post
 
   abbrev Outputs : Type 0
-  Outputs = write-inner-lts.After-join-halves (claims t) (write_inner_at t) write-inner.Post
+  Outputs = write-inner-lts.After-join_halves (claims t) (write_inner_at t) write-inner.Post
 
   abbrev start : Parted → Started
   start c = c.before.before.before
@@ -89,103 +89,103 @@ module _ (t : ℕ) where
   parted c = c.before.before.before
 
   abbrev inputs : Upper → Inputs
-  inputs c = c.before.before.before.before
+  inputs c = c.before.before.before.before.before
 
   abbrev upper : LowerInputs → Upper
   upper c = c.before.before.before.before.before.before
 
   abbrev lower_inputs : Lower → LowerInputs
-  lower_inputs c = c.before.before.before.before
+  lower_inputs c = c.before.before.before.before.before
 
   abbrev lower : Outputs → Lower
   lower c = c.before.before.before.before
 
   -- the parts of the level, and the table's part after each step
   abbrev parts_of : Inputs → LevelParts
-  parts_of c = (parted c).level-parts.result
+  parts_of c = (parted c).level_parts-parts.result
 
   abbrev input_rows : Inputs → List ℕ
-  input_rows c = c.put-rising.new.0
+  input_rows c = c.put_rising.new.rows
 
   abbrev upper_rows : Upper → List ℕ
-  upper_rows c = with_part (parts_of (inputs c)).upper (input_rows (inputs c)) c.write-inner.new.1.1.0
+  upper_rows c = with_part (parts_of (inputs c)).upper (input_rows (inputs c)) c.write_inner-above.new.rows
 
   abbrev lower_input_rows : LowerInputs → List ℕ
-  lower_input_rows c = with_part (parts_of (inputs (upper c))).lower (upper_rows (upper c)) c.put-rising2.new.0
+  lower_input_rows c = with_part (parts_of (inputs (upper c))).lower (upper_rows (upper c)) c.put_rising-2.new.rows
 
   abbrev lower_rows : Lower → List ℕ
   lower_rows c =
-      with_part (parts_of (inputs (upper (lower_inputs c)))).lower_inner (lower_input_rows (lower_inputs c)) c.write-inner2.new.1.1.0
+      with_part (parts_of (inputs (upper (lower_inputs c)))).lower_inner (lower_input_rows (lower_inputs c)) c.write_inner-below.new.rows
 
   -- it stays as long as it was
   upper_long : (c : Upper) → length (upper_rows c) ≡ length (start (parted (inputs c))).args.rows.now
   upper_long c =
-      length_with (parts_of (inputs c)).upper (input_rows (inputs c)) c.write-inner.new.1.1.0 c.write-inner.auto.1.1.0
-      ∙ (inputs c).put-rising.auto.0
+      length_with (parts_of (inputs c)).upper (input_rows (inputs c)) c.write_inner-above.new.rows c.write_inner-above.auto.rows
+      ∙ (inputs c).put_rising.auto.rows
 
   lower-inputs-long : (c : LowerInputs) → length (lower_input_rows c) ≡ length (start (parted (inputs (upper c)))).args.rows.now
   lower-inputs-long c =
-      length_with (parts_of (inputs (upper c))).lower (upper_rows (upper c)) c.put-rising2.new.0 c.put-rising2.auto.0
+      length_with (parts_of (inputs (upper c))).lower (upper_rows (upper c)) c.put_rising-2.new.rows c.put_rising-2.auto.rows
       ∙ upper_long (upper c)
 
   lower_long : (c : Lower) → length (lower_rows c) ≡ length (start (parted (inputs (upper (lower_inputs c))))).args.rows.now
   lower_long c =
-      length_with (parts_of (inputs (upper (lower_inputs c)))).lower_inner (lower_input_rows (lower_inputs c)) c.write-inner2.new.1.1.0
-      c.write-inner2.auto.1.1.0
+      length_with (parts_of (inputs (upper (lower_inputs c)))).lower_inner (lower_input_rows (lower_inputs c)) c.write_inner-below.new.rows
+      c.write_inner-below.auto.rows
       ∙ lower-inputs-long (lower_inputs c)
 
   -- the parts that are lent begin within it
   upper-at : (c : Inputs) → (parts_of c).upper ≤ length (input_rows c)
-  upper-at c = upper_in (parted c).level-parts.ensures (start (parted c)).pre.1 (input_rows c) c.put-rising.auto.0
+  upper-at c = upper_in (parted c).level_parts-parts.ensures (start (parted c)).requires.1 (input_rows c) c.put_rising.auto.rows
 
   lower-at : (c : Upper) → (parts_of (inputs c)).lower ≤ length (upper_rows c)
-  lower-at c = let p = parted (inputs c) in lower_in p.level-parts.ensures (start p).pre.1 (upper_rows c) (upper_long c)
+  lower-at c = let p = parted (inputs c) in lower_in p.level_parts-parts.ensures (start p).requires.1 (upper_rows c) (upper_long c)
 
   lower_inner-at : (c : LowerInputs) → (parts_of (inputs (upper c))).lower_inner ≤ length (lower_input_rows c)
   lower_inner-at c =
       let p = parted (inputs (upper c)) in
-      lower_inner_in p.level-parts.ensures (start p).pre.1 (lower_input_rows c) (lower-inputs-long c)
+      lower_inner_in p.level_parts-parts.ensures (start p).requires.1 (lower_input_rows c) (lower-inputs-long c)
 
   outputs-at : (c : Lower) → (parts_of (inputs (upper (lower_inputs c)))).outputs ≤ length (lower_rows c)
   outputs-at c =
       let p = parted (inputs (upper (lower_inputs c))) in
-      outputs_in_lem p.level-parts.ensures (start p).pre.1 (lower_rows c) (lower_long c)
+      outputs_in_lem p.level_parts-parts.ensures (start p).requires.1 (lower_rows c) (lower_long c)
 
   fits : (c : Inputs) → PlacesFit (parts_of c)
-  fits c = places-fit (parted c).level-parts.ensures
+  fits c = places-fit (parted c).level_parts-parts.ensures
 
   -- each half is a smaller block that fits what it is lent, and the rows between fit
   large : (c : Parted) → 2 ≤ (start c).args.n
-  large c = two-below c.before.if1.false
+  large c = two-below c.before.if-n-lt3.false
 
   smaller : (c : Inputs) → (start (parted c)).args.n - 1 < t
-  smaller c = step_down (large (parted c)) (start (parted c)).pre.0
+  smaller c = step_down (large (parted c)) (start (parted c)).requires.0
 
   upper-asked : (c : Inputs) → InnerRoom ((start (parted c)).args.n - 1) (parts_of c).upper_next.0 (length (part_of (parts_of c).upper (input_rows c)))
   upper-asked c =
       let p = parted c in
-      upper-room p.level-parts.ensures (start p).pre.1 (input_rows c) c.put-rising.auto.0 (large p)
+      upper-room p.level_parts-parts.ensures (start p).requires.1 (input_rows c) c.put_rising.auto.rows (large p)
 
   lower-inputs-asked : (c : Upper) → (
       let p = parts_of (inputs c) in
       stride * p.inputs ≤ length (part_of p.lower (upper_rows c)))
   lower-inputs-asked c =
       let p = parted (inputs c) in
-      lower-inputs-room p.level-parts.ensures (start p).pre.1 (upper_rows c) (upper_long c)
+      lower-inputs-room p.level_parts-parts.ensures (start p).requires.1 (upper_rows c) (upper_long c)
 
   lower-asked : (c : LowerInputs) → (
       let inp = inputs (upper c) in
       InnerRoom ((start (parted inp)).args.n - 1) (parts_of inp).lower_next.0 (length (part_of (parts_of inp).lower_inner (lower_input_rows c))))
   lower-asked c =
       let p = parted (inputs (upper c)) in
-      lower-room p.level-parts.ensures (start p).pre.1 (lower_input_rows c) (lower-inputs-long c) (large p)
+      lower-room p.level_parts-parts.ensures (start p).requires.1 (lower_input_rows c) (lower-inputs-long c) (large p)
 
   outputs-asked : (c : Lower) → (
       let p = parts_of (inputs (upper (lower_inputs c))) in
       JoinRoom p.half (length (part_of p.outputs (lower_rows c))))
   outputs-asked c =
       let p = parted (inputs (upper (lower_inputs c))) in
-      join_room p.level-parts.ensures (start p).pre.1 (lower_rows c) (lower_long c)
+      join_room p.level_parts-parts.ensures (start p).requires.1 (lower_rows c) (lower_long c)
 
   -- all steps of a level are done
   done : (c : Outputs) → (
@@ -193,26 +193,26 @@ module _ (t : ℕ) where
       let up = upper (lower_inputs low) in
       let p = parted (inputs up) in
       InnerWritten (start p).args.n (start p).args.next.0 (start p).args.rows.now
-      (with_part p.level-parts.result.outputs (lower_rows low) c.join-halves.new.0)
-      (record { first = p.level-parts.result.output_next; upper = up.write-inner.result.lower; lower = low.write-inner2.result.lower }))
+      (with_part p.level_parts-parts.result.outputs (lower_rows low) c.join_halves.new.rows)
+      (record { first = p.level_parts-parts.result.output_next; upper = up.write_inner-above.result.lower; lower = low.write_inner-below.result.lower }))
   done c =
       let low = lower c in
       let li = lower_inputs low in
       let up = upper li in
       let inp = inputs up in
       let p = parted inp in
-      level-written (start p).args.n (start p).args.next.0 (some_below (large p)) p.level-parts.result p.level-parts.ensures
-      up.write-inner.result low.write-inner2.result (start p).args.rows.now (input_rows inp)
-      up.write-inner.last.1.1.0 li.put-rising2.last.0 low.write-inner2.last.1.1.0 c.join-halves.new.0
-      (start p).pre.1.room
+      level-written (start p).args.n (start p).args.next.0 (some_below (large p)) p.level_parts-parts.result p.level_parts-parts.ensures
+      up.write_inner-above.result low.write_inner-below.result (start p).args.rows.now (input_rows inp)
+      up.write_inner-above.new.rows li.put_rising-2.new.rows low.write_inner-below.new.rows c.join_halves.new.rows
+      (start p).requires.1.room
       (record {
-        inputs = inp.put-rising.ensures;
-        upper_rows = up.write-inner.ensures.0;
-        upper_wires = up.write-inner.ensures.1;
-        lower_inputs = li.put-rising2.ensures;
-        lower_rows = low.write-inner2.ensures.0;
-        lower_wires = low.write-inner2.ensures.1;
-        output_rows = c.join-halves.ensures;
+        inputs = inp.put_rising.ensures;
+        upper_rows = up.write_inner-above.ensures.0;
+        upper_wires = up.write_inner-above.ensures.1;
+        lower_inputs = li.put_rising-2.ensures;
+        lower_rows = low.write_inner-below.ensures.0;
+        lower_wires = low.write_inner-below.ensures.1;
+        output_rows = c.join_halves.ensures;
       })
 
 pub +write_inner_spec : {M : Type 1} → statement M
@@ -223,22 +223,22 @@ pub +write_inner_spec : {M : Type 1} → statement M
     (write_inner_at t)
     write-inner.Post
     -- P(2), P(4) and P(8)
-    (λ c κs. search rules) (λ c. search rules) (λ c. c.before.before.write-base.ensures)
+    (λ c κs. search rules) (λ c. search rules) (λ c. c.before.before.write_base.ensures)
     -- the parts, the upper half's inputs
     (λ c κs. search rules) (λ c. search rules) (λ c κs. search rules)
     -- the upper half and its stretch
     (λ c. some_below (large t (parted t c.before.before)))
-    (λ c. (fits t c.before.before).upper) (λ c. upper-at t c.before.before) (λ c. upper-at t c.before.before) (λ c. le_refl _)
-    (λ c κs. (smaller t c.before.before.before, upper-asked t c.before.before.before))
+    (λ c. (fits t c.before.before.before).upper) (λ c. upper-at t c.before.before.before) (λ c. upper-at t c.before.before.before) (λ c. le_refl _)
+    (λ c κs. (smaller t c.before.before.before.before, upper-asked t c.before.before.before.before))
     -- the lower half's inputs
     (λ c. (fits t (inputs t c.before.before)).lower) (λ c. lower-at t c.before.before) (λ c. lower-at t c.before.before) (λ c. le_refl _)
     (λ c. search rules) (λ c. search rules)
     (λ c κs. lower-inputs-asked t c.before.before.before.before.before)
     -- the lower half and its stretch
     (λ c. some_below (large t (parted t (inputs t (upper t c.before.before)))))
-    (λ c. (fits t (inputs t (upper t c.before.before))).lower_inner)
-    (λ c. lower_inner-at t c.before.before) (λ c. lower_inner-at t c.before.before) (λ c. le_refl _)
-    (λ c κs. (smaller t (inputs t (upper t c.before.before.before)), lower-asked t c.before.before.before))
+    (λ c. (fits t (inputs t (upper t c.before.before.before))).lower_inner)
+    (λ c. lower_inner-at t c.before.before.before) (λ c. lower_inner-at t c.before.before.before) (λ c. le_refl _)
+    (λ c κs. (smaller t (inputs t (upper t c.before.before.before.before)), lower-asked t c.before.before.before.before))
     -- the outputs and their stretch
     (λ c. (fits t (inputs t (upper t (lower_inputs t c.before.before)))).outputs)
     (λ c. outputs-at t c.before.before) (λ c. outputs-at t c.before.before) (λ c. le_refl _)
