@@ -86,8 +86,8 @@ layers_back I O f g f' g' ef eg o =
 
 -- ---- one to one, for any bits
 
-length-take_le : (k : ℕ) (l : List ℕ) → length (take k l) ≤ k
-length-take_le k l = rw (length-take k l) (min-le_left k (length l))
+length-take-le : (k : ℕ) (l : List ℕ) → length (take k l) ≤ k
+length-take-le k l = rw (length-take k l) (min-le_left k (length l))
 
 pub source-perm : (n : ℕ) (bits : List ℕ) → Perm (2 ^ n) (source n bits) (target n bits)
 unfolding source target
@@ -103,9 +103,9 @@ source-perm (suc n) bits =
       past = λ o h.
           let l : 2 ^ n ≤ o / 2 = omega (arith, pow-succ' 2 n) in
           ap (λ x. cross I (through (source n (upper_bits n bits)) (source n (lower_bits n bits)) x))
-          (cross-past O o (omega (arith, length-take_le (2 ^ n - 1) (drop (permutation_count n) (lower_bits n bits)))))
+          (cross-past O o (omega (arith, length-take-le (2 ^ n - 1) (drop (permutation_count n) (lower_bits n bits)))))
           ∙ ap (cross I) (through-past _ _ o (U.past (o / 2) l) (L.past (o / 2) l))
-          ∙ cross-past I o (omega (arith, length-take_le (2 ^ n) bits));
+          ∙ cross-past I o (omega (arith, length-take-le (2 ^ n) bits));
     }
 
 -- ---- as wanted, where it is programmed

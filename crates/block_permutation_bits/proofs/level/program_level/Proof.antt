@@ -4,7 +4,7 @@ use Prim.Native.Nat.{◌/◌}
 use native.Mathlib.Omega.{arith}
 use borrow.Author.Rules.{rules}
 use lib.ListN.{length}
-use lib.Seq.{length-take_le}
+use lib.Seq.{length-take-le}
 use Rattle.block_loops.proofs.MappingsLaws.{bits-take, rows-bits, levelled}
 use Rattle.block_permutation_bits.proofs.level.program_level.Statement.{statement}
 use Rattle.block_permutation_bits.proofs.level.program_level.Tie as tie
@@ -23,13 +23,13 @@ module _ (c : tie.After-find_sides) where
 
 front-size : tie.Need-slice_bounds-half_maps-end-2
 front-size c =
-    sym (length-take_le _ _ (omega (arith, marks c.before.before.before.before.before.before.before.before)))
+    sym (length-take-le _ _ (omega (arith, marks c.before.before.before.before.before.before.before.before)))
 
 for_halves : tie.Need-half_maps-requires
 for_halves c κs =
     let room = c.requires.1.0 in
     let n = length c.args.mark.now / 2 in
-    let size = length-take_le n c.find_sides.new.mark (omega (arith, marks c.before.before.before.before.before.before.before.before.before)) in (
+    let size = length-take-le n c.find_sides.new.mark (omega (arith, marks c.before.before.before.before.before.before.before.before.before)) in (
       rw c.find_sides.ensures (bits-take n (rows-bits c.requires.0 room.even)),
       record {
         even = room.even;

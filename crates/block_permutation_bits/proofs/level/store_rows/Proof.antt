@@ -5,7 +5,7 @@ use native.Mathlib.Omega.{arith}
 use borrow.Author.Rules.{rules}
 use borrow.Rule.Slice.PartMut.{mid_of}
 use lib.ListN.{length, take, drop, length-drop}
-use lib.Seq.{take_all, length-take_le}
+use lib.Seq.{take_all, length-take-le}
 use Rattle.block_elements.specs.Bits.{store_bits}
 use Rattle.block_bits.specs.Stores.{low_bits}
 use Rattle.block_permutation_bits.proofs.level.store_rows.Statement.{statement}
@@ -19,7 +19,7 @@ abbrev start : tie.After-store_bits → tie.Start
 start c = c.before.before.before.before.before
 
 outputs_end : tie.Need-slice_bounds-store_bits-end-2
-outputs_end c = sym (length-take_le _ _ (omega arith))
+outputs_end c = sym (length-take-le _ _ (omega arith))
 
 both : tie.Need-returns
 both c =

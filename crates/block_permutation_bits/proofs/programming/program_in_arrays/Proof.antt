@@ -4,7 +4,7 @@ use mathlib.Core.Path.{sym, ap, ◌∙◌}
 use Prim.Native.Nat.{◌^◌}
 use native.Mathlib.Omega.{arith}
 use borrow.Author.Rules.{rules}
-use lib.Seq.{length-take_le}
+use lib.Seq.{length-take-le}
 use Rattle.block_sizes.specs.Sizes.{level_of}
 use Rattle.block_program_checks.proofs.ChecksLaws.{few_bits_lem}
 use Rattle.block_permutation_bits.proofs.ProgramLaws.{front-perm, front-stored}
@@ -30,15 +30,15 @@ for_mapping c κs =
 perm-part : tie.Need-slice_bounds-program_block-end-2
 perm-part c =
     let kept = c.load_mapping.auto.perm in
-    sym (length-take_le c.args.n c.load_mapping.new.perm (omega arith))
+    sym (length-take-le c.args.n c.load_mapping.new.perm (omega arith))
 
 scratch_part : tie.Need-slice_bounds-program_block-end-4
 scratch_part c =
-    sym (length-take_le c.args.n c.args.scratch.now c.requires.1.0.1)
+    sym (length-take-le c.args.n c.args.scratch.now c.requires.1.0.1)
 
 mark_part : tie.Need-slice_bounds-program_block-end-6
 mark_part c =
-    sym (length-take_le c.args.n c.args.mark.now c.requires.1.0.2)
+    sym (length-take-le c.args.n c.args.mark.now c.requires.1.0.2)
 
 for_block : tie.Need-program_block-requires
 for_block c κs =
@@ -48,14 +48,14 @@ for_block c κs =
     let kept = load.kept.1.0 in
     let e = c.level_of.ensures in
     let place = c.bit_place.ensures in
-    let lp = length-take_le n load.last.1.0 (omega arith) in (
+    let lp = length-take-le n load.last.1.0 (omega arith) in (
       front-perm c.args.perm.now c.requires.0.1 load.ensures,
       (
         record {
           size = lp ∙ sym size.power ∙ ap (λ k. 2 ^ k) (sym e);
           few = rw e size.level;
-          scratch_size = length-take_le n c.args.scratch.now c.requires.1.0.1 ∙ sym lp;
-          marks_size = length-take_le n c.args.mark.now c.requires.1.0.2 ∙ sym lp;
+          scratch_size = length-take-le n c.args.scratch.now c.requires.1.0.1 ∙ sym lp;
+          marks_size = length-take-le n c.args.mark.now c.requires.1.0.2 ∙ sym lp;
         },
         rw e (omega (arith, few_bits_lem size)),
       ),
