@@ -259,9 +259,9 @@ module _ (t : ℕ) where
         half_falls l s.pre.0,
         (
           lower-perm {level = s.args.level} s.pre.1.0 room l v.program-level.ensures (scratch_size_lem v)
-              (half .last .0) (half .kept .0) (half .ensures .1),
+              half.last.0 half.kept.0 half.ensures.1,
           (
-            half_buffers s.args.level _ room l (lower-within (sized h)) (half .kept .0 ∙ scratch_size_lem v) (half .kept .1 .0) (half .kept .1 .1 .0 ∙ mark_size v),
+            half_buffers s.args.level _ room l (lower-within (sized h)) (half.kept.0 ∙ scratch_size_lem v) half.kept.1.0 (half.kept.1.1.0 ∙ mark_size v),
             lower-bits-fit (sized h) s.args.start s.pre.1.1.1 (counted v).permutation-count.result (rows (counted v)),
           ),
         ),
@@ -292,7 +292,7 @@ module _ (t : ℕ) where
       let half = u.program-half in
       let bytes : AreBytes s.args.program.now = record { each = λ i. ((halved n).before.slice-known4.given i).fits } in
       block-stored {level = s.args.level} s.pre.1.0 s.pre.1.1.0 (some_below (halved n).if1.taken) v.program-level.ensures (scratch_size_lem v)
-      (half .last .0) (half .kept .0) (half .ensures .1) bytes (rows n) (half .ensures .0) w.program-half2.ensures.0
+      half.last.0 half.kept.0 half.ensures.1 bytes (rows n) half.ensures.0 w.program-half2.ensures.0
 
 for_few : (t : ℕ) → program-block-lts.Need-program-few-requires (block-calls t) (block_at t) program-block.Post
 for_few t c κs =
