@@ -9,42 +9,33 @@ use Rattle.plan_reading.proofs.PartsLaws.{count-within}
 use Rattle.plan_reading.proofs.reading.read_counts.Statement.{statement}
 use Rattle.plan_reading.proofs.reading.read_counts.Tie as tie
 
-no_inputs : tie.Need-returns
+no_inputs : tie.Need-returns-in-Refused
 unfolding counts_part
 no_inputs c =
-    let u = c.before in
-    let e = ap count_answer (sym u.x.given.1) ∙ u.before.before.count.ensures in
+    let e = ap count_answer (sym c.in-Refused.is) ∙ c.count.ensures in
     record { parsed = ap (followed _ _) e; limited = tt }
 
-no_gates : tie.Need-returns-2
+no_gates : tie.Need-returns-in-Refused-count
 unfolding counts_part
 no_gates c =
-    let k = c.before in
-    let u = k.before.before.before.before in
-    let e₁ = ap count_answer (sym u.u.given.1) ∙ u.before.before.count.ensures in
-    let e₂ = ap count_answer (sym k.x2.given.1) ∙ k.before.before.count2.ensures in
+    let e₁ = ap count_answer (sym c.in-Count.is) ∙ c.count.ensures in
+    let e₂ = ap count_answer (sym c.in-Refused-count.is) ∙ c.count-in-Count.ensures in
     record { parsed = ap (followed _ _) e₂ ∙ ap (followed _ _) e₁; limited = tt }
 
-no_outputs : tie.Need-returns-3
+no_outputs : tie.Need-returns-in-Refused-count-2
 unfolding counts_part
 no_outputs c =
-    let v = c.before in
-    let k = v.before.before.before.before in
-    let u = k.before.before.before.before in
-    let e₁ = ap count_answer (sym u.u.given.1) ∙ u.before.before.count.ensures in
-    let e₂ = ap count_answer (sym k.k.given.1) ∙ k.before.before.count2.ensures in
-    let e₃ = ap count_answer (sym v.x3.given.1) ∙ v.before.before.count3.ensures in
+    let e₁ = ap count_answer (sym c.in-Count.is) ∙ c.count.ensures in
+    let e₂ = ap count_answer (sym c.in-Count-count.is) ∙ c.count-in-Count.ensures in
+    let e₃ = ap count_answer (sym c.in-Refused-count-2.is) ∙ c.count-in-Count-count.ensures in
     record { parsed = ap (followed _ _) e₃ ∙ ap (followed _ _) e₂ ∙ ap (followed _ _) e₁; limited = tt }
 
-counts : tie.Need-returns-4
+counts : tie.Need-returns-in-Count-count-2
 unfolding counts_part
 counts c =
-    let v = c.before in
-    let k = v.before.before.before.before in
-    let u = k.before.before.before.before in
-    let e₁ = ap count_answer (sym u.u.given.1) ∙ u.before.before.count.ensures in
-    let e₂ = ap count_answer (sym k.k.given.1) ∙ k.before.before.count2.ensures in
-    let e₃ = ap count_answer (sym v.v.given.1) ∙ v.before.before.count3.ensures in
+    let e₁ = ap count_answer (sym c.in-Count.is) ∙ c.count.ensures in
+    let e₂ = ap count_answer (sym c.in-Count-count.is) ∙ c.count-in-Count.ensures in
+    let e₃ = ap count_answer (sym c.in-Count-count-2.is) ∙ c.count-in-Count-count.ensures in
     record {
       parsed = ap (followed _ _) e₃ ∙ ap (followed _ _) e₂ ∙ ap (followed _ _) e₁;
       limited = record {
@@ -57,6 +48,4 @@ counts c =
 pub read_counts_spec : {M : Type 1} → statement M
 read_counts_spec =
     tie.close
-    (tie.spec
-    (λ c κs. search rules) (λ c. search rules) (λ c. search rules) (λ c κs. search rules) (λ c. search rules) (λ c. search rules)
-    (λ c κs. search rules) (λ c. search rules) (λ c. search rules) no_inputs no_gates no_outputs counts)
+    (tie.spec (λ c κs. search rules) (λ c. search rules) (λ c. search rules) (λ c κs. search rules) (λ c. search rules) (λ c. search rules) (λ c κs. search rules) (λ c. search rules) (λ c. search rules) no_inputs no_gates no_outputs counts)

@@ -6,15 +6,15 @@ use Rattle.plan_reading.specs.Parts.{header_part}
 use Rattle.plan_reading.proofs.reading.read_header.Statement.{statement}
 use Rattle.plan_reading.proofs.reading.read_header.Tie as tie
 
-stub : tie.Need-returns
+stub : tie.Need-returns-then-file-lt-HEADER_BYTES
 unfolding header_part not_stub
-stub c = record { parsed = rw (lt-ltb _ _ c.if1.true); limited = tt }
+stub c = record { parsed = rw (lt-ltb _ _ c.if-file-lt-HEADER_BYTES.true); limited = tt }
 
-counts : tie.Need-returns-2
+counts : tie.Need-returns
 unfolding header_part not_stub
 counts c = record {
-  parsed = rw (le-ltb _ _ c.before.if1.false) c.read-counts.ensures.parsed;
-  limited = c.read-counts.ensures.limited;
+  parsed = rw (le-ltb _ _ c.if-file-lt-HEADER_BYTES.false) c.read_counts.ensures.parsed;
+  limited = c.read_counts.ensures.limited;
 }
 
 pub read_header_spec : {M : Type 1} → statement M

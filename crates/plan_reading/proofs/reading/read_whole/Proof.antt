@@ -27,32 +27,32 @@ use Rattle.plan_reading.proofs.PartsLaws.{gates-refused, outputs-refused, tail-r
 use Rattle.plan_reading.proofs.reading.read_whole.Statement.{statement}
 use Rattle.plan_reading.proofs.reading.read_whole.Tie as tie
 
-abbrev invariant_loop : tie.invariant-loop
+abbrev invariant_loop : tie.invariant-loop-i
 invariant_loop file drawn zero inputs gates outputs gate-count output-count plan₀ after_last at₀ i₀ plan at i =
     (i ≤ gate-count) × HasCounts inputs gates outputs plan × (plan.outputs ≡ zero.outputs)
     × ReadSoFar (λ i. gate_step_within (operand_bound drawn inputs gates i) (gate_wire inputs i)) file at₀.at max_gates zero_gate i plan.gates at.at
     × UsesCounted i 0 plan.gates plan.outputs plan.uses
 
-abbrev decreases_loop : tie.decreases-loop
+abbrev decreases_loop : tie.decreases-loop-i
 decreases_loop file drawn zero inputs gates outputs gate-count output-count plan₀ after_last at₀ i₀ plan at i = gate-count - i
 
-abbrev invariant_loop2 : tie.invariant-loop2
+abbrev invariant_loop2 : tie.invariant-loop-j
 invariant_loop2 file drawn zero inputs gates outputs gate-count output-count plan₀ at₀ i j₀ plan at j =
     (j ≤ output-count) × HasCounts inputs gates outputs plan × (plan.gates ≡ plan₀.gates)
     × ReadSoFar (λ _. output_step inputs gates) file at₀.at max_outputs (wire 0) j plan.outputs at.at
     × UsesCounted gate-count j plan.gates plan.outputs plan.uses
 
-abbrev decreases_loop2 : tie.decreases-loop2
+abbrev decreases_loop2 : tie.decreases-loop-j
 decreases_loop2 file drawn zero inputs gates outputs gate-count output-count plan₀ at₀ i j₀ plan at j = output-count - j
 
 -- where the header is known, from the first loop; the function's start from there; and the first loop from the second
-abbrev known : tie.At-loop invariant_loop decreases_loop invariant_loop2 decreases_loop2 → tie.After-header invariant_loop decreases_loop invariant_loop2 decreases_loop2
+abbrev known : tie.At-loop-i invariant_loop decreases_loop invariant_loop2 decreases_loop2 → tie.In-Header-2 invariant_loop decreases_loop invariant_loop2 decreases_loop2
 known c = c.before.before.before.before
 
-abbrev start : tie.After-header invariant_loop decreases_loop invariant_loop2 decreases_loop2 → tie.Start invariant_loop decreases_loop invariant_loop2 decreases_loop2
-start c = c.before.before.before.before.before
+abbrev start : tie.In-Header-2 invariant_loop decreases_loop invariant_loop2 decreases_loop2 → tie.Start invariant_loop decreases_loop invariant_loop2 decreases_loop2
+start c = c.before.before.before.before
 
-abbrev first-loop : tie.At-loop2 invariant_loop decreases_loop invariant_loop2 decreases_loop2 → tie.At-loop invariant_loop decreases_loop invariant_loop2 decreases_loop2
+abbrev first-loop : tie.At-loop-j invariant_loop decreases_loop invariant_loop2 decreases_loop2 → tie.At-loop-i invariant_loop decreases_loop invariant_loop2 decreases_loop2
 first-loop c = c.before.before
 
 -- turn i of a loop over n items, where the record has places for all of them: the item's bytes fit, and one turn less is left
@@ -76,35 +76,34 @@ module _ {i n : ℕ} (h : i < n) where
 -- ---- the header
 
 -- its counts are within their limits, and the record is zero
-limited : (c : tie.After-header invariant_loop decreases_loop invariant_loop2 decreases_loop2) → Limited c.header.given.0.0
-limited c = subst LimitedStep c.header.given.1 c.before.before.read-header.ensures.limited
+limited : (c : tie.In-Header-2 invariant_loop decreases_loop invariant_loop2 decreases_loop2) → Limited c.in-Header.header
+limited c = subst LimitedStep c.in-Header.is c.read_header.ensures.limited
 
-zeroed : (c : tie.After-header invariant_loop decreases_loop invariant_loop2 decreases_loop2) → c.before.before.before.zero.result ≡ zero_plan
-zeroed c = c.before.before.before.zero.ensures
+zeroed : (c : tie.In-Header-2 invariant_loop decreases_loop invariant_loop2 decreases_loop2) → c.zero-zero.result ≡ zero_plan
+zeroed c = c.zero-zero.ensures
 
 -- the file is the body behind it
-behind : (c : tie.After-header invariant_loop decreases_loop invariant_loop2 decreases_loop2)
-    → let a = (start c).args in
-    body_part a.drawn c.header.given.0.0 a.file.now c.header.given.0.1.0.at ≡ whole_file a.drawn a.file.now 0
-behind c = whole_body _ _ (ap header_answer (sym c.header.given.1) ∙ c.before.before.read-header.ensures.parsed)
+behind : (c : tie.In-Header-2 invariant_loop decreases_loop invariant_loop2 decreases_loop2)
+    → let a = c.args in
+    body_part a.drawn c.in-Header.header a.file.now c.in-Header.c.at ≡ whole_file a.drawn a.file.now 0
+behind c = whole_body _ _ (ap header_answer (sym c.in-Header.is) ∙ c.read_header.ensures.parsed)
 
-no_header : tie.Need-returns-5 invariant_loop decreases_loop invariant_loop2 decreases_loop2
+no_header : tie.Need-returns invariant_loop decreases_loop invariant_loop2 decreases_loop2
 no_header c =
-    let after = c.before.before in
-    refused-outcome c.refused-read.ensures after.before.before.before.zero.ensures
-    (no_body _ _ (ap header_answer (sym after.x.given.1) ∙ after.before.before.read-header.ensures.parsed))
+    refused-outcome c.refused_read.ensures c.zero-zero.ensures
+    (no_body _ _ (ap header_answer (sym c.in-Refused.is) ∙ c.read_header.ensures.parsed))
 
 -- K has 16 bits
-places-fit : tie.Need-overflow-cast-plan invariant_loop decreases_loop invariant_loop2 decreases_loop2
-places-fit c = Fits-below {n = 256} tt (places_le c.ceil-power.ensures (limited c.before.before).gates)
+places-fit : tie.Need-overflow_cast-plan invariant_loop decreases_loop invariant_loop2 decreases_loop2
+places-fit c = Fits-below {n = 256} tt (places_le c.ceil_power.ensures (limited c.before.before).gates)
 
 -- ---- the gates
 
-holds : tie.Need-loop-init invariant_loop decreases_loop invariant_loop2 decreases_loop2
+holds : tie.Need-loop-i-init invariant_loop decreases_loop invariant_loop2 decreases_loop2
 unfolding places
 holds c = (
   zero-le,
-  record { inputs = refl; gates = refl; outputs = refl; places = c.before.ceil-power.ensures },
+  record { inputs = refl; gates = refl; outputs = refl; places = c.ceil_power.ensures },
   rw (ap (λ p. p.outputs) (zeroed c.before.before.before)) refl,
   none_read (ap (λ p. p.gates) (zeroed c.before.before.before)),
   subst (UsesCounted 0 0 _ _) (sym (ap (λ p. p.uses) (zeroed c.before.before.before))) (none-counted _ _),
@@ -116,153 +115,119 @@ bound-is true u k i e f = e
 bound-is false u k i e f = f
 
 -- what a turn reads is gate i
-gate-i : (c : tie.After-read-gate invariant_loop decreases_loop invariant_loop2 decreases_loop2)
-    → let turn = c.before.before.before.before in
-    let a = (start (known turn)).args in
-    let h = (known turn).header.given.0.0 in
-    gate_answer c.read-gate.result
-    ≡ gate_step_within (operand_bound a.drawn h.inputs h.gates turn.loop.i) (gate_wire h.inputs turn.loop.i) a.file.now
-    turn.loop.at.at
+gate-i : (c : tie.After-read_gate invariant_loop decreases_loop invariant_loop2 decreases_loop2)
+    → let a = c.args in
+    let h = c.in-Header.header in
+    gate_answer c.read_gate.result
+    ≡ gate_step_within (operand_bound a.drawn h.inputs h.gates c.loop-i.i) (gate_wire h.inputs c.loop-i.i) a.file.now
+    c.loop-i.at.at
 gate-i c =
-    let turn = c.before.before.before.before in
-    let a = (start (known turn)).args in
-    let k = (known turn).header.given.0.0.gates in
+    let a = c.args in
+    let k = c.in-Header.header.gates in
     let h = limited (known turn) in
-    let low = within c.before.before.before.loop-test.true h.gates in
-    let last = turn.before.gate-wire.ensures ∙ wire-fits {i = k} h.inputs h.gates in
-    let own = c.before.before.gate-wire2.ensures ∙ wire-fits {i = turn.loop.i} h.inputs (omega (arith, low)) in
-    c.read-gate.ensures
-    ∙ ap₂ (λ b w. gate_step_within b w a.file.now turn.loop.at.at) (ap (λ b. b.0) c.before.operand-bound.ensures ∙ bound-is a.drawn _ k turn.loop.i last own) own
+    let low = within c.loop-i-test.true h.gates in
+    let last = c.gate_wire-after_last.ensures ∙ wire-fits {i = k} h.inputs h.gates in
+    let own = c.gate_wire-own.ensures ∙ wire-fits {i = c.loop-i.i} h.inputs (omega (arith, low)) in
+    c.read_gate.ensures
+    ∙ ap₂ (λ b w. gate_step_within b w a.file.now c.loop-i.at.at) (ap (λ b. b.0) c.operand_bound.ensures ∙ bound-is a.drawn _ k c.loop-i.i last own) own
 
-no_gate : tie.Need-returns invariant_loop decreases_loop invariant_loop2 decreases_loop2
+no_gate : tie.Need-returns-in-Refused-read_gate invariant_loop decreases_loop invariant_loop2 decreases_loop2
 no_gate c =
-    let met = c.before.before.before.before in
-    let turn = met.before.before.before.before in
-    refused-outcome c.refused-read2.ensures (zeroed (known turn))
-    (gates-refused _ (known turn).header.given.0.0 _ _
-    (one-refused turn.loop.invariant.3 _ met.before.before.before.loop-test.true (ap gate_answer (sym c.before.before.x2.given.1) ∙ gate-i met))
+    refused-outcome c.refused_read-in-Refused-read_gate.ensures (zeroed (known turn))
+    (gates-refused _ c.in-Header.header _ _
+    (one-refused c.loop-i.invariant.3 _ c.loop-i-test.true (ap gate_answer (sym c.in-Refused-read_gate.is) ∙ gate-i c.before.before))
     ∙ behind (known turn))
 
-again : tie.Need-loop-preserved invariant_loop decreases_loop invariant_loop2 decreases_loop2
+again : tie.Need-loop-i-preserved invariant_loop decreases_loop invariant_loop2 decreases_loop2
 again c =
-    let met = c.before.before.before.before.before in
-    let turn = met.before.before.before.before in
-    let taken = met.before.before.before.loop-test.true in
-    let same = turn.loop.invariant.1 in
+    let taken = c.loop-i-test.true in
+    let same = c.loop-i.invariant.1 in
     let low = within taken (limited (known turn)).gates in
-    let stored = stored-gate turn.loop.invariant.4 (le_of_lt low) zero-le _ (rw (held-places turn.loop.invariant.3 (le_of_lt low)) low) in (
+    let stored = stored-gate c.loop-i.invariant.4 (le_of_lt low) zero-le _ (rw (held-places c.loop-i.invariant.3 (le_of_lt low)) low) in (
       next-within taken,
       record { inputs = same.inputs; gates = same.gates; outputs = same.outputs; places = same.places },
-      turn.loop.invariant.2,
-      one-read turn.loop.invariant.3 low (ap gate_answer (sym c.before.before.before.gate.given.1) ∙ gate-i met),
-      rw (add-one turn.loop.i) (subst (UsesCounted _ 0 _ _) (sym c.count-operands.ensures) stored),
+      c.loop-i.invariant.2,
+      one-read c.loop-i.invariant.3 low (ap gate_answer (sym c.in-Gate.is) ∙ gate-i c.before.before.before),
+      rw (add-one c.loop-i.i) (subst (UsesCounted _ 0 _ _) (sym c.count_operands.ensures) stored),
     )
 
 -- all gates are read where the first loop ends
-gates-read : (c : tie.After-loop invariant_loop decreases_loop invariant_loop2 decreases_loop2)
-    → let loop = c.before.loop in
-    let a = (start (known c.before)).args in
-    let h = (known c.before).header.given.0.0 in
+gates-read : (c : tie.After-loop-i invariant_loop decreases_loop invariant_loop2 decreases_loop2)
+    → let loop = c.loop-i in
+    let a = c.args in
+    let h = c.in-Header.header in
     got loop.invariant.3.items loop.at.at
-    ≡ gate_steps a.drawn h.inputs h.gates h.gates a.file.now (known c.before).header.given.0.1.0.at
-gates-read c = let loop = c.before.loop in all_read loop.invariant.3 (le_antisymm loop.invariant.0 c.loop-test.false)
+    ≡ gate_steps a.drawn h.inputs h.gates h.gates a.file.now c.in-Header.c.at
+gates-read c = let loop = c.loop-i in all_read loop.invariant.3 (le_antisymm loop.invariant.0 c.loop-i-test.false)
 
 -- ---- the outputs
 
-holds2 : tie.Need-loop2-init invariant_loop decreases_loop invariant_loop2 decreases_loop2
-holds2 c =
-    let first = c.before in (
-      zero-le,
-      first.loop.invariant.1,
-      refl,
-      none_read (first.loop.invariant.2 ∙ ap (λ p. p.outputs) (zeroed (known first))),
-      subst (λ n. UsesCounted n 0 first.loop.plan.gates first.loop.plan.outputs first.loop.plan.uses)
-          (le_antisymm first.loop.invariant.0 c.loop-test.false) first.loop.invariant.4,
-    )
+holds2 : tie.Need-loop-j-init invariant_loop decreases_loop invariant_loop2 decreases_loop2
+holds2 c = (
+  zero-le,
+  c.loop-i.invariant.1,
+  refl,
+  none_read (c.loop-i.invariant.2 ∙ ap (λ p. p.outputs) (zeroed (known first))),
+  subst (λ n. UsesCounted n 0 c.loop-i.plan.gates c.loop-i.plan.outputs c.loop-i.plan.uses)
+      (le_antisymm c.loop-i.invariant.0 c.loop-i-test.false) c.loop-i.invariant.4,
+)
 
-no_output : tie.Need-returns-2 invariant_loop decreases_loop invariant_loop2 decreases_loop2
+no_output : tie.Need-returns-in-Refused-output invariant_loop decreases_loop invariant_loop2 decreases_loop2
 no_output c =
-    let met = c.before.before.before.before in
-    let turn = met.before.before in
-    let k = known (first-loop turn) in
-    refused-outcome c.refused-read3.ensures (zeroed k)
-    (outputs-refused _ k.header.given.0.0 _ _ (gates-read turn.before)
-    (one-refused turn.loop2.invariant.3 _ met.before.loop2-test.true
-    (ap (followed _ _) (ap output_answer (sym c.before.before.y.given.1) ∙ met.output.ensures)))
+    refused-outcome c.refused_read-in-Refused-output.ensures (zeroed k)
+    (outputs-refused _ c.in-Header.header _ _ (gates-read c.before.before.before.before.before)
+    (one-refused c.loop-j.invariant.3 _ c.loop-j-test.true
+    (ap (followed _ _) (ap output_answer (sym c.in-Refused-output.is) ∙ c.output.ensures)))
     ∙ behind k)
 
-again2 : tie.Need-loop2-preserved invariant_loop decreases_loop invariant_loop2 decreases_loop2
+again2 : tie.Need-loop-j-preserved invariant_loop decreases_loop invariant_loop2 decreases_loop2
 again2 c =
-    let met = c.before.before.before.before.before in
-    let turn = met.before.before in
-    let taken = met.before.loop2-test.true in
-    let same = turn.loop2.invariant.1 in
+    let taken = c.loop-j-test.true in
+    let same = c.loop-j.invariant.1 in
     let most = limited (known (first-loop turn)) in
     let low = within taken most.outputs in
-    let stored = stored-output turn.loop2.invariant.4 most.gates (le_of_lt low) _ (rw (held-places turn.loop2.invariant.3 (le_of_lt low)) low) in (
+    let stored = stored-output c.loop-j.invariant.4 most.gates (le_of_lt low) _ (rw (held-places c.loop-j.invariant.3 (le_of_lt low)) low) in (
       next-within taken,
       record { inputs = same.inputs; gates = same.gates; outputs = same.outputs; places = same.places },
-      turn.loop2.invariant.2,
-      one-read turn.loop2.invariant.3 low (ap (followed _ _) (ap output_answer (sym c.before.before.before.wire.given.1) ∙ met.output.ensures)),
-      rw (add-one turn.loop2.j) (subst (UsesCounted _ _ _ _) (sym c.count-use.ensures) stored),
+      c.loop-j.invariant.2,
+      one-read c.loop-j.invariant.3 low (ap (followed _ _) (ap output_answer (sym c.in-Output.is) ∙ c.output.ensures)),
+      rw (add-one c.loop-j.j) (subst (UsesCounted _ _ _ _) (sym c.count_use.ensures) stored),
     )
 
 -- all outputs are read where the second loop ends
-outputs-read : (c : tie.After-loop2 invariant_loop decreases_loop invariant_loop2 decreases_loop2)
-    → let loop = c.before.loop2 in
-    let first = first-loop c.before in
-    let a = (start (known first)).args in
-    let h = (known first).header.given.0.0 in
-    got loop.invariant.3.items loop.at.at ≡ output_steps h.inputs h.gates h.outputs a.file.now first.loop.at.at
-outputs-read c = let loop = c.before.loop2 in all_read loop.invariant.3 (le_antisymm loop.invariant.0 c.loop2-test.false)
+outputs-read : (c : tie.After-loop-j invariant_loop decreases_loop invariant_loop2 decreases_loop2)
+    → let loop = c.loop-j in
+    let a = c.args in
+    let h = c.in-Header.header in
+    got loop.invariant.3.items loop.at.at ≡ output_steps h.inputs h.gates h.outputs a.file.now c.loop-i.at.at
+outputs-read c = let loop = c.loop-j in all_read loop.invariant.3 (le_antisymm loop.invariant.0 c.loop-j-test.false)
 
 -- ---- the end
 
-tail : tie.Need-returns-3 invariant_loop decreases_loop invariant_loop2 decreases_loop2
+tail : tie.Need-returns-then-end-file invariant_loop decreases_loop invariant_loop2 decreases_loop2
 tail c =
-    let past = c.before.before in
-    let k = known (first-loop past.before) in
-    refused-outcome c.refused-read4.ensures (zeroed k)
-    (tail-refused _ k.header.given.0.0 _ _ (gates-read past.before.before) (outputs-read past) c.before.if1.true ∙ behind k)
+    refused-outcome c.refused_read-then-end-file.ensures (zeroed k)
+    (tail-refused _ c.in-Header.header _ _ (gates-read c.before.before.before.before) (outputs-read c.before.before) c.if-end-file.true ∙ behind k)
 
-read : tie.Need-returns-4 invariant_loop decreases_loop invariant_loop2 decreases_loop2
+read : tie.Need-returns-in-Header invariant_loop decreases_loop invariant_loop2 decreases_loop2
 read c =
-    let second = c.before.before in
-    let first = first-loop second in
-    let k = known first in
     let held =
-    plan-held _ _ second.loop2.invariant.1 (second.loop2.invariant.2 ∙ first.loop.inv.3.placed) second.loop2.invariant.3.placed
-    (subst (λ n. UsesCounted k.header.given.0.0.gates n second.loop2.plan.gates second.loop2.plan.outputs second.loop2.plan.uses)
-    (le_antisymm second.loop2.invariant.0 c.before.loop2-test.false) second.loop2.invariant.4) in
+    plan-held _ _ c.loop-j.invariant.1 (c.loop-j.invariant.2 ∙ c.loop-i.invariant.3.placed) c.loop-j.invariant.3.placed
+    (subst (λ n. UsesCounted c.in-Header.header.gates n c.loop-j.plan.gates c.loop-j.plan.outputs c.loop-j.plan.uses)
+    (le_antisymm c.loop-j.invariant.0 c.loop-j-test.false) c.loop-j.invariant.4) in
     ap parsed_outcome
-    (ap (λ p. got p second.loop2.at.at) held
-    ∙ body_read _ k.header.given.0.0 _ _ (gates-read second.before) (outputs-read c.before) c.if1.false
+    (ap (λ p. got p c.loop-j.at.at) held
+    ∙ body_read _ c.in-Header.header _ _ (gates-read c.before.before.before) (outputs-read c.before) c.if-end-file.false
     ∙ behind k)
 
 -- the turns in which a gate and an output are stored
-abbrev gate-turn : tie.After-known-told4 invariant_loop decreases_loop invariant_loop2 decreases_loop2 → tie.In-loop invariant_loop decreases_loop invariant_loop2 decreases_loop2
-gate-turn c = c.before.before.before.before.before.before
+abbrev gate-turn : tie.In-Gate invariant_loop decreases_loop invariant_loop2 decreases_loop2 → tie.In-loop-i invariant_loop decreases_loop invariant_loop2 decreases_loop2
+gate-turn c = c.before.before.before.before
 
-abbrev output-turn : tie.After-known-told6 invariant_loop decreases_loop invariant_loop2 decreases_loop2 → tie.In-loop2 invariant_loop decreases_loop invariant_loop2 decreases_loop2
-output-turn c = c.before.before.before.before
+abbrev output-turn : tie.In-Output invariant_loop decreases_loop invariant_loop2 decreases_loop2 → tie.In-loop-j invariant_loop decreases_loop invariant_loop2 decreases_loop2
+output-turn c = c.before.before
 
 pub read_whole_spec : {M : Type 1} → statement M
 read_whole_spec =
     tie.close
-    (tie.spec invariant_loop decreases_loop invariant_loop2 decreases_loop2
-    -- the header
-    (λ c κs. tt) (λ c κs. tt) (λ c. search rules) (λ c κs. tt) (λ c. search rules)
-    (λ c. search rules) (λ c. search rules) (λ c. search rules) (λ c κs. tt) places-fit (λ c κs. tt) holds
-    -- a gate
-    (λ c κs. tt) (λ c κs. tt) (λ c κs. tt) (λ c. search rules) (λ c κs. tt) no_gate (λ c. search rules)
-    (λ c. let t = gate-turn c in bytes_fit t.loop-test.taken (limited (known t.before)).gates 6 (lit≤ tt) (lit≤ tt))
-    (λ c. let t = gate-turn c in within t.loop-test.taken (limited (known t.before)).gates) (λ c κs. tt)
-    (λ c. let t = gate-turn c.before.before in next_fits t.loop-test.taken (limited (known t.before)).gates (lit≤ tt))
-    (λ c. fewer-left (gate-turn c.before.before).loop-test.taken) again
-    -- an output
-    holds2 (λ c κs. tt) (λ c. search rules) (λ c κs. tt) no_output (λ c. search rules)
-    (λ c. let t = output-turn c in bytes_fit t.loop2-test.taken (limited (known (first-loop t.before))).outputs 2 (lit≤ tt) (lit≤ tt))
-    (λ c. let t = output-turn c in within t.loop2-test.taken (limited (known (first-loop t.before))).outputs) (λ c κs. tt)
-    (λ c. let t = output-turn c.before.before in next_fits t.loop2-test.taken (limited (known (first-loop t.before))).outputs (lit≤ tt))
-    (λ c. fewer-left (output-turn c.before.before).loop2-test.taken) again2
-    (λ c κs. tt) tail read no_header)
+    (tie.spec invariant_loop decreases_loop invariant_loop2 decreases_loop2 (λ c κs. tt) (λ c κs. tt) (λ c. search rules) (λ c κs. tt) (λ c. search rules) (λ c. search rules) (λ c. search rules) (λ c. search rules) (λ c κs. tt) places-fit (λ c κs. tt) holds (λ c κs. tt) (λ c κs. tt) (λ c κs. tt) (λ c. search rules) (λ c κs. tt) no_gate (λ c. search rules) (λ c. let t = gate-turn c in bytes_fit t.loop-i-test.true (limited (known t.before)).gates 6 (lit≤ tt) (lit≤ tt)) (λ c. let t = gate-turn c in within t.loop-i-test.true (limited (known t.before)).gates) (λ c κs. tt) (λ c. let t = gate-turn c.before.before in next_fits t.loop-i-test.true (limited (known t.before)).gates (lit≤ tt)) (λ c. fewer-left (gate-turn c.before.before).loop-i-test.true) again holds2 (λ c κs. tt) (λ c. search rules) (λ c κs. tt) no_output (λ c. search rules) (λ c. let t = output-turn c in bytes_fit t.loop-j-test.true (limited (known (first-loop t.before))).outputs 2 (lit≤ tt) (lit≤ tt)) (λ c. let t = output-turn c in within t.loop-j-test.true (limited (known (first-loop t.before))).outputs) (λ c κs. tt) (λ c. let t = output-turn c.before.before in next_fits t.loop-j-test.true (limited (known (first-loop t.before))).outputs (lit≤ tt)) (λ c. fewer-left (output-turn c.before.before).loop-j-test.true) again2 (λ c κs. tt) tail read no_header)
