@@ -9,9 +9,8 @@ use borrow.Author.Tests.{eq-eqb, ne_eqb}
 use mir.Val.{Val}
 use denote.Laws.{Is}
 use denote.Struct.Declared.{row}
-use denote.Struct.Field.{Field, u16-field, array_field}
 use lib.Dec.{eqb}
-use lib.ListN.{length, get_or, set, length-set, length-map}
+use lib.ListN.{length, get_or, set, length-set}
 use lib.Seq.{length-sets, get_or-set_same, get_or-set_other, ext_get_or}
 use Rattle.lists.specs.Lists.{list_of}
 use Rattle.lists.specs.Counting.{one_if}
@@ -27,8 +26,6 @@ use Rattle.plan.specs.Record.{word_numbers, max_inputs, max_gates, max_outputs, 
 use Rattle.plan.specs.Rules.{count_allowed}
 use Rattle.plan.specs.Faults.{gate_fault, Accepted, CountsWithin, GateWithin, OutputWithin}
 use Rattle.plan.specs.Counting.{with_use, with_operands}
-use Rattle.plan.specs.contracts.record.Gate as Gate-type
-use Rattle.plan.specs.contracts.record.PlanWire as PlanWire-type
 use Rattle.plan.specs.contracts.record.Plan as Plan-type
 use Rattle.plan.proofs.RecordLaws.{wire-fits}
 use Rattle.plan.proofs.RulesLaws.{count_bounds}
@@ -42,17 +39,8 @@ use Rattle.plan_edits.specs.Uncounting.{without_use, without_operands}
 -- ---- the record
 
 -- an array that is a record's field has its length, so a record that a function is given has all its places
-full : (F : Field) {n : ℕ} (xs : List F.Value) {vs : List Val} → Is (array_field F n).row ((array_field F n).into xs) vs → length xs ≡ n
-full F xs is = sym (length-map xs F.into) ∙ is.1.0.1
-
 pub has-places : (p : Plan) {vs : List Val} → Is (row Plan-type.the_type) p vs → HasPlaces p
-has-places p is =
-    let fields = is.1.1.1.1.1 in
-    record {
-      gates = full Gate-type.the_field p.gates fields.0;
-      outputs = full PlanWire-type.the_field p.outputs fields.1.0;
-      uses = full u16-field p.uses fields.1.1.1.0;
-    }
+has-places p is = let fields = is.1.1.1.1.1 in record { gates = fields.0.1.0.1; outputs = fields.1.0.1.0.1; uses = fields.1.1.1.0.1.0.1 }
 
 -- ---- the checks
 

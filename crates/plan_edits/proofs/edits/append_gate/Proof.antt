@@ -20,10 +20,10 @@ abbrev start : tie.In-Done → tie.Start
 start c = c.before.before
 
 module _ (c : tie.In-Done) where
-  passes : let a = c.args in 0 ≡ append_gate_fault a.plan a.new-gate
+  passes : let a = c.args in 0 ≡ append_gate_fault a.plan a.new_gate
   passes = answer-passes c.in-Done.is c.check_append_gate.ensures
 
-  can : let a = c.args in CanAppendGate a.plan a.new-gate
+  can : let a = c.args in CanAppendGate a.plan a.new_gate
   can = can-append-gate _ _ passes
 
 -- where the counts were read
@@ -53,7 +53,7 @@ appended c =
     rw (add-one c.args.plan.gate_count)
     (edit_done (with_gate_at _ _ _ c.args.plan) _ _ _ (passes c.before.before.before.before.before.before.before.before) (counted-places c.before.before.before.before)
     (c.count_operands.ensures ∙ ap (with_operands _) c.clear_uses.ensures
-    ∙ gate-appended _ (has-places _ c.good.0) a.accepted a.room _ a.gate))
+    ∙ gate-appended _ (has-places _ c.well_formed.0) a.accepted a.room _ a.gate))
 
 pub append_gate_spec : {M : Type 1} → statement M
 append_gate_spec =

@@ -16,14 +16,14 @@ abbrev start : tie.In-Done → tie.Start
 start c = c.before.before
 
 module _ (c : tie.In-Done) where
-  passes : let a = c.args in 0 ≡ replace_gate_fault a.plan a.gate a.new-gate
+  passes : let a = c.args in 0 ≡ replace_gate_fault a.plan a.gate a.new_gate
   passes = answer-passes c.in-Done.is c.check_replace_gate.ensures
 
-  can : let a = c.args in CanReplaceGate a.plan a.gate a.new-gate
+  can : let a = c.args in CanReplaceGate a.plan a.gate a.new_gate
   can = can_replace_gate _ _ _ passes
 
   places : HasPlaces c.args.plan
-  places = has-places _ c.well-formed.0
+  places = has-places _ c.well_formed.0
 
 for_drop : tie.Need-drop_operands-requires
 for_drop c κs =

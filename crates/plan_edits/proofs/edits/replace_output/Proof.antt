@@ -24,7 +24,7 @@ module _ (c : tie.In-Done) where
   can = can_replace_output _ _ _ passes
 
   places : HasPlaces c.args.plan
-  places = has-places _ c.well-formed.0
+  places = has-places _ c.well_formed.0
 
 for_drop : tie.Need-drop_use-requires
 for_drop c κs = (output-drops _ (places c.before.before) (can c.before.before).accepted _ (can c.before.before).low).asked
