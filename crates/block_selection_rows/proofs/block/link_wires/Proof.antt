@@ -8,22 +8,17 @@ use Rattle.block_selection_rows.proofs.ChainLaws.{wires-linked}
 use Rattle.block_selection_rows.proofs.block.link_wires.Statement.{statement}
 use Rattle.block_selection_rows.proofs.block.link_wires.Tie as tie
 
-same : tie.Need-same-length
+same : tie.Need-shape_of-from
 same c =
-    let put = c.before.before in
-    let a = put.before.before.before.before.before.args in
-    length_with 1 (set a.from.now 0 (get_or a.to.now 0 0)) put.put-wires.new.0 put.put-wires.auto.0 ∙ simp length-set
+    let a = c.args in
+    length_with 1 (set a.from.now 0 (get_or a.to.now 0 0)) c.put_wires.new.wires c.put_wires.auto.wires ∙ simp length-set
 
 linked : tie.Need-returns
 linked c =
-    let put = c.before.before in
-    let start = put.before.before.before.before.before in
-    let a = start.args in
-    wires-linked a.size a.next.0 a.to.now a.from.now _ start.requires put.put-wires.ensures
+    let a = c.args in
+    wires-linked a.size a.next.0 a.to.now a.from.now _ c.requires c.put_wires.ensures
 
 pub link_wires_spec : {M : Type 1} → statement M
 link_wires_spec =
     tie.close
-    (tie.spec
-    (λ c. search rules) (λ c. search rules) (λ c. simp length-set (omega arith)) (λ c. simp length-set (omega arith)) (λ c. search rules)
-    (λ c. search rules) (λ c κs. search rules) same linked)
+    (tie.spec (λ c. search rules) (λ c. search rules) (λ c. simp length-set (omega arith)) (λ c. simp length-set (omega arith)) (λ c. search rules) (λ c. search rules) (λ c κs. search rules) same linked)

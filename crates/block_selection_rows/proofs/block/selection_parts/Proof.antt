@@ -10,23 +10,20 @@ use Rattle.block_selection_rows.proofs.block.selection_parts.Statement.{statemen
 use Rattle.block_selection_rows.proofs.block.selection_parts.Tie as tie
 
 -- P has few rows
-few : (c : tie.After-permutation-count) → c.permutation-count.result ≤ max_level * max_size
+few : (c : tie.After-permutation_count-count) → c.permutation_count-count.result ≤ max_level * max_size
 few c =
-    let start = c.before in
-    omega (arith, c.permutation-count.ensures, few-rows (level_of start.args.size) start.requires.size.level)
+    omega (arith, c.permutation_count-count.ensures, few-rows (level_of c.args.size) c.requires.size.level)
 
 parts : tie.Need-returns
 unfolding whole_count whole_wires
 parts c =
-    let counted = c.before.before.before.before in
-    let start = counted.before in
-    let count = counted.permutation-count.result in
-    let next = start.args.next.0 in
-    let size = start.requires.size.power in
-    let e = counted.permutation-count.ensures in
+    let count = c.permutation_count-count.result in
+    let next = c.args.next.0 in
+    let size = c.requires.size.power in
+    let e = c.permutation_count-count.ensures in
     let small : next < 2 ^ 32 = omega arith in
-    let chain = wire_later start.requires small (2 * count) (omega (arith, e)) in
-    let second = wire_later start.requires small (2 * count + (start.args.size - 1)) (omega (arith, e, size)) in
+    let chain = wire_later c.requires small (2 * count) (omega (arith, e)) in
+    let second = wire_later c.requires small (2 * count + (c.args.size - 1)) (omega (arith, e, size)) in
     record {
       chain_at = omega arith;
       second_at = omega arith;
@@ -38,8 +35,4 @@ parts c =
 pub selection_parts_spec : {M : Type 1} → statement M
 selection_parts_spec =
     tie.close
-    (tie.spec
-    (λ c κs. search rules) (λ c. let f = few c in omega arith) (λ c. search rules) (λ c κs. search rules)
-    (λ c. let f = few c.before in omega arith) (λ c κs. search rules) (λ c. let f = few c.before.before in omega arith) (λ c κs. search rules)
-    (λ c. let f = few c.before.before.before in omega arith) (λ c. let f = few c.before.before.before in omega arith) (λ c κs. search rules)
-    parts)
+    (tie.spec (λ c κs. search rules) (λ c. let f = few c in omega arith) (λ c. search rules) (λ c κs. search rules) (λ c. let f = few c.before in omega arith) (λ c κs. search rules) (λ c. let f = few c.before.before in omega arith) (λ c κs. search rules) (λ c. let f = few c.before.before.before in omega arith) (λ c. let f = few c.before.before.before in omega arith) (λ c κs. search rules) parts)

@@ -6,16 +6,11 @@ use Rattle.block_selection_rows.proofs.block.write_chain.Tie as tie
 
 written : tie.Need-returns
 written c =
-    let put = c.before.before in
-    let linked = put.before.before.before.before.before.before in
-    let start = linked.before.before.before.before.before in
-    let a = start.args in
-    let e = linked.link-wires.ensures in
-    (rows-linked a.size a.next.0 a.to.now a.from.now _ a.rows.now _ start.requires e put.put-pairs.ensures, e)
+    let a = c.args in
+    let e = c.link_wires.ensures in
+    (rows-linked a.size a.next.0 a.to.now a.from.now _ a.rows.now _ c.requires e c.put_pairs.ensures, e)
 
 pub write_chain_spec : {M : Type 1} → statement M
 write_chain_spec =
     tie.close
-    (tie.spec
-    (λ c κs. search rules) (λ c. search rules) (λ c. search rules) (λ c. search rules) (λ c. search rules) (λ c κs. search rules)
-    (λ c. search rules) (λ c. search rules) written)
+    (tie.spec (λ c κs. search rules) (λ c. search rules) (λ c. search rules) (λ c. search rules) (λ c. search rules) (λ c κs. search rules) (λ c. search rules) (λ c. search rules) written)

@@ -7,11 +7,8 @@ use Rattle.block_selection_rows.proofs.block.write_network.Tie as tie
 
 written : tie.Need-returns
 written c =
-    let done = c.before.before.before.before in
-    let lent = done.before.before.before in
-    let start = lent.before.before.before.before in
-    let none = write_done _ _ _ _ _ start.requires in
-    (filled-over _ _ _ _ done.write-permutation.ensures.1.0 none, filled-over _ _ _ _ done.write-permutation.ensures.1.1 none)
+    let none = write_done _ _ _ _ _ c.requires in
+    (filled-over _ _ _ _ c.write_permutation.ensures.1.0 none, filled-over _ _ _ _ c.write_permutation.ensures.1.1 none)
 
 pub write_network_spec : {M : Type 1} → statement M
 write_network_spec =

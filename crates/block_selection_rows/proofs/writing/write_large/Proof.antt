@@ -6,11 +6,10 @@ use Rattle.block_sizes.proofs.SizesLaws.{power_small, selection-level-small}
 use Rattle.block_selection_rows.proofs.writing.write_large.Statement.{statement}
 use Rattle.block_selection_rows.proofs.writing.write_large.Tie as tie
 
-for_lists : tie.Need-write-in-lists-requires
+for_lists : tie.Need-write_in_lists-requires
 for_lists c κs =
-    let s = c.before.before.before.before.before.before.before in
-    let most = power_small (selection_level s.args.m s.args.n) (selection-level-small s.requires.sizes) in
-    (s.requires, record { cleared = refl; from_room = most; to_room = most })
+    let most = power_small (selection_level c.args.m c.args.n) (selection-level-small c.requires.sizes) in
+    (c.requires, record { cleared = refl; from_room = most; to_room = most })
 
 pub write_large_spec : {M : Type 1} → statement M
 write_large_spec =

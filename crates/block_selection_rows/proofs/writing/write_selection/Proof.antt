@@ -7,23 +7,19 @@ use Rattle.block_write_checks.proofs.WriteChecksLaws.{selection_write_passes}
 use Rattle.block_selection_rows.proofs.writing.write_selection.Statement.{statement}
 use Rattle.block_selection_rows.proofs.writing.write_selection.Tie as tie
 
-passes : tie.Need-write-checked-selection-requires
+passes : tie.Need-write_checked_selection-requires
 passes c κs =
-    let told = c.before.before in
-    selection_write_passes _ _ _ _ _ _ (sym (answer-passes told.enum_told.given.1 told.before.before.check-selection-write.ensures))
+    selection_write_passes _ _ _ _ _ _ (sym (answer-passes c.in-Done.is c.check_selection_write.ensures))
 
-refused : tie.Need-returns
-refused c = refuses-both _ _ _ _ c.before.before.before.check-selection-write.ensures c.before.f.given.1
+refused : tie.Need-returns-in-Refused
+refused c = refuses-both _ _ _ _ c.check_selection_write.ensures c.in-Refused.is
 
-done : tie.Need-returns-2
+done : tie.Need-returns-in-Done
 done c =
-    let put = c.before.before.before.before in
-    let told = put.before.before.before in
-    fills_both _ _ _ _ told.before.before.check-selection-write.ensures told.enum_told.given.1
-    put.write-checked-selection.ensures.0 put.write-checked-selection.ensures.1
+    fills_both _ _ _ _ c.check_selection_write.ensures c.in-Done.is
+    c.write_checked_selection.ensures.0 c.write_checked_selection.ensures.1
 
 pub write_selection_spec : {M : Type 1} → statement M
 write_selection_spec =
     tie.close
-    (tie.spec
-    (λ c κs. search rules) (λ c. search rules) (λ c. search rules) passes refused (λ c. search rules) (λ c. search rules) done)
+    (tie.spec (λ c κs. search rules) (λ c. search rules) (λ c. search rules) passes refused (λ c. search rules) (λ c. search rules) done)
