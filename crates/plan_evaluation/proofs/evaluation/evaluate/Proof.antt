@@ -22,7 +22,7 @@ module _ (c : tie.After-none-1) where
   told = c.before.before
 
   abbrev begun : tie.Start
-  begun = start told.before.before
+  begun = start told.before
 
   single : PlanSeriesSingle begun.args.plan begun.args.row.now begun.args.res.now []
   single = plan-series-single begun.args.plan begun.args.row.now begun.args.res.now []
@@ -30,7 +30,7 @@ module _ (c : tie.After-none-1) where
 for_interval : tie.Need-evaluate_intervals-requires
 for_interval c κs =
     let t = told c in
-    let z = answer-passes t.in-Done.is t.before.before.check_evaluation.ensures in
+    let z = answer-passes t.in-Done.is t.check_evaluation.ensures in
     let passes = (and_then-zero (plan_fault (begun c).args.plan) _).0 ((single c).answered ∙ sym z) in
     (passes.0, (series-faultless _ _ _ _ _ _ _ _).0 passes.1)
 
@@ -43,7 +43,7 @@ done : tie.Need-returns-in-Done
 done c =
     let t = told c.before.before.before.before in
     let is = single c.before.before.before.before in
-    let z = answer-passes t.in-Done.is t.before.before.check_evaluation.ensures in
+    let z = answer-passes t.in-Done.is t.check_evaluation.ensures in
     (z, is-filled _ _ _ _ c.evaluate_intervals.ensures.0 (z ∙ sym is.answered) ∙ is.written)
 
 pub evaluate_spec : {M : Type 1} → statement M

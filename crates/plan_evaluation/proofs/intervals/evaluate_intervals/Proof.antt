@@ -81,6 +81,14 @@ holds c = (
 
 -- ---- an interval
 
+-- few entries are counted
+module _ (c : tie.At-loop-t invariant_loop2 decreases_loop2 invariant_loop3 decreases_loop3 invariant_loop decreases_loop) where
+  few-entries : {e : ℕ} → e < word_numbers → c.loop-t.t * e ≤ max_intervals * word_numbers
+  few-entries l = let w = c.requires.1.hold.intervals in let m = c.loop-t.invariant.0 in entries-few (omega arith) l
+
+  small-counts : CountsWithin c.args.plan.inputs c.args.plan.gate_count c.args.plan.output_count
+  small-counts = accepted-counts c.args.plan c.requires.0
+
 module _ (c : tie.In-loop-t invariant_loop2 decreases_loop2 invariant_loop3 decreases_loop3 invariant_loop decreases_loop) where
   abbrev p : Plan
   p = c.args.plan
@@ -116,18 +124,17 @@ module _ (c : tie.In-loop-t invariant_loop2 decreases_loop2 invariant_loop3 decr
   evaluable : Evaluable p row
   evaluable = subst (Evaluable p) (sym row_is) (interval_evaluable p c.requires.1 c.requires.0 t c.loop-t-test.true)
 
-  -- few entries are counted
   few : {e : ℕ} → e < word_numbers → t * e ≤ max_intervals * word_numbers
-  few l = let w = c.requires.1.hold.intervals in let m = c.loop-t.invariant.0 in entries-few (omega arith) l
+  few l = few-entries c.before l
 
   small : CountsWithin p.inputs p.gate_count v
-  small = accepted-counts p c.requires.0
+  small = small-counts c.before
 
   room : t * v + v ≤ length c.loop-t.results
   room = omega (arith, c.requires.1.rows_room, c.loop-t.invariant.1, row_ends t c.args.intervals v c.loop-t-test.true)
 
 row-place : tie.Need-overflow_mul-t invariant_loop2 decreases_loop2 invariant_loop3 decreases_loop3 invariant_loop decreases_loop
-row-place c = Fits-below {n = max_intervals * word_numbers} tt (few c (omega (arith, small c)))
+row-place c = Fits-below {n = max_intervals * word_numbers} tt (few-entries c.before (omega (arith, small-counts c.before)))
 
 -- ---- the wires
 
