@@ -187,7 +187,7 @@ def of_cycle(text, names, crate):
     return text
 
 
-def convert(text, entry, asked, where):
+def convert(text, entry, asked, places_of, where):
     fields, arms = steps_of(entry)
     places = {norm(old[0]): new for old, new in zip(entry["places"], entry["places_by_name"])}
     loops = {norm(pair[0]): pair[1] for pair, _ in entry["loops"]}
@@ -250,10 +250,10 @@ def convert(text, entry, asked, where):
     text = re.sub(rf"tie\.({WORD})", of_tie, text)
     for a, new in need_names.items():
         text = re.sub(rf"(?m)^( *){re.escape(a)} : tie\.Need-{WORD}", rf"\1{a} : tie.Need-{new}", text)
-    return reached(named(text, entry, fields, arms, set(loops.values())), entry)
+    return reached(named(text, entry, fields, arms, set(loops.values())), entry, asked, places_of)
 
 
-def reached(text, entry):
+def reached(text, entry, order, places_of):
     """Reads each step straight off the place at hand, and counts anew the way back to the place that a helper takes: today's code can have a step more or less."""
     parent, new_of, base = {}, dict(zip([p[0] for p in entry["places"]], entry["places_by_name"])), {}
     for (old, up, *_), new, arm in zip(entry["places"], entry["places_by_name"], entry["arms"]):
@@ -261,7 +261,7 @@ def reached(text, entry):
         if arm:
             base.setdefault(arm[0], new_of.get(up))
             parent[new] = base[arm[0]]
-    asked = {b: at[1] for (a, b), at in zip(entry["needs"], entry["asked_at"])}
+    asked = {**{b: at[1] for (a, b), at in zip(entry["needs"], entry["asked_at"])}, **places_of}
 
     def way(low, high):
         n = 0
@@ -373,7 +373,16 @@ def reached(text, entry):
             i = j
             continue
         i += 1
-    return "\n".join(out)
+    text = "\n".join(out)
+    # the answers that stand in the list itself
+    head, _, tail = text.rpartition("tie.spec")
+    args = split_args(tail)
+    skip = len(args) - len(order)
+    for need, arg in zip(order, args[skip:] if skip >= 0 else ()):
+        m = re.match(rf"\(λ ({WORD})(?: κs)?\. ", arg)
+        if m and "search rules" not in arg:
+            tail = tail.replace(arg, arg[:m.end()] + body(arg[m.end():], m[1], asked.get(need)), 1)
+    return head + "tie.spec" + tail
 
 
 def main():
@@ -395,7 +404,9 @@ def main():
             continue
         tie = os.path.join(sys.argv[1], f"Rattle-{crate}-proofs", folder, "Tie.antt")
         asked = re.search(r"(?s)  pub spec :\n(.*?)  spec =", open(tie, encoding="utf-8").read())
-        new = convert(text, names[key], re.findall(rf"Need-({WORD})", asked[1]) if asked else [b for a, b in names[key]["needs"]], folder)
+        lts = open(os.path.join(os.path.dirname(tie), "Lts.antt"), encoding="utf-8").read()
+        places_of = dict(re.findall(rf"abbrev pub Need-({WORD}) :[^=]*=\s*\(c : ({WORD})\)", lts))
+        new = convert(text, names[key], re.findall(rf"Need-({WORD})", asked[1]) if asked else [b for a, b in names[key]["needs"]], places_of, folder)
         if new != text:
             open(f, "w", encoding="utf-8").write(new)
 

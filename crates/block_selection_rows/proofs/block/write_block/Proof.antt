@@ -83,4 +83,4 @@ written c =
 pub write_block_spec : {M : Type 1} → statement M
 write_block_spec =
     tie.close
-    (tie.spec (λ c κs. c.before.before.before.requires.made) first_fits (λ c. (first-places c.before.before.before.before).chain_fits) (λ c. (first-places c.before.before.before.before).chain) (λ c. (first-places c.before.before.before.before).chain) (λ c. le_refl _) chain_fits_lem (λ c. (second-places c.before.before.before.before).second_fits) (λ c. (second-places c.before.before.before.before).second) (λ c. (second-places c.before.before.before.before).second) (λ c. le_refl _) second_fits_lem same_rows (λ c. (chained c.before.before.before.before).write_chain.auto.from) same-to written)
+    (tie.spec (λ c κs. c.requires.made) first_fits (λ c. (first-places c.before.before.before.before.before).chain_fits) (λ c. (first-places c.before.before.before.before.before).chain) (λ c. (first-places c.before.before.before.before.before).chain) (λ c. le_refl _) chain_fits_lem (λ c. (second-places c.before.before.before.before.before).second_fits) (λ c. (second-places c.before.before.before.before.before).second) (λ c. (second-places c.before.before.before.before.before).second) (λ c. le_refl _) second_fits_lem same_rows (λ c. c.write_chain.auto.from) same-to written)
