@@ -175,6 +175,7 @@ module _ (d : Plan) (orderable : Orderable d) where
       Same w = other w ≡ drawn_bit w
 
       same-input : (w : ℕ) → 1 ≤ w → w ≤ u → Same w
+      same-input zero l h = absurd (omega arith)
       same-input (suc i) l h = F.inputs i h ∙ sym (fit.inputs i h)
 
       -- where the gates at the first n places have the same bits, so has what they supply

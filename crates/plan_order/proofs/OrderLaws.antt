@@ -26,7 +26,8 @@ has_more (x ∷ xs) y g = elim (passed (eqb x g)) [ inl t ↦ rw t | inr f ↦ r
 -- an entry stands among those up to it
 has-at : (L : List ℕ) (p q : ℕ) → p < q → q ≤ length L → has (take q L) (get_or L p 0) ≡ true
 unfolding has
-has-at [] p (suc q) l m = absurd (omega arith)
+has-at [] p q l m = absurd (omega arith)
+has-at (x ∷ xs) p zero l m = absurd (omega arith)
 has-at (x ∷ xs) zero (suc q) l m = rw (eq-eqb x x refl)
 has-at (x ∷ xs) (suc p) (suc q) l m = elim (passed (eqb x (get_or xs p 0))) [
   | inl t ↦ rw t
