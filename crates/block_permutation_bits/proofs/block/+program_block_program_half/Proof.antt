@@ -139,31 +139,31 @@ module _ (t : ℕ) where
   -- the places of a block: where it has halves, its rows are counted, its level is stored, the level's buffers are back, its upper half is, its buffers are
   -- back, its lower half is, all; and the way back from each
   abbrev Halved : Type 0
-  Halved = program-block-lts.Then1 (block-calls t) (block_at t) program-block.Post
+  Halved = program-block-lts.Then-level-gt2 (block-calls t) (block_at t) program-block.Post
 
   abbrev Started : Type 0
   Started = program-block-lts.Start (block-calls t) (block_at t) program-block.Post
 
   abbrev Counted : Type 0
-  Counted = program-block-lts.After-permutation-count (block-calls t) (block_at t) program-block.Post
+  Counted = program-block-lts.After-permutation_count-part (block-calls t) (block_at t) program-block.Post
 
   abbrev Levelled : Type 0
-  Levelled = program-block-lts.After-program-level (block-calls t) (block_at t) program-block.Post
+  Levelled = program-block-lts.After-program_level (block-calls t) (block_at t) program-block.Post
 
   abbrev LevelBack : Type 0
-  LevelBack = program-block-lts.After-slice-known7 (block-calls t) (block_at t) program-block.Post
+  LevelBack = program-block-lts.After-slice_known-then-level-gt2-3-1 (block-calls t) (block_at t) program-block.Post
 
   abbrev Upper : Type 0
-  Upper = program-block-lts.After-program-half (block-calls t) (block_at t) program-block.Post
+  Upper = program-block-lts.After-program_half (block-calls t) (block_at t) program-block.Post
 
   abbrev UpperBack : Type 0
-  UpperBack = program-block-lts.After-slice-known11 (block-calls t) (block_at t) program-block.Post
+  UpperBack = program-block-lts.After-slice_known-then-level-gt2-7-1 (block-calls t) (block_at t) program-block.Post
 
   abbrev Lower : Type 0
-  Lower = program-block-lts.After-program-half2 (block-calls t) (block_at t) program-block.Post
+  Lower = program-block-lts.After-program_half-then-level-gt2 (block-calls t) (block_at t) program-block.Post
 
   abbrev Done : Type 0
-  Done = program-block-lts.After-slice-known15 (block-calls t) (block_at t) program-block.Post
+  Done = program-block-lts.After-slice_known-then-level-gt2-11-1 (block-calls t) (block_at t) program-block.Post
 
   abbrev start : Halved → Started
   start c = c.before.before.before.before.before
@@ -172,7 +172,7 @@ module _ (t : ℕ) where
   halved c = c.before
 
   abbrev counted : Levelled → Counted
-  counted c = c.before.before.before.before.before
+  counted c = c.before.before.before.before
 
   abbrev levelled : LevelBack → Levelled
   levelled c = c.before.before.before.before.before.before
@@ -180,7 +180,7 @@ module _ (t : ℕ) where
   abbrev before-upper : Upper → LevelBack
   before-upper c = c.before.before.before.before.before
 
-  abbrev back-program : UpperBack → program-block-lts.After-slice-known10 (block-calls t) (block_at t) program-block.Post
+  abbrev back-program : UpperBack → program-block-lts.After-slice_known-then-level-gt2-6-1 (block-calls t) (block_at t) program-block.Post
   back-program c = c.before.before
 
   abbrev upper : UpperBack → Upper
@@ -189,7 +189,7 @@ module _ (t : ℕ) where
   abbrev before-lower : Lower → UpperBack
   before-lower c = c.before.before.before.before.before
 
-  abbrev kept-program : Done → program-block-lts.After-slice-known14 (block-calls t) (block_at t) program-block.Post
+  abbrev kept-program : Done → program-block-lts.After-slice_known-then-level-gt2-10-1 (block-calls t) (block_at t) program-block.Post
   kept-program c = c.before.before
 
   abbrev lower : Done → Lower
@@ -197,111 +197,109 @@ module _ (t : ℕ) where
 
   -- a block above P(4)
   sized : (c : Halved) → Halving (start c).args.level (length (start c).args.perm.now)
-  sized c = halving (start c).args.level (start c).requires.1.1.0 (some_below c.if1.true)
+  sized c = halving (start c).args.level (start c).requires.1.1.0 (some_below c.if-level-gt2.true)
 
   -- the scratch has the size of the block once the level is stored
-  scratch_size_lem : (c : Levelled) → length c.program-level.new.1.0 ≡ length (start (halved (counted c))).args.perm.now
-  scratch_size_lem c = c.program-level.auto.1.0 ∙ (start (halved (counted c))).pre.1.1.0.scratch_size
+  scratch_size_lem : (c : Levelled) → length c.program_level.new.scratch ≡ length (start (halved (counted c))).args.perm.now
+  scratch_size_lem c = c.program_level.auto.scratch ∙ (start (halved (counted c))).requires.1.1.0.scratch_size
 
-  mark_size : (c : Levelled) → length c.program-level.new.1.1.0 ≡ length (start (halved (counted c))).args.perm.now
-  mark_size c = c.program-level.auto.1.1.0 ∙ (start (halved (counted c))).pre.1.1.0.marks_size
+  mark_size : (c : Levelled) → length c.program_level.new.mark ≡ length (start (halved (counted c))).args.perm.now
+  mark_size c = c.program_level.auto.mark ∙ (start (halved (counted c))).requires.1.1.0.marks_size
 
-  half-fits : program-block-lts.Need-overflow-cast-permutation-count (block-calls t) (block_at t) program-block.Post
+  half-fits : program-block-lts.Need-overflow_cast-half (block-calls t) (block_at t) program-block.Post
   half-fits c = few_halves (sized c)
 
   -- the rows of a half
-  rows : (c : Counted) → c.permutation-count.result ≡ permutation_count ((start (halved c)).args.level - 1)
-  rows c = (count_at (sized (halved c)).half (few_levels (sized (halved c))) c.permutation-count.ensures).count-is
+  rows : (c : Counted) → c.permutation_count-part.result ≡ permutation_count ((start (halved c)).args.level - 1)
+  rows c = (count_at (sized (halved c)).half (few_levels (sized (halved c))) c.permutation_count-part.ensures).count-is
 
-  upper-place : program-block-lts.Need-overflow-add-upper (block-calls t) (block_at t) program-block.Post
-  upper-place c = upper-place-fits (sized (halved c)) (start (halved c)).args.start (start (halved c)).pre.1.1.1
+  upper-place : program-block-lts.Need-overflow_add-upper (block-calls t) (block_at t) program-block.Post
+  upper-place c = upper-place-fits (sized (halved c)) (start (halved c)).args.start (start (halved c)).requires.1.1.1
 
-  for_level : program-block-lts.Need-program-level-requires (block-calls t) (block_at t) program-block.Post
+  for_level : program-block-lts.Need-program_level-requires (block-calls t) (block_at t) program-block.Post
   for_level c κs =
-      let n = c.before.before.before.before in
+      let n = c.before.before.before in
       let s = start (halved n) in (
-        s.pre.1.0,
+        s.requires.1.0,
         (
-          level_buffers s.args.level s.pre.1.1.0 (some_below (halved n).if1.true),
-          level-bits-fit (sized (halved n)) s.args.start s.pre.1.1.1 n.permutation-count.result (rows n),
+          level_buffers s.args.level s.requires.1.1.0 (some_below (halved n).if-level-gt2.true),
+          level-bits-fit (sized (halved n)) s.args.start s.requires.1.1.1 n.permutation_count-part.result (rows n),
         ),
       )
 
-  for_upper : program-block-lts.Need-program-half-requires (block-calls t) (block_at t) program-block.Post
+  for_upper : program-block-lts.Need-program_half-requires (block-calls t) (block_at t) program-block.Post
   for_upper c κs =
       let v = levelled c.before.before.before.before in
       let h = halved (counted v) in
       let s = start h in
-      let l = some_below h.if1.taken in
-      let room = s.pre.1.1.0 in (
-        half_falls l s.pre.0,
+      let l = some_below h.if-level-gt2.true in
+      let room = s.requires.1.1.0 in (
+        half_falls l s.requires.0,
         (
-          upper-perm {level = s.args.level} s.pre.1.0 room l v.program-level.ensures (scratch_size_lem v),
-          (half_buffers s.args.level 0 room l (upper-within (sized h)) (scratch_size_lem v) refl (mark_size v), upper-bits-fit (sized h) s.args.start s.pre.1.1.1),
+          upper-perm {level = s.args.level} s.requires.1.0 room l v.program_level.ensures (scratch_size_lem v),
+          (half_buffers s.args.level 0 room l (upper-within (sized h)) (scratch_size_lem v) refl (mark_size v), upper-bits-fit (sized h) s.args.start s.requires.1.1.1),
         ),
       )
 
-  lower-fits : program-block-lts.Need-overflow-add-program-half (block-calls t) (block_at t) program-block.Post
+  lower-fits : program-block-lts.Need-overflow_add-upper-then-level-gt2 (block-calls t) (block_at t) program-block.Post
   lower-fits c =
       let n = counted (levelled (before-upper (upper c.before.before.before.before))) in
       let s = start (halved n) in
-      lower-place-fits (sized (halved n)) s.args.start s.pre.1.1.1 n.permutation-count.result (rows n)
+      lower-place-fits (sized (halved n)) s.args.start s.requires.1.1.1 n.permutation_count-part.result (rows n)
 
-  for_lower : program-block-lts.Need-program-half-requires-2 (block-calls t) (block_at t) program-block.Post
+  for_lower : program-block-lts.Need-program_half-requires-then-level-gt2 (block-calls t) (block_at t) program-block.Post
   for_lower c κs =
       let u = upper c.before.before.before.before in
       let v = levelled (before-upper u) in
       let h = halved (counted v) in
       let s = start h in
-      let l = some_below h.if1.taken in
-      let room = s.pre.1.1.0 in
-      let half = u.program-half in (
-        half_falls l s.pre.0,
+      let l = some_below h.if-level-gt2.true in
+      let room = s.requires.1.1.0 in
+      let half = u.program_half in (
+        half_falls l s.requires.0,
         (
-          lower-perm {level = s.args.level} s.pre.1.0 room l v.program-level.ensures (scratch_size_lem v)
-              half.last.0 half.kept.0 half.ensures.1,
+          lower-perm {level = s.args.level} s.requires.1.0 room l v.program_level.ensures (scratch_size_lem v)
+              half.new.perm half.auto.perm half.ensures.1,
           (
-            half_buffers s.args.level _ room l (lower-within (sized h)) (half.kept.0 ∙ scratch_size_lem v) half.kept.1.0 (half.kept.1.1.0 ∙ mark_size v),
-            lower-bits-fit (sized h) s.args.start s.pre.1.1.1 (counted v).permutation-count.result (rows (counted v)),
+            half_buffers s.args.level _ room l (lower-within (sized h)) (half.auto.perm ∙ scratch_size_lem v) half.auto.scratch (half.auto.mark ∙ mark_size v),
+            lower-bits-fit (sized h) s.args.start s.requires.1.1.1 (counted v).permutation_count-part.result (rows (counted v)),
           ),
         ),
       )
 
   -- no call changes a length
-  same_perm : program-block-lts.Need-same-length (block-calls t) (block_at t) program-block.Post
-  same_perm c = let w = lower c in w.program-half2.kept.1.0 ∙ (upper (before-lower w)).program-half.kept.1.0
+  same_perm : program-block-lts.Need-shape_of-perm-then-level-gt2 (block-calls t) (block_at t) program-block.Post
+  same_perm c = let w = lower c in w.program_half-then-level-gt2.auto.scratch ∙ (upper (before-lower w)).program_half.auto.scratch
 
-  same_scratch : program-block-lts.Need-same-length-2 (block-calls t) (block_at t) program-block.Post
-  same_scratch c = let w = lower c in w.program-half2.kept.0 ∙ (upper (before-lower w)).program-half.kept.0 ∙ (levelled (before-upper (upper (before-lower w)))).program-level.kept.1.0
+  same_scratch : program-block-lts.Need-shape_of-scratch (block-calls t) (block_at t) program-block.Post
+  same_scratch c = let w = lower c in w.program_half-then-level-gt2.auto.perm ∙ (upper (before-lower w)).program_half.auto.perm ∙ (levelled (before-upper (upper (before-lower w)))).program_level.auto.scratch
 
-  same-marks : program-block-lts.Need-same-length-3 (block-calls t) (block_at t) program-block.Post
-  same-marks c = let w = lower c in w.program-half2.kept.1.1.0 ∙ (upper (before-lower w)).program-half.kept.1.1.0 ∙ (levelled (before-upper (upper (before-lower w)))).program-level.kept.1.1.0
+  same-marks : program-block-lts.Need-shape_of-mark (block-calls t) (block_at t) program-block.Post
+  same-marks c = let w = lower c in w.program_half-then-level-gt2.auto.mark ∙ (upper (before-lower w)).program_half.auto.mark ∙ (levelled (before-upper (upper (before-lower w)))).program_level.auto.mark
 
-  same-program : program-block-lts.Need-same-length-4 (block-calls t) (block_at t) program-block.Post
+  same-program : program-block-lts.Need-shape_of-program-then-level-gt2 (block-calls t) (block_at t) program-block.Post
   same-program c =
       let w = lower c in
-      w.program-half2.kept.1.1.1.0 ∙ (upper (before-lower w)).program-half.kept.1.1.1.0 ∙ (levelled (before-upper (upper (before-lower w)))).program-level.kept.1.1.1.0
+      w.program_half-then-level-gt2.auto.program ∙ (upper (before-lower w)).program_half.auto.program ∙ (levelled (before-upper (upper (before-lower w)))).program_level.auto.program
 
-  stored : program-block-lts.Need-returns (block-calls t) (block_at t) program-block.Post
+  stored : program-block-lts.Need-returns-then-level-gt2 (block-calls t) (block_at t) program-block.Post
   stored c =
       let w = lower c in
       let u = upper (before-lower w) in
       let v = levelled (before-upper u) in
       let n = counted v in
       let s = start (halved n) in
-      let half = u.program-half in
-      let bytes : AreBytes s.args.program.now = record { each = λ i. ((halved n).before.slice-known4.given i).fits } in
-      block-stored {level = s.args.level} s.pre.1.0 s.pre.1.1.0 (some_below (halved n).if1.taken) v.program-level.ensures (scratch_size_lem v)
-      half.last.0 half.kept.0 half.ensures.1 bytes (rows n) half.ensures.0 w.program-half2.ensures.0
+      let half = u.program_half in
+      let bytes : AreBytes s.args.program.now = record { each = λ i. ((halved n).before.slice_known-4-1.given i).fits } in
+      block-stored {level = s.args.level} s.requires.1.0 s.requires.1.1.0 (some_below (halved n).if-level-gt2.true) v.program_level.ensures (scratch_size_lem v)
+      half.new.perm half.auto.perm half.ensures.1 bytes (rows n) half.ensures.0 w.program_half-then-level-gt2.ensures.0
 
-for_few : (t : ℕ) → program-block-lts.Need-program-few-requires (block-calls t) (block_at t) program-block.Post
+for_few : (t : ℕ) → program-block-lts.Need-program_few-requires (block-calls t) (block_at t) program-block.Post
 for_few t c κs =
-    let other = c.before.before in
-    let s = other.before.before.before.before.before in
-    (s.requires.1.0, s.requires.1.1.0.size, other.if1.false)
+    (c.requires.1.0, c.requires.1.1.0.size, c.if-level-gt2.false)
 
-few : (t : ℕ) → program-block-lts.Need-returns-2 (block-calls t) (block_at t) program-block.Post
-few t c = c.before.before.program-few.ensures
+few : (t : ℕ) → program-block-lts.Need-returns-else-level-gt2 (block-calls t) (block_at t) program-block.Post
+few t c = c.program_few.ensures
 
 module _ (t : ℕ) where
   -- the places of a half: what it is given, its block asked, the block done, all; and the way back from each
@@ -309,21 +307,21 @@ module _ (t : ℕ) where
   Given = program-half-lts.Start (half-calls t) (half_at t) program-half.Post
 
   abbrev Asked : Type 0
-  Asked = program-half-lts.After-program-block-arg4 (half-calls t) (half_at t) program-half.Post
+  Asked = program-half-lts.After-program_block-arg-then-level-gt2-3-1 (half-calls t) (half_at t) program-half.Post
 
   abbrev Blocked : Type 0
-  Blocked = program-half-lts.After-program-block (half-calls t) (half_at t) program-half.Post
+  Blocked = program-half-lts.After-program_block (half-calls t) (half_at t) program-half.Post
 
   abbrev HalfDone : Type 0
-  HalfDone = program-half-lts.After-slice-known8 (half-calls t) (half_at t) program-half.Post
+  HalfDone = program-half-lts.After-slice_known-then-level-gt2-4-1 (half-calls t) (half_at t) program-half.Post
 
-  abbrev known : Asked → program-half-lts.After-slice-known4 (half-calls t) (half_at t) program-half.Post
+  abbrev known : Asked → program-half-lts.After-slice_known-4-1 (half-calls t) (half_at t) program-half.Post
   known c = c.before.before.before.before.before
 
   abbrev given : Asked → Given
   given c = (known c).before.before.before.before
 
-  abbrev marks-back : HalfDone → program-half-lts.After-slice-known7 (half-calls t) (half_at t) program-half.Post
+  abbrev marks-back : HalfDone → program-half-lts.After-slice_known-then-level-gt2-3-1 (half-calls t) (half_at t) program-half.Post
   marks-back c = c.before.before
 
   abbrev blocked : HalfDone → Blocked
@@ -335,76 +333,73 @@ module _ (t : ℕ) where
   abbrev size : HalfDone → ℕ
   size c = (taken c).args.at + length (taken c).args.perm.now / 2 - (taken c).args.at
 
-  for_block : program-half-lts.Need-program-block-requires (half-calls t) (half_at t) program-half.Post
+  for_block : program-half-lts.Need-program_block-requires (half-calls t) (half_at t) program-half.Post
   for_block c κs =
       let s = given c in
       let a = s.args in (
-        block_falls a.level s.pre.0,
+        block_falls a.level s.requires.0,
         (
-          part_mapped a.at a.perm.now s.pre.1.0,
-          (part_room a.perm.now a.scratch.now a.mark.now s.pre.1.1.0 refl, s.pre.1.1.1),
+          part_mapped a.at a.perm.now s.requires.1.0,
+          (part_room a.perm.now a.scratch.now a.mark.now s.requires.1.1.0 refl, s.requires.1.1.1),
         ),
       )
 
   -- the parts come back, and no array's length changes
-  part-perm : program-half-lts.Need-same-length (half-calls t) (half_at t) program-half.Post
+  part-perm : program-half-lts.Need-shape_of-perm-then-level-gt2 (half-calls t) (half_at t) program-half.Post
   part-perm c =
-      let b = (blocked c).program-block in
-      same_len_mid (taken c).args.at (size c) (taken c).args.perm.now b.last.0 b.kept.0
+      let b = (blocked c).program_block in
+      same_len_mid (taken c).args.at (size c) (taken c).args.perm.now b.new.perm b.auto.perm
 
-  part_scratch : program-half-lts.Need-same-length-2 (half-calls t) (half_at t) program-half.Post
+  part_scratch : program-half-lts.Need-shape_of-scratch (half-calls t) (half_at t) program-half.Post
   part_scratch c =
-      let b = (blocked c).program-block in
-      same_len_mid (taken c).args.at (size c) (taken c).args.scratch.now b.last.1.0 b.kept.1.0
+      let b = (blocked c).program_block in
+      same_len_mid (taken c).args.at (size c) (taken c).args.scratch.now b.new.scratch b.auto.scratch
 
-  part-marks : program-half-lts.Need-same-length-3 (half-calls t) (half_at t) program-half.Post
+  part-marks : program-half-lts.Need-shape_of-mark (half-calls t) (half_at t) program-half.Post
   part-marks c =
-      let b = (blocked c).program-block in
-      same_len_mid (taken c).args.at (size c) (taken c).args.mark.now b.last.1.1.0 b.kept.1.1.0
+      let b = (blocked c).program_block in
+      same_len_mid (taken c).args.at (size c) (taken c).args.mark.now b.new.mark b.auto.mark
 
-  half-stored : program-half-lts.Need-returns (half-calls t) (half_at t) program-half.Post
+  half-stored : program-half-lts.Need-returns-then-level-gt2 (half-calls t) (half_at t) program-half.Post
   half-stored c =
       let s = taken c in
       let a = s.args in
       let end = a.at + length a.perm.now / 2 in
-      let b = (blocked c).program-block in (
+      let b = (blocked c).program_block in (
         part-stored a.level a.start a.at a.perm.now a.program.now b.ensures,
-        drop_put a.at end a.perm.now b.last.0 (le-add_right a.at (length a.perm.now / 2)) s.pre.1.1.0.within
-            (b.kept.0 ∙ mid_len a.at end a.perm.now s.pre.1.1.0.within),
+        drop_put a.at end a.perm.now b.new.perm (le-add_right a.at (length a.perm.now / 2)) s.requires.1.1.0.within
+            (b.auto.perm ∙ mid_len a.at end a.perm.now s.requires.1.1.0.within),
       )
 
   -- a half that is no larger than P(4)
-  for_few_part : program-half-lts.Need-program-few-requires (half-calls t) (half_at t) program-half.Post
+  for_few_part : program-half-lts.Need-program_few-requires (half-calls t) (half_at t) program-half.Post
   for_few_part c κs =
-      let other = c.before.before.before in
-      let s = other.before.before.before.before.before in
-      let a = s.args in (
-        part_mapped a.at a.perm.now s.requires.1.0,
-        (part_room a.perm.now a.scratch.now a.mark.now s.requires.1.1.0 refl).size,
-        other.if1.false,
+      let a = c.args in (
+        part_mapped a.at a.perm.now c.requires.1.0,
+        (part_room a.perm.now a.scratch.now a.mark.now c.requires.1.1.0 refl).size,
+        c.if-level-gt2.false,
       )
 
-  few-stored : program-half-lts.Need-returns-2 (half-calls t) (half_at t) program-half.Post
+  few-stored : program-half-lts.Need-returns-else-level-gt2 (half-calls t) (half_at t) program-half.Post
   few-stored c =
-      let few-done = c.before.before in
-      let a = few-done.before.before.before.before.before.before.before.before.before.args in
-      (part-stored a.level a.start a.at a.perm.now a.program.now few-done.program-few.ensures, refl)
+      let a = c.args in
+      (part-stored a.level a.start a.at a.perm.now a.program.now c.program_few.ensures, refl)
 
 pub +program_block_program_half_spec : {M : Type 1} → statement M
 +program_block_program_half_spec =
     close μ_program_block μ_program_half
     (λ t. program-block-lts.spec (block-calls t) (block_at t) program-block.Post
-    (λ c. some_below c.if1.true) (half-fits t) (λ c κs. tt) (upper-place t) (for_level t) (for_upper t) (lower-fits t) (for_lower t) (for_few t)
+    (λ c. some_below c.if-level-gt2.true) (half-fits t) (λ c κs. tt) (upper-place t) (for_level t) (for_upper t) (lower-fits t) (for_lower t) (for_few t)
     (same_perm t) (same_scratch t) (same-marks t) (same-program t)
-    (stored t) (λ c. refl) (λ c. c.before.before.program-few.auto.1.0) (few t))
+    (stored t) (λ c. refl) (λ c. c.program_few.auto.program) (few t))
     λ t. program-half-lts.spec (half-calls t) (half_at t) program-half.Post
-    (λ c. end_fits c.before.before.before.before.requires.1.1.0) (λ c. place-fits c.before.before.before.before.before.requires.1.1.0) (λ c. le-add_right _ _) (λ c. le-add_right _ _)
-    (λ c. c.before.before.before.before.before.requires.1.1.0.within)
-    (λ c. place-fits c.before.before.before.before.before.before.requires.1.1.0) (λ c. le-add_right _ _) (λ c. le-add_right _ _)
-    (λ c. in_scratch c.before.before.before.before.before.before.requires.1.1.0)
-    (λ c. le-add_right _ _) (λ c. le-add_right _ _) (λ c. in_marks c.before.before.before.before.before.before.before.requires.1.1.0)
+    (λ c. end_fits c.requires.1.1.0) (λ c. place-fits c.requires.1.1.0) (λ c. le-add_right _ _) (λ c. le-add_right _ _)
+    (λ c. c.requires.1.1.0.within)
+    (λ c. place-fits c.requires.1.1.0) (λ c. le-add_right _ _) (λ c. le-add_right _ _)
+    (λ c. in_scratch c.requires.1.1.0)
+    (λ c. le-add_right _ _) (λ c. le-add_right _ _) (λ c. in_marks c.requires.1.1.0)
     (for_block t)
-    (λ c. place-fits c.before.before.before.before.before.requires.1.1.0) (λ c. le-add_right _ _) (λ c. le-add_right _ _)
-    (λ c. c.before.before.before.before.before.before.requires.1.1.0.within) (for_few_part t)
+    (λ c. place-fits c.requires.1.1.0) (λ c. le-add_right _ _) (λ c. le-add_right _ _)
+    (λ c. c.requires.1.1.0.within) (for_few_part t)
     (part-perm t) (part_scratch t) (part-marks t)
-    (λ c. (blocked t c).program-block.auto.1.1.1.0) (half-stored t) (λ c. refl) (λ c. c.before.before.program-few.auto.1.0) (few-stored t)
+    (λ c. (blocked t c).program_block.auto.program) (half-stored t) (λ c. refl) (λ c. c.program_few.auto.program) (few-stored t)

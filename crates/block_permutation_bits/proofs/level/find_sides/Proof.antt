@@ -1,6 +1,6 @@
 -- `block_permutation_bits::level::find_sides` meets its contract: the marks cleared and the outputs that a walk comes to listed, then the sides by them.
 -- Assumes nothing.
-use mathlib.Core.Path.{◌≡◌, sym, subst, ◌∙◌}
+use mathlib.Core.Path.{sym, subst, ◌∙◌}
 use Prim.Native.Nat.{◌/◌}
 use native.Mathlib.Omega.{arith}
 use borrow.Author.Rules.{rules}

@@ -11,16 +11,6 @@ use Rattle.block_permutation_bits.proofs.ProgramLaws.{front-perm, front-stored}
 use Rattle.block_permutation_bits.proofs.programming.program_in_arrays.Statement.{statement}
 use Rattle.block_permutation_bits.proofs.programming.program_in_arrays.Tie as tie
 
--- the way back: from the level to the first bit's byte, to the loaded mapping, to the start
-abbrev placed : tie.After-level_of → tie.After-bit_byte-byte
-placed c = c.before.before.before.before.before.before
-
-abbrev loaded : tie.After-bit_byte-byte → tie.After-load_mapping
-loaded c = c.before.before.before
-
-abbrev start : tie.After-load_mapping → tie.Start
-start c = c.before.before.before.before.before.before.before
-
 for_mapping : tie.Need-load_mapping-requires
 for_mapping c κs =
     let W = c.requires.0.1 in
@@ -45,10 +35,10 @@ for_block c κs =
     let load = c.load_mapping in
     let size = c.requires.0.0 in
     let n = c.args.n in
-    let kept = load.kept.1.0 in
+    let kept = load.auto.perm in
     let e = c.level_of.ensures in
     let place = c.bit_place.ensures in
-    let lp = length-take-le n load.last.1.0 (omega arith) in (
+    let lp = length-take-le n load.new.perm (omega arith) in (
       front-perm c.args.perm.now c.requires.0.1 load.ensures,
       (
         record {

@@ -24,10 +24,6 @@ module _ (c : tie.In-Done) where
   passes : let a = c.args in ProgramPasses a.n a.wanted.now 0 (length a.program.now)
   passes = program-passes (sym none)
 
--- the way back from the cleared bytes to the checks
-abbrev checked : tie.After-fill_bytes → tie.In-Done
-checked c = c.before.before.before.before
-
 for_bits : tie.Need-program_wanted-requires
 for_bits c κs =
     let h = passes c.before.before.before.before.before.before.before in
@@ -35,10 +31,9 @@ for_bits c κs =
 
 refused : tie.Need-returns-in-Refused
 refused c =
-    let f = c.f-1.given in
     let a = c.args in
-    let e = answer-refuses f.1 c.check_permutation.ensures ∙ fault-at a.n a.wanted.now (length a.program.now) in
-    (e, filled-refused f.0.0 _ _ _ e)
+    let e = answer-refuses c.in-Refused.is c.check_permutation.ensures ∙ fault-at a.n a.wanted.now (length a.program.now) in
+    (e, filled-refused c.in-Refused.f _ _ _ e)
 
 done : tie.Need-returns-in-Done
 done c =

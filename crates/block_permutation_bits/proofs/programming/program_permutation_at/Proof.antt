@@ -19,9 +19,8 @@ for_bits c κs = let h = program-passes (sym (none c.before)) in ((h.size, h.wan
 
 refused : tie.Need-returns-in-Refused
 refused c =
-    let f = c.f-1.given in
-    let e = answer-refuses f.1 c.check_permutation.ensures in
-    (e, stored_refused f.0.0 _ _ _ _ e)
+    let e = answer-refuses c.in-Refused.is c.check_permutation.ensures in
+    (e, stored_refused c.in-Refused.f _ _ _ _ e)
 
 done : tie.Need-returns-in-Done
 done c =
