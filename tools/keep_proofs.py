@@ -100,8 +100,23 @@ def steps_of(entry):
     return fields, arms
 
 
+def laid_open(text):
+    """The text with each alias of a step written out where it hides what the step gave or left."""
+    out = []
+    for block in re.split(r"\n(?=[^\s)])", text):
+        for name, path in re.findall(rf"let ({WORD}) = ((?:{WORD}|\([^()]*\))(?:\.{WORD})+) in", block):
+            if path.endswith(".given"):
+                block = re.sub(rf"let {re.escape(name)} = {re.escape(path)} in\s*", "", block)
+                block = re.sub(rf"(?<![\w.'-]){re.escape(name)}\.(?=\d)", path + ".", block)
+            else:
+                block = re.sub(rf"(?<![\w.'-]){re.escape(name)}\.(?=(last|kept|known|given)\b)", path + ".", block)
+        out.append(block)
+    return "\n".join(out)
+
+
 def named(text, entry, fields, arms, loops):
     """The text with each path of steps in today's names."""
+    text = laid_open(text)
     # names that a let gives to the arguments
     given = set(re.findall(rf"let ({WORD}) = (?:(?! in )[^\n])*?\.(?:args|new) in", text))
 
