@@ -112,24 +112,24 @@ module _ (drawn : Bool) (h : Header) (s : List ℕ) (at : ℕ) where
   -- a gate is refused
   pub gates-refused : {m o : ℕ} → refused m o ≡ gate_steps drawn h.inputs h.gates h.gates s at → refused m o ≡ body_part drawn h s at
   unfolding body_part
-  gates-refused e = ap (followed _ s) e
+  gates-refused e = rw (← e) refl
 
   module _ {gs : List Gate} {at₁ : ℕ} (e₁ : got gs at₁ ≡ gate_steps drawn h.inputs h.gates h.gates s at) where
     -- an output is refused
     pub outputs-refused : {m o : ℕ} → refused m o ≡ output_steps h.inputs h.gates h.outputs s at₁ → refused m o ≡ body_part drawn h s at
     unfolding body_part
-    outputs-refused e = ap (followed _ s) e ∙ ap (followed _ s) e₁
+    outputs-refused e = rw (← e₁, ← e) refl
 
     module _ {os : List PlanWire} {at₂ : ℕ} (e₂ : got os at₂ ≡ output_steps h.inputs h.gates h.outputs s at₁) where
       -- bytes follow
       pub tail-refused : at₂ < length s → refuse Fault.Tail at₂ ≡ body_part drawn h s at
       unfolding body_part
-      tail-refused l = ap (followed _ s) (at_tail s at₂ l) ∙ ap (followed _ s) e₂ ∙ ap (followed _ s) e₁
+      tail-refused l = rw (← e₁, ← e₂, ← at_tail s at₂ l) refl
 
       -- the plan is read
       pub body_read : length s ≤ at₂ → got (plan_of h.inputs h.gates h.outputs gs os) at₂ ≡ body_part drawn h s at
       unfolding body_part
-      body_read l = ap (followed _ s) (at_end_lem s at₂ l) ∙ ap (followed _ s) e₂ ∙ ap (followed _ s) e₁
+      body_read l = rw (← e₁, ← e₂, ← at_end_lem s at₂ l) refl
 
 -- a refusal with the zero record is what a part that is refused gives
 pub refused-outcome : {r : PlanRead} {x : Refusal} {zero : Plan} {part : Parsed Plan} → r ≡ record { answer = ReadAnswer.Refused x; plan = zero }

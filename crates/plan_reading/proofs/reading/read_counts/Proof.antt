@@ -1,8 +1,7 @@
 -- `plan_reading::reading::read_counts` meets its contract: each count hands its cursor to the next, and a count that was read is within its
 -- limit. Assumes nothing.
-use mathlib.Core.Path.{sym, ap, ◌∙◌}
+use mathlib.Core.Path.{refl, sym, ap, ◌∙◌}
 use borrow.Author.Rules.{rules}
-use Rattle.plan_fields.specs.Parsing.{followed}
 use Rattle.plan_fields.specs.Answers.{count_answer}
 use Rattle.plan_reading.specs.Parts.{counts_part}
 use Rattle.plan_reading.proofs.PartsLaws.{count-within}
@@ -13,14 +12,14 @@ no_inputs : tie.Need-returns-in-Refused
 unfolding counts_part
 no_inputs c =
     let e = ap count_answer (sym c.in-Refused.is) ∙ c.count.ensures in
-    record { parsed = ap (followed _ _) e; limited = tt }
+    record { parsed = rw (← e) refl; limited = tt }
 
 no_gates : tie.Need-returns-in-Refused-count
 unfolding counts_part
 no_gates c =
     let e₁ = ap count_answer (sym c.in-Count.is) ∙ c.count.ensures in
     let e₂ = ap count_answer (sym c.in-Refused-count.is) ∙ c.count-in-Count.ensures in
-    record { parsed = ap (followed _ _) e₂ ∙ ap (followed _ _) e₁; limited = tt }
+    record { parsed = rw (← e₁, ← e₂) refl; limited = tt }
 
 no_outputs : tie.Need-returns-in-Refused-count-2
 unfolding counts_part
@@ -28,7 +27,7 @@ no_outputs c =
     let e₁ = ap count_answer (sym c.in-Count.is) ∙ c.count.ensures in
     let e₂ = ap count_answer (sym c.in-Count-count.is) ∙ c.count-in-Count.ensures in
     let e₃ = ap count_answer (sym c.in-Refused-count-2.is) ∙ c.count-in-Count-count.ensures in
-    record { parsed = ap (followed _ _) e₃ ∙ ap (followed _ _) e₂ ∙ ap (followed _ _) e₁; limited = tt }
+    record { parsed = rw (← e₁, ← e₂, ← e₃) refl; limited = tt }
 
 counts : tie.Need-returns-in-Count-count-2
 unfolding counts_part
@@ -37,7 +36,7 @@ counts c =
     let e₂ = ap count_answer (sym c.in-Count-count.is) ∙ c.count-in-Count.ensures in
     let e₃ = ap count_answer (sym c.in-Count-count-2.is) ∙ c.count-in-Count-count.ensures in
     record {
-      parsed = ap (followed _ _) e₃ ∙ ap (followed _ _) e₂ ∙ ap (followed _ _) e₁;
+      parsed = rw (← e₁, ← e₂, ← e₃) refl;
       limited = record {
         inputs = count-within _ _ _ _ e₁;
         gates = count-within _ _ _ _ e₂;

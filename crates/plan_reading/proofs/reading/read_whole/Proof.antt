@@ -16,7 +16,7 @@ use Rattle.plan.specs.Record.{max_gates, max_outputs, wire, zero_gate, gate_wire
 use Rattle.plan.specs.Counting.{UsesCounted}
 use Rattle.plan.proofs.RecordLaws.{wire-fits}
 use Rattle.plan.proofs.UsesLaws.{none-counted, stored-gate, stored-output, places_le}
-use Rattle.plan_fields.specs.Parsing.{got, followed}
+use Rattle.plan_fields.specs.Parsing.{got, followed, pure}
 use Rattle.plan_fields.specs.Fields.{gate_step_within}
 use Rattle.plan_fields.specs.Answers.{gate_answer, output_answer}
 use Rattle.plan_reading.specs.PlanFile.{operand_bound, gate_steps, output_step, output_steps, whole_file, parsed_outcome}
@@ -45,12 +45,9 @@ invariant_loop2 file drawn zero inputs gates outputs gate-count output-count pla
 abbrev decreases_loop2 : tie.decreases-loop-j
 decreases_loop2 file drawn zero inputs gates outputs gate-count output-count plan₀ at₀ i j₀ plan at j = output-count - j
 
--- where the header is known, from the first loop; the function's start from there; and the first loop from the second
-abbrev known : tie.At-loop-i invariant_loop decreases_loop invariant_loop2 decreases_loop2 → tie.In-Header-2 invariant_loop decreases_loop invariant_loop2 decreases_loop2
-known c = c.before.before.before.before
-
-abbrev start : tie.In-Header-2 invariant_loop decreases_loop invariant_loop2 decreases_loop2 → tie.Start invariant_loop decreases_loop invariant_loop2 decreases_loop2
-start c = c.before.before.before.before
+-- where the header is known, from the first loop; and the first loop from the second
+abbrev known : tie.At-loop-i invariant_loop decreases_loop invariant_loop2 decreases_loop2 → tie.In-Header invariant_loop decreases_loop invariant_loop2 decreases_loop2
+known c = c.before.before.before
 
 abbrev first-loop : tie.At-loop-j invariant_loop decreases_loop invariant_loop2 decreases_loop2 → tie.At-loop-i invariant_loop decreases_loop invariant_loop2 decreases_loop2
 first-loop c = c.before.before
@@ -76,14 +73,14 @@ module _ {i n : ℕ} (h : i < n) where
 -- ---- the header
 
 -- its counts are within their limits, and the record is zero
-limited : (c : tie.In-Header-2 invariant_loop decreases_loop invariant_loop2 decreases_loop2) → Limited c.in-Header.header
+limited : (c : tie.In-Header invariant_loop decreases_loop invariant_loop2 decreases_loop2) → Limited c.in-Header.header
 limited c = subst LimitedStep c.in-Header.is c.read_header.ensures.limited
 
-zeroed : (c : tie.In-Header-2 invariant_loop decreases_loop invariant_loop2 decreases_loop2) → c.zero-zero.result ≡ zero_plan
+zeroed : (c : tie.In-Header invariant_loop decreases_loop invariant_loop2 decreases_loop2) → c.zero-zero.result ≡ zero_plan
 zeroed c = c.zero-zero.ensures
 
 -- the file is the body behind it
-behind : (c : tie.In-Header-2 invariant_loop decreases_loop invariant_loop2 decreases_loop2)
+behind : (c : tie.In-Header invariant_loop decreases_loop invariant_loop2 decreases_loop2)
     → let a = c.args in
     body_part a.drawn c.in-Header.header a.file.now c.in-Header.c.at ≡ whole_file a.drawn a.file.now 0
 behind c = whole_body _ _ (ap header_answer (sym c.in-Header.is) ∙ c.read_header.ensures.parsed)
@@ -95,7 +92,7 @@ no_header c =
 
 -- K has 16 bits
 places-fit : tie.Need-overflow_cast-plan invariant_loop decreases_loop invariant_loop2 decreases_loop2
-places-fit c = Fits-below {n = 256} tt (places_le c.ceil_power.ensures (limited c.before.before).gates)
+places-fit c = Fits-below {n = 256} tt (places_le c.ceil_power.ensures (limited c.before).gates)
 
 -- ---- the gates
 
@@ -104,9 +101,9 @@ unfolding places
 holds c = (
   zero-le,
   record { inputs = refl; gates = refl; outputs = refl; places = c.ceil_power.ensures },
-  rw (ap (λ p. p.outputs) (zeroed c.before.before.before)) refl,
-  none_read (ap (λ p. p.gates) (zeroed c.before.before.before)),
-  subst (UsesCounted 0 0 _ _) (sym (ap (λ p. p.uses) (zeroed c.before.before.before))) (none-counted _ _),
+  rw (ap (λ p. p.outputs) (zeroed c.before.before)) refl,
+  none_read (ap (λ p. p.gates) (zeroed c.before.before)),
+  subst (UsesCounted 0 0 _ _) (sym (ap (λ p. p.uses) (zeroed c.before.before))) (none-counted _ _),
 )
 
 -- the bound of gate i
@@ -124,7 +121,7 @@ gate-i : (c : tie.After-read_gate invariant_loop decreases_loop invariant_loop2 
 gate-i c =
     let a = c.args in
     let k = c.in-Header.header.gates in
-    let h = limited (known turn) in
+    let h = limited (known c.before.before.before.before) in
     let low = within c.loop-i-test.true h.gates in
     let last = c.gate_wire-after_last.ensures ∙ wire-fits {i = k} h.inputs h.gates in
     let own = c.gate_wire-own.ensures ∙ wire-fits {i = c.loop-i.i} h.inputs (omega (arith, low)) in
@@ -133,16 +130,16 @@ gate-i c =
 
 no_gate : tie.Need-returns-in-Refused-read_gate invariant_loop decreases_loop invariant_loop2 decreases_loop2
 no_gate c =
-    refused-outcome c.refused_read-in-Refused-read_gate.ensures (zeroed (known turn))
+    refused-outcome c.refused_read-in-Refused-read_gate.ensures (zeroed (known c.before.before.before.before.before.before))
     (gates-refused _ c.in-Header.header _ _
     (one-refused c.loop-i.invariant.3 _ c.loop-i-test.true (ap gate_answer (sym c.in-Refused-read_gate.is) ∙ gate-i c.before.before))
-    ∙ behind (known turn))
+    ∙ behind (known c.before.before.before.before.before.before))
 
 again : tie.Need-loop-i-preserved invariant_loop decreases_loop invariant_loop2 decreases_loop2
 again c =
     let taken = c.loop-i-test.true in
     let same = c.loop-i.invariant.1 in
-    let low = within taken (limited (known turn)).gates in
+    let low = within taken (limited (known c.before.before.before.before.before.before.before)).gates in
     let stored = stored-gate c.loop-i.invariant.4 (le_of_lt low) zero-le _ (rw (held-places c.loop-i.invariant.3 (le_of_lt low)) low) in (
       next-within taken,
       record { inputs = same.inputs; gates = same.gates; outputs = same.outputs; places = same.places },
@@ -167,30 +164,31 @@ holds2 c = (
   zero-le,
   c.loop-i.invariant.1,
   refl,
-  none_read (c.loop-i.invariant.2 ∙ ap (λ p. p.outputs) (zeroed (known first))),
+  none_read (c.loop-i.invariant.2 ∙ ap (λ p. p.outputs) (zeroed (known c.before))),
   subst (λ n. UsesCounted n 0 c.loop-i.plan.gates c.loop-i.plan.outputs c.loop-i.plan.uses)
       (le_antisymm c.loop-i.invariant.0 c.loop-i-test.false) c.loop-i.invariant.4,
 )
 
 no_output : tie.Need-returns-in-Refused-output invariant_loop decreases_loop invariant_loop2 decreases_loop2
 no_output c =
+    let k = known (first-loop c.before.before.before.before) in
     refused-outcome c.refused_read-in-Refused-output.ensures (zeroed k)
     (outputs-refused _ c.in-Header.header _ _ (gates-read c.before.before.before.before.before)
     (one-refused c.loop-j.invariant.3 _ c.loop-j-test.true
-    (ap (followed _ _) (ap output_answer (sym c.in-Refused-output.is) ∙ c.output.ensures)))
+    (ap (followed (λ w. pure (wire w)) c.args.file.now) (ap output_answer (sym c.in-Refused-output.is) ∙ c.output.ensures)))
     ∙ behind k)
 
 again2 : tie.Need-loop-j-preserved invariant_loop decreases_loop invariant_loop2 decreases_loop2
 again2 c =
     let taken = c.loop-j-test.true in
     let same = c.loop-j.invariant.1 in
-    let most = limited (known (first-loop turn)) in
+    let most = limited (known (first-loop c.before.before.before.before.before)) in
     let low = within taken most.outputs in
     let stored = stored-output c.loop-j.invariant.4 most.gates (le_of_lt low) _ (rw (held-places c.loop-j.invariant.3 (le_of_lt low)) low) in (
       next-within taken,
       record { inputs = same.inputs; gates = same.gates; outputs = same.outputs; places = same.places },
       c.loop-j.invariant.2,
-      one-read c.loop-j.invariant.3 low (ap (followed _ _) (ap output_answer (sym c.in-Output.is) ∙ c.output.ensures)),
+      one-read c.loop-j.invariant.3 low (ap (followed (λ w. pure (wire w)) c.args.file.now) (ap output_answer (sym c.in-Output.is) ∙ c.output.ensures)),
       rw (add-one c.loop-j.j) (subst (UsesCounted _ _ _ _) (sym c.count_use.ensures) stored),
     )
 
@@ -206,6 +204,7 @@ outputs-read c = let loop = c.loop-j in all_read loop.invariant.3 (le_antisymm l
 
 tail : tie.Need-returns-then-end-file invariant_loop decreases_loop invariant_loop2 decreases_loop2
 tail c =
+    let k = known (first-loop c.before.before.before) in
     refused-outcome c.refused_read-then-end-file.ensures (zeroed k)
     (tail-refused _ c.in-Header.header _ _ (gates-read c.before.before.before.before) (outputs-read c.before.before) c.if-end-file.true ∙ behind k)
 
@@ -218,7 +217,7 @@ read c =
     ap parsed_outcome
     (ap (λ p. got p c.loop-j.at.at) held
     ∙ body_read _ c.in-Header.header _ _ (gates-read c.before.before.before) (outputs-read c.before) c.if-end-file.false
-    ∙ behind k)
+    ∙ behind (known (first-loop c.before.before)))
 
 -- the turns in which a gate and an output are stored
 abbrev gate-turn : tie.In-Gate invariant_loop decreases_loop invariant_loop2 decreases_loop2 → tie.In-loop-i invariant_loop decreases_loop invariant_loop2 decreases_loop2
