@@ -317,12 +317,14 @@ def reached(text, entry, order, places_of):
             twice = rf"\((?:{helper}) \((?:{helper}) (?:{simple})\)\){chain}(?![\w.'-])|(?:{helper}) \((?:{helper}) (?:{simple})\)"
             return rf"(?:{twice}|{once}|{simple})"
 
+        lets = []
         while True:
             m = re.search(rf"let ({WORD}) = ({expression()}) in\s*", block)
             if not m:
                 break
             aliases.add(m[1])
-            block = block[:m.start()] + block[m.end():]
+            lets.append((m[1], m[0]))
+            block = block[:m.start()] + f"⟦{len(lets) - 1}⟧" + block[m.end():]
         start = rf"(?<![\w.'«-])"
         # a step behind any way back is the place's own
         for _ in range(3):
@@ -340,7 +342,13 @@ def reached(text, entry, order, places_of):
             return f"{m[1]} {to}"
 
         names = "|".join(re.escape(h) for h in sorted(takes, key=len, reverse=True)) or "(?!)"
-        return re.sub(rf"{start}({names}) (?:\((?:{helper}) (?:{places()}){chain}\){chain}|\((?:{helper}) \((?:{helper}) (?:{places()}){chain}\)\){chain}|(?:{places()}){chain})(?![\w.'-])", handed, block)
+        block = re.sub(rf"{start}({names}) (?:\((?:{helper}) (?:{places()}){chain}\){chain}|\((?:{helper}) \((?:{helper}) (?:{places()}){chain}\)\){chain}|(?:{places()}){chain})(?![\w.'-])", handed, block)
+        # a name that is still used stays
+        for k in reversed(range(len(lets))):
+            name, line = lets[k]
+            rest = block.replace(f"⟦{k}⟧", "")
+            block = block.replace(f"⟦{k}⟧", line if re.search(rf"{start}{re.escape(name)}(?![\w'-])", rest) else "")
+        return block
 
     out = []
     for block in re.split(r"\n(?=[^\s)])", text):
