@@ -11,25 +11,24 @@ use Rattle.plan.proofs.UsesLaws.{output-counted}
 use Rattle.plan_drawn.proofs.ordering.count_outputs.Statement.{statement}
 use Rattle.plan_drawn.proofs.ordering.count_outputs.Tie as tie
 
-abbrev invariant_loop : tie.invariant-loop
+abbrev invariant_loop : tie.invariant-loop-j
 invariant_loop count uses₀ outputs end j₀ uses j = (j ≤ end) × UsesCounted 0 j [] outputs uses
 
-abbrev decreases_loop : tie.decreases-loop
+abbrev decreases_loop : tie.decreases-loop-j
 decreases_loop count uses₀ outputs end j₀ uses j = end - j
 
-again : tie.Need-loop-preserved invariant_loop decreases_loop
+again : tie.Need-loop-j-preserved invariant_loop decreases_loop
 again c =
-    let loop = c.before.before.before.before.loop in
-    let more = output-counted loop.invariant.1 zero-le (omega (arith, c.before.before.before.before.before.requires.0)) refl in
-    (omega arith, rw (add-one loop.j) (subst (UsesCounted _ _ _ _) (sym c.count-use.ensures) more))
+    let loop = c.loop-j in
+    let more = output-counted loop.invariant.1 zero-le (omega (arith, c.requires.0)) refl in
+    (omega arith, rw (add-one loop.j) (subst (UsesCounted _ _ _ _) (sym c.count_use.ensures) more))
 
 counted : tie.Need-returns invariant_loop decreases_loop
 counted c =
-    let loop = c.before.loop in
-    subst (λ n. UsesCounted 0 n [] c.before.before.args.t1 loop.uses) (le_antisymm loop.invariant.0 c.loop-test.false) loop.invariant.1
+    let loop = c.loop-j in
+    subst (λ n. UsesCounted 0 n [] c.args.t1 loop.uses) (le_antisymm loop.invariant.0 c.loop-j-test.false) loop.invariant.1
 
 pub count_outputs_spec : {M : Type 1} → statement M
 count_outputs_spec =
     tie.close
-    (tie.spec invariant_loop decreases_loop
-    (λ c. (zero-le, c.requires.1)) (λ c. search rules) (λ c. search rules) (λ c κs. search rules) (λ c. search rules) (λ c. search rules) again counted)
+    (tie.spec invariant_loop decreases_loop (λ c. (zero-le, c.requires.1)) (λ c. search rules) (λ c. search rules) (λ c κs. search rules) (λ c. search rules) (λ c. search rules) again counted)

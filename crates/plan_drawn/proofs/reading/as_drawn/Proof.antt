@@ -11,28 +11,27 @@ use Rattle.plan_drawn.proofs.OrderingLaws.{places-step}
 use Rattle.plan_drawn.proofs.reading.as_drawn.Statement.{statement}
 use Rattle.plan_drawn.proofs.reading.as_drawn.Tie as tie
 
-abbrev invariant_loop : tie.invariant-loop
+abbrev invariant_loop : tie.invariant-loop-g
 invariant_loop plan count drawn₀ g₀ drawn g = (g ≤ count) × (drawn ≡ places max_gates 0 (list_of g suc))
 
-abbrev decreases_loop : tie.decreases-loop
+abbrev decreases_loop : tie.decreases-loop-g
 decreases_loop plan count drawn₀ g₀ drawn g = count - g
 
-holds : tie.Need-loop-init invariant_loop decreases_loop
+holds : tie.Need-loop-g-init invariant_loop decreases_loop
 unfolding list_of places
 holds c = (omega arith, refl)
 
-again : tie.Need-loop-preserved invariant_loop decreases_loop
-again c = let loop = c.before.before.loop in (omega arith, places-step max_gates 0 suc loop.g loop.invariant.1 c.drawn-number.ensures (omega arith))
+again : tie.Need-loop-g-preserved invariant_loop decreases_loop
+again c = let loop = c.loop-g in (omega arith, places-step max_gates 0 suc loop.g loop.invariant.1 c.drawn_number.ensures (omega arith))
 
 all : tie.Need-returns invariant_loop decreases_loop
 all c =
-    let loop = c.before.loop in
-    let plan = c.before.before.before.args.plan in
+    let loop = c.loop-g in
+    let plan = c.args.plan in
     let e : loop.g ≡ plan.gate_count = omega arith in
     ap (drawn_answer ReadAnswer.Accepted plan) (loop.invariant.1 ∙ ap (λ n. places max_gates 0 (list_of n suc)) e)
 
 pub as_drawn_spec : {M : Type 1} → statement M
 as_drawn_spec =
     tie.close
-    (tie.spec invariant_loop decreases_loop
-    (λ c. search rules) holds (λ c κs. search rules) (λ c. search rules) (λ c. search rules) (λ c. search rules) (λ c. search rules) again all)
+    (tie.spec invariant_loop decreases_loop (λ c. search rules) holds (λ c κs. search rules) (λ c. search rules) (λ c. search rules) (λ c. search rules) (λ c. search rules) again all)

@@ -17,72 +17,60 @@ use Rattle.plan_drawn.proofs.reading.order_drawing.Statement.{statement}
 use Rattle.plan_drawn.proofs.reading.order_drawing.Tie as tie
 
 -- once the operands are loaded: the function's start, where `.pre` says that the drawing is within its bounds
-abbrev start : tie.After-load-operands → tie.Start
+abbrev start : tie.After-load_operands → tie.Start
 start c = c.before.before.before.before
 
-load_asked : tie.Need-load-operands-requires
-load_asked c κs = let k = c.before.before.before.requires.counts.gates in (k, (k, k))
+load_asked : tie.Need-load_operands-requires
+load_asked c κs = let k = c.requires.counts.gates in (k, (k, k))
 
-inputs-asked : tie.Need-number-inputs-requires
-inputs-asked c κs = omega (arith, c.before.before.before.before.before.before.before.requires.counts.inputs)
+inputs-asked : tie.Need-number_inputs-requires
+inputs-asked c κs = omega (arith, c.requires.counts.inputs)
 
-asked : tie.Need-take-gates-requires
+asked : tie.Need-take_gates-low-requires
 unfolding places list_of
 asked c κs =
-    let loaded = c.before.before.before.before.before.before.before.before.before in
-    let within = (start loaded).requires in
+    let within = c.requires in
     let counts = within.counts in (
-      operands-loaded within _ _ loaded.load-operands.ensures.0 loaded.load-operands.ensures.1,
+      operands-loaded within _ _ c.load_operands.ensures.0 c.load_operands.ensures.1,
       (
-        inputs-numbered _ _ _ counts.inputs counts.gates (omega arith) (get_or-places (suc (max_inputs + max_gates)) 0 []) c.before.before.before.before.before.number-inputs.ensures,
+        inputs-numbered _ _ _ counts.inputs counts.gates (omega arith) (get_or-places (suc (max_inputs + max_gates)) 0 []) c.number_inputs.ensures,
         refl,
       ),
     )
 
 -- where the operands were loaded, once the gates are taken
-abbrev loaded_at : tie.After-take-gates → tie.After-load-operands
+abbrev loaded_at : tie.After-take_gates-low → tie.After-load_operands
 loaded_at c = c.before.before.before.before.before.before.before.before.before.before
 
 -- the gates are taken
-taken : (c : tie.After-take-gates)
-    → let loaded = loaded_at c in
-    OrderTaken (start loaded).args.drawing c.take-gates.result c.take-gates.new.1.1.1.1.0 c.take-gates.new.1.1.1.1.1.0
+taken : (c : tie.After-take_gates-low)
+    → OrderTaken c.args.drawing c.take_gates-low.result c.take_gates-low.new.numbers c.take_gates-low.new.drawn
 taken c =
-    let loaded = loaded_at c in
-    let t = c.take-gates.ensures in
-    order-taken (start loaded).pre _ _ loaded.load-operands.ensures.0 loaded.load-operands.ensures.1 t.0 t.1.0 t.1.1
+    let t = c.take_gates-low.ensures in
+    order-taken c.requires _ _ c.load_operands.ensures.0 c.load_operands.ensures.1 t.0 t.1.0 t.1.1
 
-offset_asked : tie.Need-map-offset-requires
+offset_asked : tie.Need-map_offset-requires
 offset_asked c κs =
-    let took = c.before.before.before in
-    let counts = (start (loaded_at took)).requires.counts in
-    (counts.inputs, counts.gates, omega (arith, c.if1.true))
+    let counts = c.requires.counts in
+    (counts.inputs, counts.gates, omega (arith, c.if-low-count.true))
 
-left_over : tie.Need-returns
+left_over : tie.Need-returns-then-low-count
 left_over c =
-    let took = c.before.before.before.before.before in
-    let s = start (loaded_at took) in
-    c.refuse-drawn.ensures ∙ ap (λ a. drawn_outcome (refuse Fault.Ring a)) c.before.map-offset.ensures
-    ∙ ap drawn_outcome (sym (cycle_found s.pre (taken took) s.args.file.now 0 c.before.before.if1.true))
+    c.refuse_drawn.ensures ∙ ap (λ a. drawn_outcome (refuse Fault.Ring a)) c.map_offset.ensures
+    ∙ ap drawn_outcome (sym (cycle_found c.requires (taken c.before.before.before.before.before) c.args.file.now 0 c.if-low-count.true))
 
-ordered-asked : tie.Need-order-gates-requires
+ordered-asked : tie.Need-order_gates-requires
 ordered-asked c κs =
-    let took = c.before.before.before.before.before in
-    let within = (start (loaded_at took)).requires in
-    (none_left within (taken took) c.before.before.if1.false, ((taken took).numbered, all_listed within (taken took) c.before.before.if1.false))
+    let within = c.requires in
+    (none_left within (taken c.before.before.before.before.before) c.if-low-count.false, ((taken c.before.before.before.before.before).numbered, all_listed within (taken c.before.before.before.before.before) c.if-low-count.false))
 
-ordered : tie.Need-returns-2
+ordered : tie.Need-returns
 ordered c =
-    let took = c.before.before.before.before.before.before in
-    let s = start (loaded_at took) in
-    let left = c.before.before.before.if1.false in
-    ap₂ (drawn_answer ReadAnswer.Accepted) c.order-gates.ensures (all_listed s.pre (taken took) left)
-    ∙ ap drawn_outcome (sym (no_cycle-found s.pre (taken took) s.args.file.now 0 left))
+    let left = c.if-low-count.false in
+    ap₂ (drawn_answer ReadAnswer.Accepted) c.order_gates.ensures (all_listed c.requires (taken c.before.before.before.before.before.before) left)
+    ∙ ap drawn_outcome (sym (no_cycle-found c.requires (taken c.before.before.before.before.before.before) c.args.file.now 0 left))
 
 pub order_drawing_spec : {M : Type 1} → statement M
 order_drawing_spec =
     tie.close
-    (tie.spec
-    (λ c. search rules) (λ c. search rules) (λ c. search rules) load_asked (λ c. search rules) inputs-asked
-    (λ c. search rules) (λ c. search rules) (λ c. search rules) (λ c. search rules) asked
-    offset_asked (λ c κs. search rules) left_over (λ c. search rules) (λ c. search rules) ordered-asked ordered)
+    (tie.spec (λ c. search rules) (λ c. search rules) (λ c. search rules) load_asked (λ c. search rules) inputs-asked (λ c. search rules) (λ c. search rules) (λ c. search rules) (λ c. search rules) asked offset_asked (λ c κs. search rules) left_over (λ c. search rules) (λ c. search rules) ordered-asked ordered)

@@ -8,18 +8,18 @@ use Rattle.plan_drawn.proofs.reading.read_drawn.Statement.{statement}
 use Rattle.plan_drawn.proofs.reading.read_drawn.Tie as tie
 
 -- a plan was read
-read : (c : tie.After-enum-told)
-    → let p = c.before.before.before.read-plan.result.plan in
-    ◌≡◌ {A = ReadOutcome} (record { number = 0; at = 0; plan = p }) (plan_read c.before.before.before.before.before.args.file.now)
+read : (c : tie.In-Accepted)
+    → let p = c.read_plan-read.result.plan in
+    ◌≡◌ {A = ReadOutcome} (record { number = 0; at = 0; plan = p }) (plan_read c.args.file.now)
 read c =
-    let r = c.before.before.before.read-plan in
-    ap (λ a. answer_outcome a r.result.plan) (sym c.enum_told.given.1) ∙ r.ensures
+    let r = c.read_plan-read in
+    ap (λ a. answer_outcome a r.result.plan) (sym c.in-Accepted.is) ∙ r.ensures
 
-asked : tie.Need-as-drawn-requires
+asked : tie.Need-as_drawn-requires
 asked c κs = plain-gates _ (read c)
 
-plain : tie.Need-returns
-plain c = c.as-drawn.ensures ∙ plain-outcome _ (read c.before)
+plain : tie.Need-returns-in-Accepted
+plain c = c.as_drawn.ensures ∙ plain-outcome _ (read c.before)
 
 pub read_drawn_spec : {M : Type 1} → statement M
 read_drawn_spec =

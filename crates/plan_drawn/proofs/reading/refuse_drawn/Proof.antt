@@ -9,7 +9,7 @@ use Rattle.plan_drawn.proofs.reading.refuse_drawn.Tie as tie
 
 zeroed : tie.Need-returns
 unfolding places
-zeroed c = ap (λ p. drawn_answer (ReadAnswer.Refused c.before.args.x) p _) c.zero.ensures
+zeroed c = ap (λ p. drawn_answer (ReadAnswer.Refused c.args.x) p _) c.zero.ensures
 
 pub refuse_drawn_spec : {M : Type 1} → statement M
 refuse_drawn_spec = tie.close (tie.spec (λ c κs. search rules) zeroed)
