@@ -7,23 +7,21 @@ use Rattle.console.proofs.PlansLaws.{small-refused, small-accepted, large-refuse
 use Rattle.console.proofs.input.read_small_plan.Statement.{statement}
 use Rattle.console.proofs.input.read_small_plan.Tie as tie
 
-large : tie.Need-returns
+large : tie.Need-returns-then-plan-gt-MOST_GATES
 large c =
-    let told = c.before.before.before in
-    let read = told.before.before.before.read-plan in
+    let read = c.read_plan-read in
     ap (λ (p : Plan). record { number = 11; at = 0; plan = p }) c.zero.ensures
-    ∙ large-refused _ read.result read.ensures told.enum-told2.given.1 (omega arith)
+    ∙ large-refused _ read.result read.ensures c.in-Accepted.is (omega arith)
 
-refused : tie.Need-returns-2
+refused : tie.Need-returns-in-Refused
 refused c =
-    let read = c.before.before.before.read-plan in
-    small-refused _ read.result read.ensures _ c.enum_told.given.1
+    let read = c.read_plan-read in
+    small-refused _ read.result read.ensures _ c.in-Refused.is
 
-small : tie.Need-returns-3
+small : tie.Need-returns-else-plan-gt-MOST_GATES
 small c =
-    let told = c.before.before in
-    let read = told.before.before.before.read-plan in
-    small-accepted _ read.result read.ensures told.enum-told2.given.1 (omega arith)
+    let read = c.read_plan-read in
+    small-accepted _ read.result read.ensures c.in-Accepted.is (omega arith)
 
 pub read_small_plan_spec : {M : Type 1} → statement M
 read_small_plan_spec =

@@ -8,5 +8,4 @@ use Rattle.console.proofs.text.put_byte.Tie as tie
 pub put_byte_spec : {M : Type 1} → statement M
 put_byte_spec =
     tie.close
-    (tie.spec
-    (λ c. search rules) (λ c. search rules) (λ c. search rules) (λ c. puts_byte _ _ _ (omega arith)) (λ c. puts_full (omega arith)))
+    (tie.spec (λ c. search rules) (λ c. search rules) (λ c. search rules) (λ c. puts_byte _ _ _ (omega arith)) (λ c. puts_full (omega arith)))

@@ -6,8 +6,7 @@ use Rattle.console.proofs.text.put_named.Tie as tie
 
 both : tie.Need-returns
 both c =
-    let number = c.before.before in
-    puts_more number.before.before.before.before.put_word.ensures number.put-number.ensures
+    puts_more c.put_word-next.ensures c.put_number.ensures
 
 pub put_named_spec : {M : Type 1} → statement M
 put_named_spec = tie.close (tie.spec (λ c κs. search rules) (λ c κs. search rules) (λ c. search rules) both)

@@ -8,14 +8,9 @@ use Rattle.console.proofs.text.put_refusal.Tie as tie
 line : tie.Need-returns
 unfolding ascii
 line c =
-    let ended = c.before.before in
-    let place = ended.before.before.before.before in
-    let number = place.before.before.before.before.before in
-    rw number.before.number.ensures at (puts_more (puts_more number.put-named.ensures place.put-named2.ensures) ended.put_byte.ensures)
+    rw c.number.ensures at (puts_more (puts_more c.put_named-next.ensures c.put_named-next-2.ensures) c.put_byte.ensures)
 
 pub put_refusal_spec : {M : Type 1} → statement M
 put_refusal_spec =
     tie.close
-    (tie.spec
-    (λ c. search rules) (λ c κs. search rules) (λ c. search rules) (λ c κs. search rules) (λ c. search rules) (λ c κs. search rules)
-    (λ c κs. search rules) (λ c. search rules) line)
+    (tie.spec (λ c κs. search rules) (λ c. search rules) (λ c κs. search rules) (λ c κs. search rules) (λ c κs. search rules) (λ c. search rules) line)
