@@ -109,7 +109,7 @@ def laid_open(text):
                 block = re.sub(rf"let {re.escape(name)} = {re.escape(path)} in\s*", "", block)
                 block = re.sub(rf"(?<![\w.'-]){re.escape(name)}\.(?=\d)", path + ".", block)
             else:
-                block = re.sub(rf"(?<![\w.'-]){re.escape(name)}\.(?=(last|kept|known|given)\b)", path + ".", block)
+                block = re.sub(rf"(?<![\w.'-]){re.escape(name)}\.(?=(last|new|kept|auto|known|given)\b)", path + ".", block)
         out.append(block)
     return "\n".join(out)
 
