@@ -10,7 +10,7 @@ use Rattle.console.proofs.text.put_number.Tie as tie
 number : tie.Need-returns
 number c =
     let spelt = c.decimal-n in
-    puts_same (spelt.ensures.1.1 ∙ decimal_digits 19 spelt.result _ (omega arith) spelt.ensures.1.0) c.put_word.ensures
+    puts_same (spelt.ensures.1.1.0 ∙ decimal_digits 19 spelt.result _ (omega arith) spelt.ensures.1.0) c.put_word.ensures
 
 pub put_number_spec : {M : Type 1} → statement M
 put_number_spec =
