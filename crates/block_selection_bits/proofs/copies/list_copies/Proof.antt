@@ -14,56 +14,49 @@ use Rattle.block_selection_bits.specs.Arrays.{NextCopies}
 use Rattle.block_selection_bits.proofs.copies.list_copies.Statement.{statement}
 use Rattle.block_selection_bits.proofs.copies.list_copies.Tie as tie
 
-abbrev invariant_loop : tie.invariant-loop
+abbrev invariant_loop : tie.invariant-loop-o
 invariant_loop size wanted heads₀ list₀ o₀ heads list o =
     (o ≤ size) × NextCopies wanted o heads × (length list ≡ length list₀) × (list ≡ over (wanted_of o (copy_of (mapping wanted) (length wanted))) list₀)
     × (length heads ≡ length heads₀)
 
-abbrev decreases_loop : tie.decreases-loop
+abbrev decreases_loop : tie.decreases-loop-o
 decreases_loop size wanted heads₀ list₀ o₀ heads list o = size - o
 
-holds : tie.Need-loop-init invariant_loop decreases_loop
+holds : tie.Need-loop-o-init invariant_loop decreases_loop
 unfolding list_of
-holds c = (omega arith, c.before.before.before.requires.1, refl, refl, refl)
+holds c = (omega arith, c.requires.1, refl, refl, refl)
 
-for_copy : tie.Need-next-copy-requires invariant_loop decreases_loop
+for_copy : tie.Need-next_copy-requires invariant_loop decreases_loop
 for_copy c κs =
-    let at = c.before.before in
-    let s = at.before.before.before.before in
-    (rw at.loop.invariant.4 s.requires.0.0, at.loop.invariant.1, omega (arith, s.requires.0.1))
+    (rw c.loop-o.invariant.4 c.requires.0.0, c.loop-o.invariant.1, omega (arith, c.requires.0.1))
 
-fits : tie.Need-overflow-add-list invariant_loop decreases_loop
-fits c = omega (arith, c.before.before.next-copy.ensures.0.1)
+fits : tie.Need-overflow_add-list invariant_loop decreases_loop
+fits c = omega (arith, c.next_copy.ensures.0.1)
 
-stored : tie.Need-slice-write-list invariant_loop decreases_loop
+stored : tie.Need-bounds-list-o invariant_loop decreases_loop
 stored c =
-    let at = c.before.before.before.before.before in
-    let s = at.before.before.before.before in
-    omega (arith, at.loop.invariant.2, s.requires.0.1)
+    omega (arith, c.loop-o.invariant.2, c.requires.0.1)
 
-again : tie.Need-loop-preserved invariant_loop decreases_loop
+again : tie.Need-loop-o-preserved invariant_loop decreases_loop
 again c =
-    let copy = c.before.before.next-copy in
-    let at = c.before.before.before.before.before in
-    let s = at.before.before.before.before in
-    let wanted = s.args.wanted.now in
-    let o = at.loop.o in (
+    let copy = c.next_copy in
+    let wanted = c.args.wanted.now in
+    let o = c.loop-o.o in (
       omega arith,
       copy.ensures.1,
-      simp length-set at.loop.invariant.2,
-      ap₂ (λ l v. set l o v) at.loop.invariant.3 (add-one copy.result ∙ ap suc copy.ensures.0.0)
-          ∙ list_of-over o (λ x. suc (copy_of (mapping wanted) (length wanted) x)) s.args.list.now (omega (arith, s.requires.0.1)),
-      copy.auto.1.0 ∙ at.loop.invariant.4,
+      simp length-set c.loop-o.invariant.2,
+      ap₂ (λ l v. set l o v) c.loop-o.invariant.3 (add-one copy.result ∙ ap suc copy.ensures.0.0)
+          ∙ list_of-over o (λ x. suc (copy_of (mapping wanted) (length wanted) x)) c.args.list.now (omega (arith, c.requires.0.1)),
+      c.next_copy.auto.heads ∙ c.loop-o.invariant.4,
     )
 
 all : tie.Need-returns invariant_loop decreases_loop
 all c =
-    let a = c.before.before.before.before.before.args in
-    let e : c.before.loop.o ≡ a.size = omega arith in
-    c.before.loop.invariant.3 ∙ ap (λ k. over (wanted_of k (copy_of (mapping a.wanted.now) (length a.wanted.now))) a.list.now) e
+    let a = c.args in
+    let e : c.loop-o.o ≡ a.size = omega arith in
+    c.loop-o.invariant.3 ∙ ap (λ k. over (wanted_of k (copy_of (mapping a.wanted.now) (length a.wanted.now))) a.list.now) e
 
 pub list_copies_spec : {M : Type 1} → statement M
 list_copies_spec =
     tie.close
-    (tie.spec invariant_loop decreases_loop
-    holds for_copy fits (λ c. search rules) stored (λ c. search rules) (λ c. search rules) again (λ c. c.before.loop.invariant.4) (λ c. c.before.loop.invariant.2) all)
+    (tie.spec invariant_loop decreases_loop holds for_copy fits (λ c. search rules) stored (λ c. search rules) (λ c. search rules) again (λ c. c.loop-o.invariant.4) (λ c. c.loop-o.invariant.2) all)

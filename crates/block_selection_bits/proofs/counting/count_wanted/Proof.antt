@@ -12,51 +12,45 @@ use Rattle.block_selection_bits.proofs.CountsLaws.{wanting_le, counted_none, wan
 use Rattle.block_selection_bits.proofs.counting.count_wanted.Statement.{statement}
 use Rattle.block_selection_bits.proofs.counting.count_wanted.Tie as tie
 
-abbrev invariant_loop : tie.invariant-loop
+abbrev invariant_loop : tie.invariant-loop-i
 invariant_loop wanted counts₀ i₀ counts i = (i ≤ length wanted) × (length counts ≡ length counts₀) × PlacesHold (wanting (mapping wanted) i) counts
 
-abbrev decreases_loop : tie.decreases-loop
+abbrev decreases_loop : tie.decreases-loop-i
 decreases_loop wanted counts₀ i₀ counts i = length wanted - i
 
-holds : tie.Need-loop-init invariant_loop decreases_loop
-holds c = let s = c.before.before in (omega arith, refl, counted_none (mapping s.args.wanted.now) s.requires.1)
+holds : tie.Need-loop-i-init invariant_loop decreases_loop
+holds c = (omega arith, refl, counted_none (mapping c.args.wanted.now) c.requires.1)
 
-for_input : tie.Need-input-wanted-by-requires invariant_loop decreases_loop
+for_input : tie.Need-input_wanted_by-j-requires invariant_loop decreases_loop
 for_input c κs =
-    let l = c.loop-test.true in
-    (l, c.before.before.before.before.requires.0.inputs.low c.before.loop.i l)
+    let l = c.loop-i-test.true in
+    (l, c.requires.0.inputs.low c.loop-i.i l)
 
 -- the input has a place
-within : (c : tie.After-input-wanted-by invariant_loop decreases_loop) → c.input-wanted-by.result < length c.before.before.loop.counts
+within : (c : tie.After-input_wanted_by-j invariant_loop decreases_loop) → c.input_wanted_by-j.result < length c.loop-i.counts
 within c =
-    let at = c.before.before in
-    let s = at.before.before.before in
-    omega (arith, c.input-wanted-by.ensures.0, at.loop.invariant.1, selected_lt s.requires.0.inputs at.loop.i c.before.loop-test.true)
+    omega (arith, c.input_wanted_by-j.ensures.0, c.loop-i.invariant.1, selected_lt c.requires.0.inputs c.loop-i.i c.loop-i-test.true)
 
-fits : tie.Need-overflow-add-counts invariant_loop decreases_loop
+fits : tie.Need-overflow_add-counts invariant_loop decreases_loop
 fits c =
-    let at = c.before.before.before in
-    let s = at.before.before.before in
-    let j = c.before.input-wanted-by.result in
-    omega (arith, at.loop.invariant.2.each j, wanting_le (mapping s.args.wanted.now) at.loop.i j, s.requires.0.few, s.requires.0.most)
+    let j = c.input_wanted_by-j.result in
+    omega (arith, c.loop-i.invariant.2.each j, wanting_le (mapping c.args.wanted.now) c.loop-i.i j, c.requires.0.few, c.requires.0.most)
 
-again : tie.Need-loop-preserved invariant_loop decreases_loop
+again : tie.Need-loop-i-preserved invariant_loop decreases_loop
 again c =
     let at = c.before.before.before in
-    let s = at.before.before.before in
-    let input = c.before.input-wanted-by.ensures.0 in (
+    let input = c.input_wanted_by-j.ensures.0 in (
       omega arith,
-      simp length-set at.loop.invariant.1,
-      rw input (wanting-counted (mapping s.args.wanted.now) at.loop.i (rw input at (within c.before)) at.loop.invariant.2),
+      simp length-set c.loop-i.invariant.1,
+      rw input (wanting-counted (mapping c.args.wanted.now) c.loop-i.i (rw input at (within c.before)) c.loop-i.invariant.2),
     )
 
 all : tie.Need-returns invariant_loop decreases_loop
 all c =
-    let e : c.before.loop.i ≡ length c.before.before.before.before.args.wanted.now = omega arith in
-    rw (← e) c.before.loop.invariant.2
+    let e : c.loop-i.i ≡ length c.args.wanted.now = omega arith in
+    rw (← e) c.loop-i.invariant.2
 
 pub count_wanted_spec : {M : Type 1} → statement M
 count_wanted_spec =
     tie.close
-    (tie.spec invariant_loop decreases_loop holds for_input (λ c. search rules) (λ c. within c.before) fits (λ c. within c.before) (λ c. search rules) (λ c. search rules) again
-    (λ c. c.before.loop.invariant.1) all)
+    (tie.spec invariant_loop decreases_loop holds for_input (λ c. search rules) (λ c. within c.before) fits (λ c. within c.before) (λ c. search rules) (λ c. search rules) again (λ c. c.loop-i.invariant.1) all)

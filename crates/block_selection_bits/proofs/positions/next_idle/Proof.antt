@@ -11,33 +11,33 @@ use Rattle.block_selection_bits.proofs.PositionsLaws.{idle-within, idle_later}
 use Rattle.block_selection_bits.proofs.positions.next_idle.Statement.{statement}
 use Rattle.block_selection_bits.proofs.positions.next_idle.Tie as tie
 
-abbrev invariant_loop : tie.invariant-loop
+abbrev invariant_loop : tie.invariant-loop-x
 invariant_loop counts from x₀ x = (from ≤ x) × ((y : ℕ) → from ≤ y → y < x → get_or counts y 0 ≢ 0) × IdleFrom counts x
 
-abbrev decreases_loop : tie.decreases-loop
+abbrev decreases_loop : tie.decreases-loop-x
 decreases_loop counts from x₀ x = length counts - x
 
-holds : tie.Need-loop-init invariant_loop decreases_loop
+holds : tie.Need-loop-x-init invariant_loop decreases_loop
 holds c = (omega arith, λ y l m. absurd (omega arith), c.requires)
 
-within : tie.Need-shared-slice-read-if1 invariant_loop decreases_loop
-within c = idle-within c.before.loop.invariant.2
+within : tie.Need-bounds-counts-x invariant_loop decreases_loop
+within c = idle-within c.loop-x.invariant.2
 
-less : tie.Need-loop-smaller invariant_loop decreases_loop
-less c = omega (arith, idle-within c.before.before.loop.invariant.2)
+less : tie.Need-loop-x-smaller invariant_loop decreases_loop
+less c = omega (arith, idle-within c.loop-x.invariant.2)
 
-again : tie.Need-loop-preserved invariant_loop decreases_loop
+again : tie.Need-loop-x-preserved invariant_loop decreases_loop
 again c =
-    let at = c.before.before.loop in (
+    let at = c.loop-x in (
       omega arith,
-      λ y l m. elim (ℕ_discrete y at.x) [ yes e ↦ rw e c.if1.true | no d ↦ at.invariant.1 y l (omega arith) ],
-      idle_later at.invariant.2 c.if1.true,
+      λ y l m. elim (ℕ_discrete y at.x) [ yes e ↦ rw e c.loop-x-test.true | no d ↦ at.invariant.1 y l (omega arith) ],
+      idle_later at.invariant.2 c.loop-x-test.true,
     )
 
 found : tie.Need-returns invariant_loop decreases_loop
 found c =
-    let at = c.before.before.loop in
-    record { behind = at.invariant.0; within = idle-within at.invariant.2; idle = c.if1.false; first = at.invariant.1 }
+    let at = c.loop-x in
+    record { behind = at.invariant.0; within = idle-within at.invariant.2; idle = c.loop-x-test.false; first = at.invariant.1 }
 
 pub next_idle_spec : {M : Type 1} → statement M
 next_idle_spec = tie.close (tie.spec invariant_loop decreases_loop holds (λ c. search rules) within (λ c. search rules) less again found)

@@ -5,14 +5,14 @@ use borrow.Author.Tests.{lt-ltb, le-ltb}
 use Rattle.block_selection_bits.proofs.positions.place_head.Statement.{statement}
 use Rattle.block_selection_bits.proofs.positions.place_head.Tie as tie
 
-within : tie.Need-slice-write-list
-within c = c.before.requires.1 c.if1.true
+within : tie.Need-bounds-list-head
+within c = c.requires.1 c.if-count-gt0.true
 
-placed : tie.Need-returns
-placed c = rw (lt-ltb 0 c.before.args.count c.if1.true)
+placed : tie.Need-returns-then-count-gt0
+placed c = rw (lt-ltb 0 c.args.count c.if-count-gt0.true)
 
-left : tie.Need-returns-2
-left c = rw (le-ltb 0 c.before.args.count c.if1.false)
+left : tie.Need-returns-else-count-gt0
+left c = rw (le-ltb 0 c.args.count c.if-count-gt0.false)
 
 pub place_head_spec : {M : Type 1} → statement M
 place_head_spec =

@@ -15,42 +15,36 @@ use Rattle.block_selection_bits.proofs.program.store_first.Statement.{statement}
 use Rattle.block_selection_bits.proofs.program.store_first.Tie as tie
 
 -- the way back from the count of the network's rows to the network, to the start
-abbrev network : tie.After-permutation-count → tie.After-store-network
+abbrev network : tie.After-permutation_count → tie.After-store_network
 network c = c.before.before.before
 
-abbrev start : tie.After-store-network → tie.Start
+abbrev start : tie.After-store_network → tie.Start
 start c = c.before.before.before.before.before
 
-few : tie.Need-overflow-add-chain
+few : tie.Need-overflow_add-chain
 few c =
-    let s = start (network c) in
-    let R = s.pre.0.size in
-    omega (arith, c.permutation-count.ensures, few-rows (level_of (length s.args.list.now)) R.level, s.pre.1.1)
+    let R = c.requires.0.size in
+    omega (arith, c.permutation_count.ensures, few-rows (level_of (length c.args.list.now)) R.level, c.requires.1.1)
 
-for_chain : tie.Need-store-chain-requires
+for_chain : tie.Need-store_chain-requires
 for_chain c κs =
-    let s = start (network c.before) in
-    let R = s.pre.0.size in (
-      (R, s.pre.0.names),
-      (s.pre.1.0, omega (arith, c.before.permutation-count.ensures, few-rows (level_of (length s.args.list.now)) R.level, s.pre.1.1, R.most)),
+    let R = c.requires.0.size in (
+      (R, c.requires.0.names),
+      (c.requires.1.0, omega (arith, c.permutation_count.ensures, few-rows (level_of (length c.args.list.now)) R.level, c.requires.1.1, R.most)),
     )
 
-behind : tie.Need-overflow-add-result
+behind : tie.Need-overflow_add-result
 behind c =
-    let counted = c.before.before.before.before in
-    let count = counted.permutation-count in
-    let s = start (network counted) in
-    let R = s.pre.0.size in
-    omega (arith, count.ensures, few-rows (level_of (length s.args.list.now)) R.level, s.pre.1.1, R.most)
+    let count = c.permutation_count in
+    let R = c.requires.0.size in
+    omega (arith, count.ensures, few-rows (level_of (length c.args.list.now)) R.level, c.requires.1.1, R.most)
 
 stored : tie.Need-returns
 stored c =
-    let chain = c.before.before.store-chain in
-    let counted = c.before.before.before.before in
-    let count = counted.permutation-count in
-    let first = (network counted).store-network in
-    let s = start (network counted) in
-    let a = s.args in
+    let chain = c.store_chain in
+    let count = c.permutation_count in
+    let first = c.store_network in
+    let a = c.args in
     let list = a.list.now in
     let C = chain_bits_by a.counts.now list in (
       ap (λ k. a.start + k + (length list - 1)) count.ensures ∙ add_assoc a.start _ (length list - 1),
@@ -58,11 +52,10 @@ stored c =
           ∙ stored-behind a.program.now a.start (network_bits list) C _ (length-wanted_bits (level_of (length list)) list),
     )
 
-some : tie.Need-overflow-sub-result
-some c = (start (network c.before.before.before.before)).requires.0.size.some
+some : tie.Need-overflow_sub-result
+some c = c.requires.0.size.some
 
 pub store_first_spec : {M : Type 1} → statement M
 store_first_spec =
     tie.close
-    (tie.spec
-    (λ c κs. search rules) (λ c. search rules) (λ c κs. search rules) few for_chain some behind (λ c. search rules) stored)
+    (tie.spec (λ c κs. search rules) (λ c. search rules) (λ c κs. search rules) few for_chain some behind (λ c. search rules) stored)

@@ -8,11 +8,10 @@ use Rattle.block_selection_bits.proofs.ArraysLaws.{cleared}
 use Rattle.block_selection_bits.proofs.program.store_large.Statement.{statement}
 use Rattle.block_selection_bits.proofs.program.store_large.Tie as tie
 
-for_arrays : tie.Need-store-in-arrays-requires
+for_arrays : tie.Need-store_in_arrays-requires
 for_arrays c κs =
-    let s = c.before.before.before.before.before.before in
-    let enough = power_small (selection_level s.args.m s.args.n) (selection-level-small s.requires.0.sizes) in
-    (s.requires, cleared max_size enough (omega arith))
+    let enough = power_small (selection_level c.args.m c.args.n) (selection-level-small c.requires.0.sizes) in
+    (c.requires, cleared max_size enough (omega arith))
 
 pub store_large_spec : {M : Type 1} → statement M
 store_large_spec =

@@ -7,9 +7,8 @@ use Rattle.block_selection_bits.proofs.program.store_network.Tie as tie
 
 stored : tie.Need-returns
 stored c =
-    let call = c.before.before.program-permutation-at in
-    let s = c.before.before.before.before.before.before in
-    call.ensures.1 ∙ network-stored s.args.program.now s.requires
+    let call = c.program_permutation_at in
+    call.ensures.1 ∙ network-stored c.args.program.now c.requires
 
 pub store_network_spec : {M : Type 1} → statement M
 store_network_spec = tie.close (tie.spec (λ c. search rules) (λ c κs. search rules) (λ c. search rules) stored)

@@ -6,10 +6,9 @@ use Rattle.block_selection_bits.proofs.ArraysLaws.{cleared}
 use Rattle.block_selection_bits.proofs.program.store_small.Statement.{statement}
 use Rattle.block_selection_bits.proofs.program.store_small.Tie as tie
 
-for_arrays : tie.Need-store-in-arrays-requires
+for_arrays : tie.Need-store_in_arrays-requires
 for_arrays c κs =
-    let s = c.before.before.before.before.before.before in
-    (s.requires.0, cleared small_size s.requires.1 (omega arith))
+    (c.requires.0, cleared small_size c.requires.1 (omega arith))
 
 pub store_small_spec : {M : Type 1} → statement M
 store_small_spec =

@@ -7,15 +7,15 @@ use lib.ListN.{get_or}
 use Rattle.block_selection_bits.proofs.program.wanted_bit.Statement.{statement}
 use Rattle.block_selection_bits.proofs.program.wanted_bit.Tie as tie
 
-none : tie.Need-returns
+none : tie.Need-returns-then-counts-j-eq0
 none c =
-    let a = c.before.before.before.before.args in
-    rw (← c.before.before.wide.ensures.0) (rw c.if1.true)
+    let a = c.args in
+    rw (← c.wide-j.ensures.0) (rw c.if-counts-j-eq0.true)
 
-some : tie.Need-returns-2
+some : tie.Need-returns-else-counts-j-eq0
 some c =
-    let a = c.before.before.before.before.args in
-    rw (← c.before.before.wide.ensures.0) (rw (lt-ltb 0 (get_or a.counts.now (c.before.before.wide.result - 1) 0) (omega (arith, c.if1.false))))
+    let a = c.args in
+    rw (← c.wide-j.ensures.0) (rw (lt-ltb 0 (get_or a.counts.now (c.wide-j.result - 1) 0) (omega (arith, c.if-counts-j-eq0.false))))
 
 pub wanted_bit_spec : {M : Type 1} → statement M
 wanted_bit_spec =

@@ -16,51 +16,45 @@ use Rattle.block_selection_bits.proofs.programming.program_selection.Statement.{
 use Rattle.block_selection_bits.proofs.programming.program_selection.Tie as tie
 
 -- where the checks are done, none fails
-module _ (c : tie.After-enum-told) where
-  none : let a = c.before.before.before.before.before.args in
+module _ (c : tie.In-Done) where
+  none : let a = c.args in
       0 ≡ selection_program_at_fault a.m a.n a.wanted.now 0 (length a.program.now)
-  none = answer-passes c.enum_told.given.1 c.before.before.check-selection.ensures
+  none = answer-passes c.in-Done.is c.check_selection.ensures
 
-  passes : let a = c.before.before.before.before.before.args in SelectionPasses a.m a.n a.wanted.now 0 (length a.program.now)
+  passes : let a = c.args in SelectionPasses a.m a.n a.wanted.now 0 (length a.program.now)
   passes = selection-program-passes (sym none)
 
 -- the way back from the cleared bytes to the checks
-abbrev checked : tie.After-fill-bytes → tie.After-enum-told
+abbrev checked : tie.After-fill_bytes → tie.In-Done
 checked c = c.before.before.before.before
 
-for_bits : tie.Need-store-program-requires
+for_bits : tie.Need-store_program-requires
 for_bits c κs =
-    let cleared = c.before.before.before in
-    let h = passes (checked cleared) in
-    (record { sizes = h.sizes; selected = h.selected; fits = rw cleared.fill-bytes.auto.0 h.fits }, omega arith)
+    let h = passes c.before.before.before.before.before.before.before in
+    (record { sizes = h.sizes; selected = h.selected; fits = rw c.fill_bytes.auto.bytes h.fits }, omega arith)
 
-refused : tie.Need-returns
+refused : tie.Need-returns-in-Refused
 refused c =
-    let f = c.before.f.given in
-    let a = c.before.before.before.before.before.before.args in
+    let a = c.args in
     let front = selection-fault-at a.m a.n a.wanted.now (length a.program.now) in
-    let e = answer-refuses f.1 c.before.before.before.check-selection.ensures ∙ front in
-    (e, filled-refused f.0.0 _ _ _ e)
+    let e = answer-refuses c.in-Refused.is c.check_selection.ensures ∙ front in
+    (e, filled-refused c.in-Refused.f _ _ _ e)
 
-done : tie.Need-returns-2
+done : tie.Need-returns-in-Done
 done c =
-    let cleared = c.before.before.before.before.before.before in
-    let bytes = cleared.before.bytes-for in
-    let counted = cleared.before.before.selection-count in
-    let told = checked cleared in
-    let a = told.before.before.before.before.before.args in
+    let bytes = c.bytes_for in
+    let counted = c.selection_count in
+    let a = c.args in
     let size = bytes.ensures ∙ ap bytes_for (counted.ensures ∙ sym (length-selection_bits a.m a.n a.wanted.now)) in
-    let room = (passes told).fits in
-    let z = none told ∙ selection-fault-at a.m a.n a.wanted.now (length a.program.now) in (
+    let room = (passes c.before.before.before.before.before.before.before.before.before.before).fits in
+    let z = none c.before.before.before.before.before.before.before.before.before.before ∙ selection-fault-at a.m a.n a.wanted.now (length a.program.now) in (
       z,
       is-filled _ _ _ _
           (store_cleared (selection_bits a.m a.n a.wanted.now) a.program.now size (omega (arith, counted.ensures, bytes.ensures, room))
-          cleared.fill-bytes.ensures c.before.before.store-program.ensures) z,
+          c.fill_bytes.ensures c.store_program.ensures) z,
     )
 
 pub program_selection_spec : {M : Type 1} → statement M
 program_selection_spec =
     tie.close
-    (tie.spec
-    (λ c κs. search rules) (λ c. search rules) (λ c. search rules) (λ c κs. search rules) (λ c κs. search rules) (λ c κs. search rules) for_bits refused
-    (λ c. search rules) done)
+    (tie.spec (λ c κs. search rules) (λ c. search rules) (λ c. search rules) (λ c κs. search rules) (λ c κs. search rules) (λ c κs. search rules) for_bits refused (λ c. search rules) done)

@@ -15,49 +15,41 @@ use Rattle.block_selection_bits.proofs.programming.program_selection_at.Statemen
 use Rattle.block_selection_bits.proofs.programming.program_selection_at.Tie as tie
 
 -- where the checks are done, none fails
-module _ (c : tie.After-enum-told) where
-  none : let a = c.before.before.before.before.before.args in
+module _ (c : tie.In-Done) where
+  none : let a = c.args in
       0 ≡ selection_program_at_fault a.m a.n a.wanted.now a.start (length a.program.now)
-  none = answer-passes c.enum_told.given.1 c.before.before.check-selection.ensures
+  none = answer-passes c.in-Done.is c.check_selection.ensures
 
-  passes : let a = c.before.before.before.before.before.args in
+  passes : let a = c.args in
       SelectionPasses a.m a.n a.wanted.now a.start (length a.program.now)
   passes = selection-program-passes (sym none)
 
-starts : tie.Need-overflow-sub-store-program
+starts : tie.Need-slice_bounds-store_program-count
 starts c = let h = (passes c.before).fits in omega arith
 
-starts-within : tie.Need-slice-bounds-store-program-start
+starts-within : tie.Need-slice_bounds-store_program-start
 starts-within c = let h = (passes c.before).fits in omega arith
 
-for_bits : tie.Need-store-program-requires
+for_bits : tie.Need-store_program-requires
 for_bits c κs =
-    let found = c.before.before in
-    let told = found.before in
-    (passes_in_part told.before.before.before.before.before.args.program.now (passes told) found.bit_byte.ensures c.bit-place.ensures, omega arith)
+    (passes_in_part c.args.program.now (passes c.before.before.before) c.bit_byte-byte.ensures c.bit_place.ensures, omega arith)
 
-refused : tie.Need-returns
+refused : tie.Need-returns-in-Refused
 refused c =
-    let f = c.before.f.given in
-    let e = answer-refuses f.1 c.before.before.before.check-selection.ensures in
-    (e, stored_refused f.0.0 _ _ _ _ e)
+    let e = answer-refuses c.in-Refused.is c.check_selection.ensures in
+    (e, stored_refused c.in-Refused.f _ _ _ _ e)
 
-done : tie.Need-returns-2
+done : tie.Need-returns-in-Done
 done c =
-    let stored = c.before.before in
-    let found = stored.before.before.before in
-    let told = found.before in
-    let a = told.before.before.before.before.before.args in
-    let z = none told in (
+    let a = c.args in
+    let z = none c.before.before.before.before.before.before in (
       z,
       store_from_byte a.program.now a.start (selection_bits a.m a.n a.wanted.now)
-          found.bit_byte.ensures stored.before.bit-place.ensures (let h = (passes told).ranges in omega arith) stored.store-program.ensures
+          c.bit_byte-byte.ensures c.bit_place.ensures (let h = (passes c.before.before.before.before.before.before).ranges in omega arith) c.store_program.ensures
           ∙ stored-done _ _ _ _ z,
     )
 
 pub program_selection_at_spec : {M : Type 1} → statement M
 program_selection_at_spec =
     tie.close
-    (tie.spec
-    (λ c κs. search rules) (λ c. search rules) (λ c. search rules) (λ c κs. search rules) starts starts-within (λ c. search rules)
-    (λ c κs. search rules) for_bits refused (λ c. search rules) done)
+    (tie.spec (λ c κs. search rules) (λ c. search rules) (λ c. search rules) (λ c κs. search rules) starts starts-within (λ c. search rules) (λ c κs. search rules) for_bits refused (λ c. search rules) done)
