@@ -55,14 +55,13 @@ for_first c κs =
 for_second : tie.Need-store_second-requires
 for_second c κs =
     let first = c.store_first-second in
-    let kept = c.find_positions.auto.1.1.1 in
     let found = c.find_positions.ensures in
     let size = c.selection_positions-size in
     let A = arrays c.before.before.before.before.before.before.before.before.before.before.before.before.before.before.before.before.before in
     let len = ap length found.listed ∙ length-list_of size.result _ in
     let room = second-room c.requires.0.0 size.ensures len first.ensures.0 in (
       (size-allowed c.requires.0.0 size.ensures, wanted-inputs c.before.before.before.before.before.before.before.before.before.before.before.before.before.before.before.before.before),
-      ((rw kept.0 A.head_places, rw kept.1.0 A.list_places, found.headed), rw c.store_first-second.auto.program room),
+      ((rw c.find_positions.auto.heads A.head_places, rw c.find_positions.auto.list A.list_places, found.headed), rw c.store_first-second.auto.program room),
     )
 
 stored : tie.Need-returns

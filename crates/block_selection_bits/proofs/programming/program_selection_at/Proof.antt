@@ -45,7 +45,7 @@ done c =
     let z = none c.before.before.before.before.before.before in (
       z,
       store_from_byte a.program.now a.start (selection_bits a.m a.n a.wanted.now)
-          c.bit_byte-byte.ensures c.bit_place.ensures (let h = (passes c.before.before.before.before.before.before).ranges in omega arith) c.store_program.ensures
+          c.bit_byte-byte.ensures c.bit_place.ensures (let h = (passes c.before.before.before.before.before.before).fits in omega arith) c.store_program.ensures
           ∙ stored-done _ _ _ _ z,
     )
 
