@@ -4,7 +4,7 @@ use native.Mathlib.Omega.{arith}
 use mathlib.Core.Path.{◌≡◌, refl, ap}
 use mathlib.Core.Logic.{inl, inr}
 use mathlib.Core.Bool.{Bool, true, false}
-use mathlib.Core.List.{List}
+use mathlib.Core.List.{List, [], ◌∷◌, ◌++◌}
 use lib.Dec.{ltb}
 use lib.ListN.{length}
 use Rattle.lists.proofs.CountingLaws.{passed}
@@ -12,9 +12,10 @@ use Rattle.fault.specs.declared.Fault.{Fault}
 use Rattle.plan.specs.Record.{max_inputs, max_gates, max_outputs, gate_wire}
 use Rattle.plan.specs.Rules.{operand_allowed}
 use Rattle.plan.proofs.RulesLaws.{operand_bounds}
-use Rattle.plan_fields.specs.Parsing.{Parsed, got, refused, refuse, Step, followed, field, word_at, standing, in_order}
-use Rattle.plan_fields.specs.Fields.{first_place, second_place, map_bit, count_field, map_field, operand_field, gate_step_within}
+use Rattle.plan_fields.specs.Parsing.{Parsed, got, refused, refuse, Step, ◌>>=◌, pure, followed, field, word_at, standing, in_order}
+use Rattle.plan_fields.specs.Fields.{first_place, second_place, map_bit, count_field, map_field, operand_field, gate_fields, gate_step_within}
 use Rattle.plan_reading.specs.PlanFile.{not_stub, whole_file, plan_file, drawing_file}
+use Rattle.plan_drawn.proofs.WholeFileLaws.{table_on, second_on, wires_on, body_on, outputs_on, gates_on, inputs_on}
 
 -- what a plan's step gives, beside what a drawing's gives: the same, or an operand is refused
 pub data Beside {A : Type 0} (plain drawn : Parsed A) : Type 0 where
@@ -56,9 +57,9 @@ standing_beside false default own bound h s at = the_same refl
 gate_beside : (own bound : ℕ) → own ≤ bound → (s : List ℕ) (at : ℕ) → Beside (gate_step_within own own s at) (gate_step_within bound own s at)
 unfolding gate_step_within
 gate_beside own bound h s at =
-    alike_then _ _ s (map_field s at) λ m a.
-    beside_then _ _ s (standing_beside (map_bit m first_place) (own - 1) own bound h s a) λ x b.
-    beside_then _ _ s (standing_beside (map_bit m second_place) x own bound h s b) λ y c.
+    alike_then (gate_fields own own) (gate_fields bound own) s (map_field s at) λ m a.
+    beside_then (second_on own m) (second_on bound m) s (standing_beside (map_bit m first_place) (own - 1) own bound h s a) λ x b.
+    beside_then (table_on m x) (table_on m x) s (standing_beside (map_bit m second_place) x own bound h s b) λ y c.
     the_same refl
 
 -- items in order
@@ -67,17 +68,18 @@ in_order_beside : {A : Type 0} (plain drawn : ℕ → Step A) (s : List ℕ) (at
 unfolding in_order
 in_order_beside plain drawn s at zero each = the_same refl
 in_order_beside plain drawn s at (suc n) each =
-    beside_then _ _ s (in_order_beside plain drawn s at n (λ i a l. each i a (omega arith))) λ xs mid.
-    beside_then _ _ s (each n mid (omega arith)) λ x next.
+    beside_then (λ xs. plain n >>= λ x. pure (xs ++ (x ∷ []))) (λ xs. drawn n >>= λ x. pure (xs ++ (x ∷ []))) s
+    (in_order_beside plain drawn s at n (λ i a l. each i a (omega arith))) λ xs mid.
+    beside_then (λ x. pure (xs ++ (x ∷ []))) (λ x. pure (xs ++ (x ∷ []))) s (each n mid (omega arith)) λ x next.
     the_same refl
 
 -- the whole file
 pub file_beside : (s : List ℕ) → Beside (plan_file s 0) (drawing_file s 0)
 unfolding whole_file
 file_beside s =
-    alike_then _ _ s (not_stub s 0) λ _ o.
-    alike_then _ _ s (count_field max_inputs Fault.Inputs s o) λ u a.
-    alike_then _ _ s (count_field max_gates Fault.Gates s a) λ k b.
-    alike_then _ _ s (count_field max_outputs Fault.Outputs s b) λ v c.
-    beside_then _ _ s (in_order_beside _ _ s c k (λ i at l. gate_beside (gate_wire u i) (gate_wire u k) (omega arith) s at)) λ gs d.
+    alike_then (λ _. inputs_on false) (λ _. inputs_on true) s (not_stub s 0) λ _ o.
+    alike_then (gates_on false) (gates_on true) s (count_field max_inputs Fault.Inputs s o) λ u a.
+    alike_then (outputs_on false u) (outputs_on true u) s (count_field max_gates Fault.Gates s a) λ k b.
+    alike_then (body_on false u k) (body_on true u k) s (count_field max_outputs Fault.Outputs s b) λ v c.
+    beside_then (wires_on u k v) (wires_on u k v) s (in_order_beside _ _ s c k (λ i at l. gate_beside (gate_wire u i) (gate_wire u k) (omega arith) s at)) λ gs d.
     the_same refl

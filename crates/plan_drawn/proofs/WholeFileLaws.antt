@@ -23,11 +23,11 @@ use Rattle.plan.specs.Rules.{count_allowed, map_allowed, operand_allowed, max_ta
 use Rattle.plan.proofs.RulesLaws.{operand_bounds, source_bounds}
 use Rattle.plan.specs.Faults.{CountsWithin, GateWithin, OutputWithin}
 use Rattle.plan.proofs.FaultsLaws.{counts_in}
-use Rattle.plan_fields.specs.Parsing.{Parsed, got, Step, field, word_at, byte_at, standing, in_order}
+use Rattle.plan_fields.specs.Parsing.{Parsed, got, Step, ◌>>=◌, pure, field, word_at, byte_at, standing, in_order}
 use Rattle.plan_fields.proofs.ParsingLaws.{ParsedAs, gives, refuses, gives_then, gives_also}
-use Rattle.plan_fields.specs.Fields.{first_place, second_place, table_place, absent_table, table_limit, table_field, map_bit, operand_field, gate_step_within}
+use Rattle.plan_fields.specs.Fields.{first_place, second_place, table_place, absent_table, table_limit, table_of_byte, table_field, map_bit, count_field, operand_field, gate_fields, gate_step_within}
 use Rattle.plan_fields.proofs.FieldsLaws.{byte-table-bound}
-use Rattle.plan_reading.specs.PlanFile.{operand_bound, output_step, header_bytes, not_stub, at_end, whole_file}
+use Rattle.plan_reading.specs.PlanFile.{operand_bound, gate_steps, output_step, output_steps, header_bytes, not_stub, at_end, whole_file}
 use Rattle.plan_drawn.specs.DrawnFile.{cursor_behind}
 
 -- the numbers of reading: 1 to 10
@@ -56,19 +56,28 @@ operand_as false bound default s at h = gives h
 table_as : (stands second : Bool) (s : List ℕ) (at : ℕ)
     → ParsedAs (λ t _. t ≤ max_table) FileNumber (standing stands (table_field second) absent_table s at)
 table_as true second s at =
-    gives_then _ s (field_as 1 byte_at (λ b. leb b (table_limit second)) Fault.Table s at (lit≤ tt, lit≤ tt)) λ b next x.
+    gives_then (λ b. pure (table_of_byte second b)) s (field_as 1 byte_at (λ b. leb b (table_limit second)) Fault.Table s at (lit≤ tt, lit≤ tt)) λ b next x.
     gives (byte-table-bound second b (leb-true b (table_limit second) x.0))
 table_as false second s at = gives (lit≤ tt)
+
+-- a gate's fields from the table on, and from the second operand on
+abbrev pub table_on : ℕ → ℕ → ℕ → Step Gate
+table_on m x y =
+    standing (map_bit m table_place) (table_field (map_bit m second_place)) absent_table >>= λ t.
+    pure (record { first = wire x; second = wire y; table = t })
+
+abbrev pub second_on : ℕ → ℕ → ℕ → Step Gate
+second_on bound m x = standing (map_bit m second_place) (operand_field bound) x >>= table_on m x
 
 -- a gate, if its default operand is within the bound
 gate_as : (s : List ℕ) (bound own at : ℕ) → 2 ≤ own → own ≤ bound
     → ParsedAs (λ g _. GateWithin bound g) FileNumber (gate_step_within bound own s at)
 unfolding gate_step_within
 gate_as s bound own at low h =
-    gives_then _ s (field_as 1 byte_at map_allowed Fault.Map s at (lit≤ tt, lit≤ tt)) λ m a map.
-    gives_then _ s (operand_as (map_bit m first_place) bound (own - 1) s a ((operand_bounds bound (own - 1)).1 (omega arith, omega arith))) λ x b first.
-    gives_then _ s (operand_as (map_bit m second_place) bound x s b first) λ y c second.
-    gives_then _ s (table_as (map_bit m table_place) (map_bit m second_place) s c) λ t next table.
+    gives_then (gate_fields bound own) s (field_as 1 byte_at map_allowed Fault.Map s at (lit≤ tt, lit≤ tt)) λ m a map.
+    gives_then (second_on bound m) s (operand_as (map_bit m first_place) bound (own - 1) s a ((operand_bounds bound (own - 1)).1 (omega arith, omega arith))) λ x b first.
+    gives_then (table_on m x) s (operand_as (map_bit m second_place) bound x s b first) λ y c second.
+    gives_then (λ t. pure (record { first = wire x; second = wire y; table = t })) s (table_as (map_bit m table_place) (map_bit m second_place) s c) λ t next table.
     let (f₁, f₂) = (operand_bounds bound x).0 first in
     let (s₁, s₂) = (operand_bounds bound y).0 second in
     gives (record { some_first = f₁; first = f₂; some_second = s₁; second = s₂; table = table })
@@ -76,7 +85,7 @@ gate_as s bound own at low h =
 -- an output
 output_as : (s : List ℕ) (u k at : ℕ) → ParsedAs (λ w _. OutputWithin u k w.0) FileNumber (output_step u k s at)
 output_as s u k at =
-    gives_then _ s (field_as 2 word_at (source_allowed u k) Fault.Source s at (lit≤ tt, lit≤ tt)) λ w next x.
+    gives_then (λ w. pure (wire w)) s (field_as 2 word_at (source_allowed u k) Fault.Source s at (lit≤ tt, lit≤ tt)) λ w next x.
     let (low, high) = (source_bounds u k w).0 x.0 in
     gives (record { above = omega arith; up_to = high })
 
@@ -114,9 +123,28 @@ module _ {A : Type 0} (P : ℕ → A → Type 0) (item : ℕ → Step A) (none :
   unfolding in_order
   in_order_as zero each = gives (record { count = refl; each = λ i l. absurd (omega arith) })
   in_order_as (suc n) each =
-      gives_then _ s (known (in_order_as n (λ i a l. each i a (omega arith)))) λ xs mid old.
-      gives_then _ s (known (each n mid (omega arith))) λ x next new.
+      gives_then (λ xs. item n >>= λ x. pure (xs ++ (x ∷ []))) s (known (in_order_as n (λ i a l. each i a (omega arith)))) λ xs mid old.
+      gives_then (λ x. pure (xs ++ (x ∷ []))) s (known (each n mid (omega arith))) λ x next new.
       gives (items_more n xs mid x next old.0 old.1 new.0 new.1)
+
+-- the rest of a file from its end, its outputs, its gates and each count on
+abbrev pub end_on : ℕ → ℕ → ℕ → List Gate → List PlanWire → Step Plan
+end_on u k v gs os = at_end >>= λ _. pure (plan_of u k v gs os)
+
+abbrev pub wires_on : ℕ → ℕ → ℕ → List Gate → Step Plan
+wires_on u k v gs = output_steps u k v >>= end_on u k v gs
+
+abbrev pub body_on : Bool → ℕ → ℕ → ℕ → Step Plan
+body_on drawn u k v = gate_steps drawn u k k >>= wires_on u k v
+
+abbrev pub outputs_on : Bool → ℕ → ℕ → Step Plan
+outputs_on drawn u k = count_field max_outputs Fault.Outputs >>= body_on drawn u k
+
+abbrev pub gates_on : Bool → ℕ → Step Plan
+gates_on drawn u = count_field max_gates Fault.Gates >>= outputs_on drawn u
+
+abbrev pub inputs_on : Bool → Step Plan
+inputs_on drawn = count_field max_inputs Fault.Inputs >>= gates_on drawn
 
 -- the start of a file that is no stub
 start_as : (s : List ℕ) → ParsedAs (λ _ next. next ≡ 0) FileNumber (not_stub s 0)
@@ -162,16 +190,16 @@ module _ (drawn : Bool) (s : List ℕ) where
   pub file_as : ParsedAs (λ p _. FileHeld p) FileNumber (whole_file drawn s 0)
   unfolding whole_file
   file_as =
-      gives_then _ s (start_as s) λ _ o start.
-      gives_then _ s (field_as 2 word_at (count_allowed max_inputs) Fault.Inputs s o (lit≤ tt, lit≤ tt)) λ u a inputs.
-      gives_then _ s (field_as 2 word_at (count_allowed max_gates) Fault.Gates s a (lit≤ tt, lit≤ tt)) λ k b gates.
-      gives_then _ s (field_as 2 word_at (count_allowed max_outputs) Fault.Outputs s b (lit≤ tt, lit≤ tt)) λ v c outputs.
+      gives_then (λ _. inputs_on drawn) s (start_as s) λ _ o start.
+      gives_then (gates_on drawn) s (field_as 2 word_at (count_allowed max_inputs) Fault.Inputs s o (lit≤ tt, lit≤ tt)) λ u a inputs.
+      gives_then (outputs_on drawn u) s (field_as 2 word_at (count_allowed max_gates) Fault.Gates s a (lit≤ tt, lit≤ tt)) λ k b gates.
+      gives_then (body_on drawn u k) s (field_as 2 word_at (count_allowed max_outputs) Fault.Outputs s b (lit≤ tt, lit≤ tt)) λ v c outputs.
       let counts = counts_in u k v inputs.0 gates.0 outputs.0 in
-      gives_then _ s (in_order_as (Bounded u k) (gate_item u k) zero_gate s c k
+      gives_then (wires_on u k v) s (in_order_as (Bounded u k) (gate_item u k) zero_gate s c k
       (λ i at l. gate_as s (operand_bound drawn u k i) (gate_wire u i) at (omega (arith, counts.some_inputs)) (own-within u k i l))) λ gs d each-gate.
-      gives_then _ s (in_order_as (λ _ w. OutputWithin u k w.0) (λ _. output_step u k) (wire 0) s d v
+      gives_then (end_on u k v gs) s (in_order_as (λ _ w. OutputWithin u k w.0) (λ _. output_step u k) (wire 0) s d v
       (λ _ at _. output_as s u k at)) λ os e each-output.
-      gives_then _ s (end_as s e) λ _ _ _.
+      gives_then (λ _. pure (plan_of u k v gs os)) s (end_as s e) λ _ _ _.
       let six : c ≡ header_bytes = omega (arith, start, inputs.1, gates.1, outputs.1) in
       gives (record {
         gates = gs;

@@ -26,7 +26,7 @@ again c =
 counted : tie.Need-returns invariant_loop decreases_loop
 counted c =
     let loop = c.loop-j in
-    subst (λ n. UsesCounted 0 n [] c.args.t1 loop.uses) (le_antisymm loop.invariant.0 c.loop-j-test.false) loop.invariant.1
+    subst (λ n. UsesCounted 0 n [] c.args.outputs loop.uses) (le_antisymm loop.invariant.0 c.loop-j-test.false) loop.invariant.1
 
 pub count_outputs_spec : {M : Type 1} → statement M
 count_outputs_spec =

@@ -30,17 +30,17 @@ again c =
       omega arith,
       simp length-set loop.invariant.1,
       simp length-set loop.invariant.2,
-      list-step a.firsts.now loop.g (drawn_first a.t1) loop.invariant.3 refl (omega arith),
-      list-step a.seconds.now loop.g (drawn_second a.t1) loop.invariant.4 refl (omega arith),
+      list-step a.firsts.now loop.g (drawn_first a.drawing) loop.invariant.3 refl (omega arith),
+      list-step a.seconds.now loop.g (drawn_second a.drawing) loop.invariant.4 refl (omega arith),
     )
 
 all : tie.Need-returns invariant_loop decreases_loop
 all c =
     let loop = c.loop-g in
     let a = c.args in
-    let e : loop.g ≡ a.t1.gate_count = omega arith in (
-      loop.invariant.3 ∙ ap (λ n. over (list_of n (drawn_first a.t1)) a.firsts.now) e,
-      loop.invariant.4 ∙ ap (λ n. over (list_of n (drawn_second a.t1)) a.seconds.now) e,
+    let e : loop.g ≡ a.drawing.gate_count = omega arith in (
+      loop.invariant.3 ∙ ap (λ n. over (list_of n (drawn_first a.drawing)) a.firsts.now) e,
+      loop.invariant.4 ∙ ap (λ n. over (list_of n (drawn_second a.drawing)) a.seconds.now) e,
     )
 
 pub load_operands_spec : {M : Type 1} → statement M

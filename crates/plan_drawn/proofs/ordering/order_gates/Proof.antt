@@ -94,7 +94,7 @@ again : tie.Need-loop-p-preserved invariant_loop decreases_loop
 again c =
     let loop = c.loop-p in
     let same = loop.invariant.2 in
-    let room : length loop.plan.gates ≡ max_gates = ap length loop.invariant.4 ∙ length-places max_gates zero_gate _ (omega (arith, length-list_of loop.p (renumbered_at c.args.t1), loop.invariant.1)) in
+    let room : length loop.plan.gates ≡ max_gates = ap length loop.invariant.4 ∙ length-places max_gates zero_gate _ (omega (arith, length-list_of loop.p (renumbered_at c.args.drawing), loop.invariant.1)) in
     let low : loop.p < max_gates = omega (arith, c.loop-p-test.true, loop.invariant.1) in
     let stored = stored-gate loop.invariant.5 (omega arith) c.requires.0.within.counts.outputs _ (omega arith) in (
       omega arith,
@@ -109,10 +109,10 @@ again c =
 ordered : tie.Need-returns invariant_loop decreases_loop
 ordered c =
     let loop = c.loop-p in
-    let e : loop.p ≡ c.args.t1.gate_count = omega arith in
-    plan-held _ _ loop.invariant.2 (loop.invariant.4 ∙ ap (λ n. places max_gates zero_gate (list_of n (renumbered_at c.args.t1))) e)
+    let e : loop.p ≡ c.args.drawing.gate_count = omega arith in
+    plan-held _ _ loop.invariant.2 (loop.invariant.4 ∙ ap (λ n. places max_gates zero_gate (list_of n (renumbered_at c.args.drawing))) e)
     (loop.invariant.3 ∙ c.renumber_outputs-renumbered.ensures ∙ ap (places max_outputs (wire 0)) (outputs_of c.requires.0 c.requires.1.0))
-    (subst (λ n. UsesCounted n c.args.t1.output_count loop.plan.gates loop.plan.outputs loop.plan.uses) e loop.invariant.5)
+    (subst (λ n. UsesCounted n c.args.drawing.output_count loop.plan.gates loop.plan.outputs loop.plan.uses) e loop.invariant.5)
 
 pub order_gates_spec : {M : Type 1} → statement M
 order_gates_spec =

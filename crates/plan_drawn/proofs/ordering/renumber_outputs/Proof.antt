@@ -34,7 +34,7 @@ all c =
     let loop = c.loop-j in
     let a = c.args in
     let e : loop.j ≡ a.count = omega arith in
-    loop.invariant.1 ∙ ap (λ n. places max_outputs (wire 0) (list_of n (λ i. wire (get_or a.numbers.now (get_or a.t1 i (wire 0)).0 0)))) e
+    loop.invariant.1 ∙ ap (λ n. places max_outputs (wire 0) (list_of n (λ i. wire (get_or a.numbers.now (get_or a.outputs i (wire 0)).0 0)))) e
 
 pub renumber_outputs_spec : {M : Type 1} → statement M
 renumber_outputs_spec =

@@ -43,7 +43,7 @@ gate-i c =
     c.read_gate.ensures
     ∙ ap₂ (λ b w. gate_step_within b w c.args.file.now c.loop-i.at.at)
     (c.gate_wire-bound.ensures ∙ wire-fits {i = c.args.gates} c.requires.0 c.requires.1)
-    (c.gate_wire-bound.ensures ∙ wire-fits {i = c.loop-i.i} c.requires.0 (omega (arith, low, c.requires.1, c.requires.2)))
+    (c.gate_wire.ensures ∙ wire-fits {i = c.loop-i.i} c.requires.0 (omega (arith, low, c.requires.1, c.requires.2)))
 
 refused-there : tie.Need-returns-in-Refused invariant_loop decreases_loop
 unfolding map_offset
