@@ -9,44 +9,30 @@ use Rattle.fabric_parts.proofs.selections.put_outputs.Statement.{statement}
 use Rattle.fabric_parts.proofs.selections.put_outputs.Tie as tie
 
 -- the way back from the match to S's call, and from there to the start
-abbrev asked : tie.After-outputs2 → tie.After-write-selection-on
+abbrev asked : tie.After-outputs-2-1 → tie.After-write_selection_on-answer
 asked c = c.before.before.before
 
-abbrev start : tie.After-write-selection-on → tie.Start
+abbrev start : tie.After-write_selection_on-answer → tie.Start
 start c = c.before.before.before.before.before
 
-wires-part : tie.Need-slice-aggregate-copy-wires
+wires-part : tie.Need-slice_bounds-copy_wires-end
 wires-part c =
-    let count = c.before.before in
-    let done = asked count.before.before.before in
-    let all = done.write-selection-on.kept.1.1.1.1.1.0 in
-    sym (length-take-le count.smaller.result done.write-selection-on.last.1.1.1.1.1.0 (omega (arith, count.smaller.ensures)))
+    let all = c.write_selection_on-answer.auto.to in
+    sym (length-take-le c.smaller-count.result c.write_selection_on-answer.new.to (omega (arith, c.smaller-count.ensures)))
 
-refused : tie.Need-returns
+refused : tie.Need-returns-in-Refused
 refused c =
-    let told = c.before in
-    let put = asked told.before.before in
-    let a = (start put).args in
-    outputs-kept a.gates a.v a.end a.next.0 a.outs.now a.rows.now put.write-selection-on.ensures told.answer.given.1
+    let a = c.args in
+    outputs-kept a.gates a.v a.end a.next.0 a.outs.now a.rows.now c.write_selection_on-answer.ensures c.in-Refused.is
 
-done : tie.Need-returns-2
+done : tie.Need-returns-in-Done
 done c =
-    let copied = c.before.before in
-    let place = copied.before.before.before in
-    let count = place.before in
-    let told = count.before in
-    let put = asked told.before.before in
-    let a = (start put).args in
-    let all = put.write-selection-on.kept.1.1.1.1.1.0 in
-    outputs-copied a.gates a.v a.end a.next.0 a.outs.now a.rows.now put.write-selection-on.ensures told.enum_told.given.1
-    all place.smaller2.ensures count.smaller.ensures copied.copy-wires.ensures
+    let a = c.args in
+    let all = c.write_selection_on-answer.auto.to in
+    outputs-copied a.gates a.v a.end a.next.0 a.outs.now a.rows.now c.write_selection_on-answer.ensures c.in-Done.is
+    all c.smaller-place.ensures c.smaller-count.ensures c.copy_wires.ensures
 
 pub put_outputs_spec : {M : Type 1} → statement M
 put_outputs_spec =
     tie.close
-    (tie.spec
-    (λ c. search rules) (λ c κs. search rules) (λ c. search rules) (λ c. search rules)
-    -- the output wires and their stretch
-    (λ c κs. search rules) (λ c κs. search rules) (λ c. search rules) wires-part
-    (λ c. search rules) (λ c. search rules) (λ c. search rules) (λ c. search rules) (λ c κs. search rules)
-    (λ c. search rules) refused (λ c. search rules) done)
+    (tie.spec (λ c. search rules) (λ c κs. search rules) (λ c. search rules) (λ c. search rules) (λ c κs. search rules) (λ c κs. search rules) (λ c. search rules) wires-part (λ c. search rules) (λ c. search rules) (λ c. search rules) (λ c. search rules) (λ c κs. search rules) (λ c. search rules) refused (λ c. search rules) done)

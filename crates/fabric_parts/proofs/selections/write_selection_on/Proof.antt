@@ -7,17 +7,14 @@ use Rattle.fabric_parts.proofs.PutLaws.{selection-on}
 use Rattle.fabric_parts.proofs.selections.write_selection_on.Statement.{statement}
 use Rattle.fabric_parts.proofs.selections.write_selection_on.Tie as tie
 
-wires-part : tie.Need-slice-aggregate-write-selection
+wires-part : tie.Need-slice_bounds-write_selection-end
 wires-part c =
-    let first = c.before in
-    sym (length-take-le first.smaller.result first.before.before.before.before.args.from.now (omega arith))
+    sym (length-take-le c.smaller-end.result c.args.from.now (omega arith))
 
 written : tie.Need-returns
 written c =
-    let done = c.before.before.before.before in
-    let first = done.before.before.before.before in
-    let a = first.before.before.before.before.args in
-    selection-on a.m a.n a.next.0 a.from.now a.rows.now a.to.now first.smaller.ensures done.write-selection.ensures
+    let a = c.args in
+    selection-on a.m a.n a.next.0 a.from.now a.rows.now a.to.now c.smaller-end.ensures c.write_selection.ensures
 
 pub write_selection_on_spec : {M : Type 1} → statement M
 write_selection_on_spec =

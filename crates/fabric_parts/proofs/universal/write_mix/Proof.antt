@@ -7,18 +7,11 @@ use Rattle.fabric_parts.proofs.universal.write_mix.Tie as tie
 
 written : tie.Need-returns
 written c =
-    let fed = c.before.before in
-    let put = fed.before.before.before.before in
-    let start = put.before.before.before in
-    let a = start.before.before.before.args in
-    let at = start.smaller.ensures in
-    (mix_put a.count a.pins.now at a.rows.now _ put.put-mix.ensures, mix_fed a.count a.pins.now at a.next.0 _ fed.put-wires.ensures)
+    let a = c.args in
+    let at = c.smaller-middle.ensures in
+    (mix_put a.count a.pins.now at a.rows.now _ c.put_mix.ensures, mix_fed a.count a.pins.now at a.next.0 _ c.put_wires.ensures)
 
 pub write_mix_spec : {M : Type 1} → statement M
 write_mix_spec =
     tie.close
-    (tie.spec
-    (λ c κs. search rules) (λ c κs. search rules)
-    -- the output wires in the pins' place
-    (λ c. search rules) (λ c. search rules) (λ c. search rules) (λ c. search rules) (λ c κs. search rules)
-    (λ c. search rules) (λ c. search rules) written)
+    (tie.spec (λ c κs. search rules) (λ c κs. search rules) (λ c. search rules) (λ c. search rules) (λ c. search rules) (λ c. search rules) (λ c κs. search rules) (λ c. search rules) (λ c. search rules) written)
