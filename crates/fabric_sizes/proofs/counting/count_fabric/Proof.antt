@@ -10,24 +10,22 @@ use Rattle.fabric_sizes.proofs.counting.count_fabric.Statement.{statement}
 use Rattle.fabric_sizes.proofs.counting.count_fabric.Tie as tie
 
 -- where the checks are done, none fails
-module _ (c : tie.After-enum-told) where
-  none : let a = c.before.before.before.args in 0 ≡ counts_fault a.u a.k a.v
-  none = ap answer_number (sym c.enum_told.given.1) ∙ c.before.before.counts-fault.ensures
+module _ (c : tie.In-Done) where
+  none : let a = c.args in 0 ≡ counts_fault a.u a.k a.v
+  none = ap answer_number (sym c.in-Done.is) ∙ c.counts_fault.ensures
 
-  within : let a = c.before.before.before.args in CountsWithin a.u a.k a.v
+  within : let a = c.args in CountsWithin a.u a.k a.v
   within = counts-within _ _ _ (sym none)
 
-refused : tie.Need-returns
+refused : tie.Need-returns-in-Refused
 refused c =
-    refused-counts c.before.f.given.0.0 _ _ _ _
-    (ap answer_number (sym c.before.f.given.1) ∙ c.before.before.before.counts-fault.ensures)
+    refused-counts c.in-Refused.f _ _ _ _
+    (ap answer_number (sym c.in-Refused.is) ∙ c.counts_fault.ensures)
 
-counted : tie.Need-returns-2
-counted c = given-counts _ c.fabric-counts.result (none c.before) c.fabric-counts.ensures
+counted : tie.Need-returns-in-Done
+counted c = given-counts _ c.fabric_counts.result (none c.before) c.fabric_counts.ensures
 
 pub count_fabric_spec : {M : Type 1} → statement M
 count_fabric_spec =
     tie.close
-    (tie.spec
-    (λ c κs. search rules) (λ c. search rules) (λ c. search rules) (λ c. let w = within c in omega arith)
-    (λ c. let w = within c in omega arith) (λ c. let w = within c in omega arith) (λ c κs. search rules) refused counted)
+    (tie.spec (λ c κs. search rules) (λ c. search rules) (λ c. search rules) (λ c. let w = within c in omega arith) (λ c. let w = within c in omega arith) (λ c. let w = within c in omega arith) (λ c κs. search rules) refused counted)

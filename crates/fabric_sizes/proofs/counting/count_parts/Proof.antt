@@ -5,23 +5,18 @@ use Rattle.fabric_sizes.proofs.counting.count_parts.Statement.{statement}
 use Rattle.fabric_sizes.proofs.counting.count_parts.Tie as tie
 
 -- the way back: rows are added up first, and before that the outputs' part is counted
-abbrev rows-added : tie.After-struct-known9 → tie.After-struct-known3
+abbrev rows-added : tie.After-struct_known-9-1 → tie.After-struct_known-3-1
 rows-added c = c.before.before.before.before.before.before
 
-abbrev outputs-counted : tie.After-struct-known3 → tie.After-selection-counts2
+abbrev outputs-counted : tie.After-struct_known-3-1 → tie.After-selection_counts-outputs
 outputs-counted c = c.before.before.before
 
 counts : tie.Need-returns
 counts c =
-    let outputs = outputs-counted (rows-added c) in
-    let universal = outputs.before in
-    let pins = universal.before in
-    fabric_counts _ _ _ pins.before.pre pins.selection-counts.ensures universal.count-universal.ensures
-    outputs.selection-counts2.ensures
+    fabric_counts _ _ _ c.requires c.selection_counts-pins.ensures c.count_universal-universal.ensures
+    c.selection_counts-outputs.ensures
 
 pub count_parts_spec : {M : Type 1} → statement M
 count_parts_spec =
     tie.close
-    (tie.spec
-    (λ c. search rules) (λ c κs. search rules) (λ c κs. search rules) (λ c κs. search rules) (λ c. search rules) (λ c. search rules)
-    (λ c. search rules) (λ c. search rules) (λ c. search rules) (λ c. search rules) (λ c. search rules) (λ c. search rules) counts)
+    (tie.spec (λ c. search rules) (λ c κs. search rules) (λ c κs. search rules) (λ c κs. search rules) (λ c. search rules) (λ c. search rules) (λ c. search rules) (λ c. search rules) (λ c. search rules) (λ c. search rules) (λ c. search rules) (λ c. search rules) counts)

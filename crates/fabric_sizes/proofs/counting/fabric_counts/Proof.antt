@@ -6,7 +6,7 @@ use Rattle.fabric_sizes.proofs.counting.fabric_counts.Statement.{statement}
 use Rattle.fabric_sizes.proofs.counting.fabric_counts.Tie as tie
 
 counts : tie.Need-returns
-counts c = same-counts _ _ c.before.gate-places.ensures c.count-parts.ensures
+counts c = same-counts _ _ c.gate_places.ensures c.count_parts.ensures
 
 pub fabric_counts_spec : {M : Type 1} → statement M
-fabric_counts_spec = tie.close (tie.spec (λ c κs. search rules) (λ c κs. own-places c.gate-places.ensures) counts)
+fabric_counts_spec = tie.close (tie.spec (λ c κs. search rules) (λ c κs. own-places c.gate_places.ensures) counts)

@@ -7,8 +7,8 @@ use Rattle.fabric_sizes.proofs.parts.output_counts.Tie as tie
 
 counts : tie.Need-returns
 counts c =
-    let places = c.before.gate-places.ensures.is_places in
-    subst (λ m. SelectionIs m c.before.before.args.v c.selection-counts.result) places c.selection-counts.ensures
+    let places = c.gate_places-places.ensures.is_places in
+    subst (λ m. SelectionIs m c.args.v c.selection_counts.result) places c.selection_counts.ensures
 
 pub output_counts_spec : {M : Type 1} → statement M
 output_counts_spec = tie.close (tie.spec (λ c κs. search rules) (λ c κs. search rules) counts)

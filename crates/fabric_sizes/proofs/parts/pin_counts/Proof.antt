@@ -5,8 +5,8 @@ use Rattle.fabric_sizes.proofs.parts.pin_counts.Tie as tie
 
 counts : tie.Need-returns
 counts c =
-    let places = c.before.gate-places.ensures.is_places in
-    rw places at c.selection-counts.ensures
+    let places = c.gate_places.ensures.is_places in
+    rw places at c.selection_counts.ensures
 
 pub pin_counts_spec : {M : Type 1} → statement M
 pin_counts_spec = tie.close (tie.spec (λ c κs. search rules) (λ c. search rules) (λ c κs. search rules) counts)

@@ -7,9 +7,9 @@ use Rattle.fabric_sizes.proofs.parts.selection_counts.Tie as tie
 
 counts : tie.Need-returns
 counts c =
-    let rows = c.before.selection-count.ensures in
-    let wires = c.selection-wires.ensures in
-    let few = few-selected c.before.before.requires in
+    let rows = c.selection_count-rows.ensures in
+    let wires = c.selection_wires.ensures in
+    let few = few-selected c.requires in
     record {
       is_rows = rows;
       is_wires = wires;
@@ -22,6 +22,4 @@ counts c =
 pub selection_counts_spec : {M : Type 1} → statement M
 selection_counts_spec =
     tie.close
-    (tie.spec
-    (λ c κs. search rules) (λ c. let few = few-selected c.before.requires in omega (arith, c.selection-count.ensures)) (λ c κs. search rules)
-    (λ c. let few = few-selected c.before.before.requires in omega (arith, c.selection-wires.ensures)) counts)
+    (tie.spec (λ c κs. search rules) (λ c. let few = few-selected c.requires in omega (arith, c.selection_count-rows.ensures)) (λ c κs. search rules) (λ c. let few = few-selected c.requires in omega (arith, c.selection_wires.ensures)) counts)

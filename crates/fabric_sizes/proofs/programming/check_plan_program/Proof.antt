@@ -12,37 +12,34 @@ use Rattle.fabric_sizes.proofs.programming.check_plan_program.Statement.{stateme
 use Rattle.fabric_sizes.proofs.programming.check_plan_program.Tie as tie
 
 -- the way back: from the length to the plan's check
-abbrev told : tie.After-bytes-for → tie.After-enum-told
+abbrev told : tie.After-bytes_for-length → tie.In-Done
 told c = c.before.before.before.before
 
-none : (c : tie.After-enum-told) → 0 ≡ plan_fault c.before.before.before.args.plan
-none c = answer-passes c.enum_told.given.1 c.before.before.plan-fault.ensures
+none : (c : tie.In-Done) → 0 ≡ plan_fault c.args.plan
+none c = answer-passes c.in-Done.is c.plan_fault.ensures
 
-for_parts : tie.Need-count-parts-requires
+for_parts : tie.Need-count_parts-counts-requires
 for_parts c κs = own-places (plan-places _ (sym (none c.before)))
 
-measured : (c : tie.After-bytes-for) → c.bytes-for.result ≡ program_length (told c).before.before.before.args.plan
+measured : (c : tie.After-bytes_for-length) → c.bytes_for-length.result ≡ program_length c.args.plan
 measured c =
-    let t = told c in
-    let p = t.before.before.before.args.plan in
-    let counts = same-counts p.inputs p.output_count (plan-places p (sym (none t))) c.before.before.count-parts.ensures in
-    c.bytes-for.ensures ∙ ap bytes_for counts.is_bits
+    let p = c.args.plan in
+    let counts = same-counts p.inputs p.output_count (plan-places p (sym (none c.before.before.before.before))) c.count_parts-counts.ensures in
+    c.bytes_for-length.ensures ∙ ap bytes_for counts.is_bits
 
-short : tie.Need-returns
+short : tie.Need-returns-then-room-length
 unfolding plan_program_fault
-short c = none (told c.before) then room-refuses (measured c.before) c.if1.true
+short c = none c.before.before.before.before.before then room-refuses (measured c.before) c.if-room-length.true
 
-refused : tie.Need-returns-2
+refused : tie.Need-returns-in-Refused
 unfolding plan_program_fault
-refused c = stop c.before.f.given.0.0 _ (answer-refuses c.before.f.given.1 c.before.before.before.plan-fault.ensures)
+refused c = stop c.in-Refused.f _ (answer-refuses c.in-Refused.is c.plan_fault.ensures)
 
-done : tie.Need-returns-3
+done : tie.Need-returns-else-room-length
 unfolding plan_program_fault
-done c = (none (told c.before) then room-passes (measured c.before) c.if1.false, measured c.before)
+done c = (none c.before.before.before.before.before then room-passes (measured c.before) c.if-room-length.false, measured c.before)
 
 pub check_plan_program_spec : {M : Type 1} → statement M
 check_plan_program_spec =
     tie.close
-    (tie.spec
-    (λ c κs. search rules) (λ c. search rules) (λ c. search rules) (λ c. search rules) for_parts (λ c. search rules) (λ c κs. search rules)
-    short refused done)
+    (tie.spec (λ c κs. search rules) (λ c. search rules) (λ c. search rules) (λ c. search rules) for_parts (λ c. search rules) (λ c κs. search rules) short refused done)

@@ -10,28 +10,24 @@ use Rattle.fabric_sizes.proofs.writing.check_fabric.Statement.{statement}
 use Rattle.fabric_sizes.proofs.writing.check_fabric.Tie as tie
 
 -- where the counts are allowed they are within their limits
-within : (c : tie.After-enum-told) → let a = c.before.before.before.args in CountsWithin a.u a.k a.v
-within c = counts-within _ _ _ (sym (answer-passes c.enum_told.given.1 c.before.before.counts-fault.ensures))
+within : (c : tie.In-Done) → let a = c.args in CountsWithin a.u a.k a.v
+within c = counts-within _ _ _ (sym (answer-passes c.in-Done.is c.counts_fault.ensures))
 
-short : tie.Need-returns
+short : tie.Need-returns-then-room-length
 unfolding fabric_fault
 short c =
-    let told = c.before.before in
-    answer-passes told.enum_told.given.1 told.before.before.counts-fault.ensures then room-refuses c.before.table-length.ensures c.if1.true
+    answer-passes c.in-Done.is c.counts_fault.ensures then room-refuses c.table_length-length.ensures c.if-room-length.true
 
-refused : tie.Need-returns-2
+refused : tie.Need-returns-in-Refused
 unfolding fabric_fault
-refused c = stop c.before.f.given.0.0 _ (answer-refuses c.before.f.given.1 c.before.before.before.counts-fault.ensures)
+refused c = stop c.in-Refused.f _ (answer-refuses c.in-Refused.is c.counts_fault.ensures)
 
-done : tie.Need-returns-3
+done : tie.Need-returns-else-room-length
 unfolding fabric_fault
 done c =
-    let told = c.before.before in
-    answer-passes told.enum_told.given.1 told.before.before.counts-fault.ensures then room-passes c.before.table-length.ensures c.if1.false
+    answer-passes c.in-Done.is c.counts_fault.ensures then room-passes c.table_length-length.ensures c.if-room-length.false
 
 pub check_fabric_spec : {M : Type 1} → statement M
 check_fabric_spec =
     tie.close
-    (tie.spec
-    (λ c κs. search rules) (λ c. search rules) (λ c. search rules) (λ c. let w = within c in omega arith) (λ c. let w = within c in omega arith)
-    (λ c. let w = within c in omega arith) (λ c κs. search rules) short refused done)
+    (tie.spec (λ c κs. search rules) (λ c. search rules) (λ c. search rules) (λ c. let w = within c in omega arith) (λ c. let w = within c in omega arith) (λ c. let w = within c in omega arith) (λ c κs. search rules) short refused done)
