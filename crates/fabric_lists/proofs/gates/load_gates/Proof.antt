@@ -13,25 +13,25 @@ use Rattle.fabric_lists.proofs.GateListsLaws.{gate-step, table_step}
 use Rattle.fabric_lists.proofs.gates.load_gates.Statement.{statement}
 use Rattle.fabric_lists.proofs.gates.load_gates.Tie as tie
 
-abbrev invariant_loop : tie.invariant-loop
+abbrev invariant_loop : tie.invariant-loop-i
 invariant_loop operandList₀ tables₀ plan count i₀ operandList tables i =
     (i ≤ count) × (length operandList ≡ length operandList₀) × (length tables ≡ length tables₀)
     × (operandList ≡ over (list_of (operands * i) (plan_gates plan).operand) operandList₀) × (tables ≡ over (list_of i (plan_gates plan).table) tables₀)
 
-abbrev decreases_loop : tie.decreases-loop
+abbrev decreases_loop : tie.decreases-loop-i
 decreases_loop operandList₀ tables₀ plan count i₀ operandList tables i = count - i
 
-holds : tie.Need-loop-init invariant_loop decreases_loop
+holds : tie.Need-loop-i-init invariant_loop decreases_loop
 unfolding list_of
 holds c = (omega arith, refl, refl, refl, refl)
 
-second_fits_lem : tie.Need-slice-write-operands-2 invariant_loop decreases_loop
+second_fits_lem : tie.Need-bounds-operands-i-in-loop-i invariant_loop decreases_loop
 second_fits_lem c = simp length-set (omega arith)
 
-again : tie.Need-loop-preserved invariant_loop decreases_loop
+again : tie.Need-loop-i-preserved invariant_loop decreases_loop
 again c =
-    let loop = c.before.before.loop in
-    let a = c.before.before.before.before.before.before.args in (
+    let loop = c.loop-i in
+    let a = c.args in (
       omega arith,
       simp length-set loop.invariant.1,
       simp length-set loop.invariant.2,
@@ -41,8 +41,8 @@ again c =
 
 all : tie.Need-returns invariant_loop decreases_loop
 all c =
-    let loop = c.before.loop in
-    let a = c.before.before.before.before.before.args in
+    let loop = c.loop-i in
+    let a = c.args in
     let e : loop.i ≡ loaded_gates a.t1.gate_count (length a.operands.now) (length a.tables.now) = omega arith in (
       loop.invariant.3 ∙ ap (λ n. over (list_of (operands * n) (plan_gates a.t1).operand) a.operands.now) e,
       loop.invariant.4 ∙ ap (λ n. over (list_of n (plan_gates a.t1).table) a.tables.now) e,
@@ -51,7 +51,4 @@ all c =
 pub load_gates_spec : {M : Type 1} → statement M
 load_gates_spec =
     tie.close
-    (tie.spec invariant_loop decreases_loop
-    (λ c κs. search rules) holds (λ c. search rules) (λ c. search rules) (λ c. search rules)
-    (λ c. search rules) (λ c. search rules) (λ c. search rules) (λ c. search rules) (λ c. search rules) second_fits_lem (λ c. search rules)
-    (λ c. search rules) (λ c. search rules) (λ c. search rules) again (λ c. search rules) (λ c. search rules) all)
+    (tie.spec invariant_loop decreases_loop (λ c κs. search rules) holds (λ c. search rules) (λ c. search rules) (λ c. search rules) (λ c. search rules) (λ c. search rules) (λ c. search rules) (λ c. search rules) (λ c. search rules) second_fits_lem (λ c. search rules) (λ c. search rules) (λ c. search rules) (λ c. search rules) again (λ c. search rules) (λ c. search rules) all)

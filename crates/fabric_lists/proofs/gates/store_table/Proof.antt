@@ -8,8 +8,8 @@ use Rattle.fabric_lists.proofs.gates.store_table.Tie as tie
 
 stored : tie.Need-returns
 stored c =
-    let a = c.before.before.before.before.before.args in
-    c.before.before.store-field.ensures ∙ ap (store_bits a.program.now a.start) (table-byte a.table)
+    let a = c.args in
+    c.store_field.ensures ∙ ap (store_bits a.program.now a.start) (table-byte a.table)
 
 pub store_table_spec : {M : Type 1} → statement M
 store_table_spec = tie.close (tie.spec (λ c. search rules) (λ c κs. search rules) (λ c. search rules) stored)

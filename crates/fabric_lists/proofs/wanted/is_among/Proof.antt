@@ -7,20 +7,20 @@ use Rattle.fabric_lists.specs.WantedLists.{is_among}
 use Rattle.fabric_lists.proofs.wanted.is_among.Statement.{statement}
 use Rattle.fabric_lists.proofs.wanted.is_among.Tie as tie
 
-not_above : tie.Need-returns
+not_above : tie.Need-returns-then-wire-before
 unfolding is_among
-not_above c = let a = c.before.before.args in rw (le-ltb a.before a.operand.0 c.if1.true)
+not_above c = let a = c.args in rw (le-ltb a.before a.operand.0 c.if-wire-before.true)
 
-past : tie.Need-returns-2
+past : tie.Need-returns-then-half-wire
 unfolding is_among
 past c =
-    let a = c.before.before.before.args in
+    let a = c.args in
     rw (lt-ltb a.before a.operand.0 (omega arith), lt-leb a.operand.0 (a.before + a.half) (omega arith))
 
-within : tie.Need-returns-3
+within : tie.Need-returns
 unfolding is_among
 within c =
-    let a = c.before.before.before.args in
+    let a = c.args in
     rw (lt-ltb a.before a.operand.0 (omega arith), le-leb a.operand.0 (a.before + a.half) (omega arith))
 
 pub is_among_spec : {M : Type 1} → statement M

@@ -18,44 +18,37 @@ use Rattle.fabric_lists.proofs.wanted.store_choices.Tie as tie
 abbrev choice : ℕ → ℕ → ℕ → List ℕ → ℕ → ℕ
 choice before base half operandList j = choice_at (before + base) half operandList (2 * (base + half) + j)
 
-abbrev invariant_loop : tie.invariant-loop
+abbrev invariant_loop : tie.invariant-loop-j
 invariant_loop before base half operandList program₀ start first half' place rows j₀ program j =
     (j ≤ 2 * half) × (length program ≡ length program₀) × (program ≡ store_bits program₀ start (list_of j (choice before base half operandList)))
 
-abbrev decreases_loop : tie.decreases-loop
+abbrev decreases_loop : tie.decreases-loop-j
 decreases_loop before base half operandList program₀ start first half' place rows j₀ program j = 2 * half - j
 
-holds : tie.Need-loop-init invariant_loop decreases_loop
-holds c = let a = c.before.before.args in (omega arith, refl, store_none a.program.now a.start _)
+holds : tie.Need-loop-j-init invariant_loop decreases_loop
+holds c = let a = c.args in (omega arith, refl, store_none a.program.now a.start _)
 
-again : tie.Need-loop-preserved invariant_loop decreases_loop
+again : tie.Need-loop-j-preserved invariant_loop decreases_loop
 again c =
-    let stored = c.before.before in
-    let packed = stored.before.before in
-    let part = packed.before in
-    let at = part.before.before in
-    let a = at.before.before.before.args in
-    let j = at.loop.j in
-    let n = part.smaller.result in
+    let a = c.args in
+    let j = c.loop-j.j in
+    let n = c.smaller-n.result in
     let first = a.before + a.base in
     let place = 2 * (a.base + a.half) in
     let operandList = a.operands.now in
-    let byte = packed.choices-byte.ensures ∙ number_ext n (λ k. ap (choice_at first a.half operandList) (add_assoc place j k)) in
+    let byte = c.choices_byte-byte.ensures ∙ number_ext n (λ k. ap (choice_at first a.half operandList) (add_assoc place j k)) in
     let step = field_step a.program.now a.start j n (choice a.before a.base a.half operandList)
-    (λ k. choice_lt first a.half operandList (place + k)) (omega arith) at.loop.invariant.2 byte in
-    (omega arith, stored.store-field.auto.0 ∙ at.loop.invariant.1, stored.store-field.ensures ∙ step)
+    (λ k. choice_lt first a.half operandList (place + k)) (omega arith) c.loop-j.invariant.2 byte in
+    (omega arith, c.store_field.auto.program ∙ c.loop-j.invariant.1, c.store_field.ensures ∙ step)
 
 all : tie.Need-returns invariant_loop decreases_loop
 all c =
-    let a = c.before.before.before.before.args in
-    let e : c.before.loop.j ≡ 2 * a.half = omega arith in
-    c.before.loop.invariant.2 ∙ ap (λ n. store_bits a.program.now a.start (list_of n (choice a.before a.base a.half a.operands.now))) e
+    let a = c.args in
+    let e : c.loop-j.j ≡ 2 * a.half = omega arith in
+    c.loop-j.invariant.2 ∙ ap (λ n. store_bits a.program.now a.start (list_of n (choice a.before a.base a.half a.operands.now))) e
     ∙ ap (store_bits a.program.now a.start) (choices_are a.before a.base a.half a.operands.now)
 
 pub store_choices_spec : {M : Type 1} → statement M
 store_choices_spec =
     tie.close
-    (tie.spec invariant_loop decreases_loop
-    (λ c. search rules) (λ c. search rules) (λ c. search rules) (λ c. search rules) holds (λ c. search rules) (λ c κs. search rules) (λ c. search rules)
-    (λ c κs. search rules) (λ c. search rules) (λ c. search rules) (λ c κs. search rules) (λ c. search rules) (λ c. search rules) again
-    (λ c. search rules) all)
+    (tie.spec invariant_loop decreases_loop (λ c. search rules) (λ c. search rules) (λ c. search rules) (λ c. search rules) holds (λ c. search rules) (λ c κs. search rules) (λ c. search rules) (λ c κs. search rules) (λ c. search rules) (λ c. search rules) (λ c κs. search rules) (λ c. search rules) (λ c. search rules) again (λ c. search rules) all)
