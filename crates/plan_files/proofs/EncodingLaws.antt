@@ -18,11 +18,12 @@ use Rattle.plan.specs.Rules.{count_allowed, max_map, map_allowed, operand_allowe
 use Rattle.plan.specs.Faults.{Accepted}
 use Rattle.plan.proofs.RulesLaws.{count_bounds, table-bound, default_allowed}
 use Rattle.plan.proofs.FaultsLaws.{AllowedGate, AllowedPlan, counts_in, accepted-allowed, tallied_of}
-use Rattle.plan_fields.specs.Parsing.{Parsed, got, standing}
+use Rattle.plan_fields.specs.Parsing.{Parsed, got, pure, standing}
 use Rattle.plan_fields.proofs.ParsingLaws.{gives, refuses, gives_then}
-use Rattle.plan_fields.specs.Fields.{first_place, second_place, table_place, absent_table, table_limit, table_of_byte, table_field, map_bit, gate_step_within}
+use Rattle.plan_fields.specs.Fields.{first_place, second_place, table_place, absent_table, table_limit, table_of_byte, table_field, map_bit, gate_fields, gate_step_within}
 use Rattle.plan_fields.proofs.FieldsLaws.{byte-table-bound}
 use Rattle.plan_reading.specs.PlanFile.{output_step, header_bytes, not_stub, at_end, whole_file, plan_file, parsed_outcome, plan_read}
+use Rattle.plan_drawn.proofs.WholeFileLaws.{table_on, second_on, end_on, wires_on, body_on, outputs_on, gates_on, inputs_on}
 use Rattle.plan_files.specs.Encoding.{byte, word, where_standing, table_byte, TwoLines, encode_gate, joined_bytes, encode, LeavesOutDefaults, Choice, used, OfBytes, Encoded}
 use Rattle.plan_files.specs.Encoding.{ReadsExactly, gate_bytes, output_bytes, longest_file, LongestPlan}
 use Rattle.plan_files.proofs.BytesLaws.{encode-bytes}
@@ -152,7 +153,7 @@ table-gives : (s : List ℕ) (stands second : Bool) (at : ℕ) → OfBytes s
     → Gives (λ t next. (stands ≡ false → t ≡ absent_table) × (table_allowed t ≡ true) × (second ≡ false → TwoLines t)
     × BytesStand s at (where_standing stands (byte (table_byte second t))) next) (standing stands (table_field second) absent_table s at)
 table-gives s true second at small =
-    gives_then _ s (field-gives byte_coded s (λ b. leb b (table_limit second)) Fault.Table at small) λ b next x.
+    gives_then (λ b. pure (table_of_byte second b)) s (field-gives byte_coded s (λ b. leb b (table_limit second)) Fault.Table at small) λ b next x.
     let limit = leb-true b (table_limit second) x.0 in
     let (same, two) = byte-table second b limit in
     gives (λ e. absurd (true≢false e), (table-bound _).1 (byte-table-bound second b limit), two, rw same x.1)
@@ -164,10 +165,10 @@ gate-gives : (s : List ℕ) (own at : ℕ) → OfBytes s → 2 ≤ own
 unfolding gate_step_within
 gate-gives s own at small h =
     let operand = standing-gives word_coded s (operand_allowed own) Fault.Operand in
-    gives_then _ s (field-gives byte_coded s map_allowed Fault.Map at small) λ m a map.
-    gives_then _ s (operand (map_bit m first_place) (own - 1) a small (default_allowed own h)) λ x b first.
-    gives_then _ s (operand (map_bit m second_place) x b small first.1) λ y c second.
-    gives_then _ s (table-gives s (map_bit m table_place) (map_bit m second_place) c small) λ t next table.
+    gives_then (gate_fields own own) s (field-gives byte_coded s map_allowed Fault.Map at small) λ m a map.
+    gives_then (second_on own m) s (operand (map_bit m first_place) (own - 1) a small (default_allowed own h)) λ x b first.
+    gives_then (table_on m x) s (operand (map_bit m second_place) x b small first.1) λ y c second.
+    gives_then (λ t. pure (record { first = wire x; second = wire y; table = t })) s (table-gives s (map_bit m table_place) (map_bit m second_place) c small) λ t next table.
     gives (
       m,
       (
@@ -182,7 +183,7 @@ output-gives : (s : List ℕ) (u k j at : ℕ) → OfBytes s
     → Gives (λ w next. (c : ℕ) × OutputOf u k j c w × BytesStand s at (word w.0) next) (output_step u k s at)
 unfolding OutputOf
 output-gives s u k j at small =
-    gives_then _ s (field-gives word_coded s (source_allowed u k) Fault.Source at small) λ w next x. gives (0, x.0, x.1)
+    gives_then (λ w. pure (wire w)) s (field-gives word_coded s (source_allowed u k) Fault.Source at small) λ w next x. gives (0, x.0, x.1)
 
 -- the start of a file that is no stub, before any byte
 start_gives : (s : List ℕ) → Gives (λ _ next. BytesStand s 0 [] next) (not_stub s 0)
@@ -199,16 +200,16 @@ end_gives s at =
 file-gives : (s : List ℕ) → OfBytes s → Gives (λ p next. Encoded s p) (plan_file s 0)
 unfolding whole_file GateOf
 file-gives s small =
-    gives_then _ s (start_gives s) λ _ o start.
-    gives_then _ s (field-gives word_coded s (count_allowed max_inputs) Fault.Inputs o small) λ u a inputs.
-    gives_then _ s (field-gives word_coded s (count_allowed max_gates) Fault.Gates a small) λ k b gates.
-    gives_then _ s (field-gives word_coded s (count_allowed max_outputs) Fault.Outputs b small) λ v c outputs.
+    gives_then (λ _. inputs_on false) s (start_gives s) λ _ o start.
+    gives_then (gates_on false) s (field-gives word_coded s (count_allowed max_inputs) Fault.Inputs o small) λ u a inputs.
+    gives_then (outputs_on false u) s (field-gives word_coded s (count_allowed max_gates) Fault.Gates a small) λ k b gates.
+    gives_then (body_on false u k) s (field-gives word_coded s (count_allowed max_outputs) Fault.Outputs b small) λ v c outputs.
     let own : (i : ℕ) → 2 ≤ gate_wire u i = λ i. omega (arith, (count_bounds max_inputs u).0 inputs.0) in
-    gives_then _ s (in_order-gives (GateOf u) encode_gate zero_gate s (λ i. gate_step_within (gate_wire u i) (gate_wire u i)) k
+    gives_then (wires_on u k v) s (in_order-gives (GateOf u) encode_gate zero_gate s (λ i. gate_step_within (gate_wire u i) (gate_wire u i)) k
     (λ i at _. gate-gives s (gate_wire u i) at small (own i)) c) λ gs d each-gate.
-    gives_then _ s (in_order-gives (OutputOf u k) (λ _ w. word w.0) (wire 0) s (λ _. output_step u k) v
+    gives_then (end_on u k v gs) s (in_order-gives (OutputOf u k) (λ _ w. word w.0) (wire 0) s (λ _. output_step u k) v
     (λ j at _. output-gives s u k j at small) d) λ os e each-output.
-    gives_then _ s (end_gives s e) λ _ _ end.
+    gives_then (λ _. pure (plan_of u k v gs os)) s (end_gives s e) λ _ _ end.
     gives (encoded s u k v gs os a b c d e (inputs.0, stands-append start inputs.1) gates outputs each-gate each-output end)
 
 -- what is read is a file of an accepted plan whose unused places are zero

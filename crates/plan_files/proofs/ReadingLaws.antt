@@ -15,7 +15,7 @@ use borrow.Author.Tests.{ltb-false, le-ltb}
 use Rattle.lists.specs.Lists.{list_of}
 use Rattle.fault.specs.declared.Fault.{Fault}
 use Rattle.fault.proofs.ChecksLaws.{number-positive}
-use Rattle.plan_fields.specs.Parsing.{Parsed, got, Step, field, word_at, byte_at, standing, in_order}
+use Rattle.plan_fields.specs.Parsing.{Parsed, got, Step, ◌>>=◌, pure, field, word_at, byte_at, standing, in_order}
 use Rattle.plan_fields.proofs.ParsingLaws.{ParsedAs, gives, refuses, gives_then, gives_also}
 use Rattle.plan_files.specs.Encoding.{byte, word, joined_bytes, where_standing, OfBytes}
 use Rattle.plan_files.proofs.ListLaws.{joined_same}
@@ -203,6 +203,6 @@ module _ {A : Type 0} (Q : ℕ → ℕ → A → Type 0) (bytes : ℕ → A → 
   unfolding in_order
   in_order-gives item zero each at = gives (items-none at)
   in_order-gives item (suc n) each at =
-      gives_then _ s (in_order-gives item n (λ i a h. each i a (omega arith)) at) λ xs mid old.
-      gives_then _ s (each n mid (omega arith)) λ x next new.
+      gives_then (λ xs. item n >>= λ x. pure (xs ++ (x ∷ []))) s (in_order-gives item n (λ i a h. each i a (omega arith)) at) λ xs mid old.
+      gives_then (λ x. pure (xs ++ (x ∷ []))) s (each n mid (omega arith)) λ x next new.
       gives (items_more at n xs mid old new.0 x next new.1 new.2)

@@ -18,13 +18,13 @@ use Rattle.plan.proofs.RulesLaws.{table-bound}
 use Rattle.plan_evaluation_checks.proofs.EvaluationChecksLaws.{row-bit}
 use Rattle.plan_evaluation.specs.Evaluation.{wire_bit, table_bit}
 use Rattle.plan_evaluation.proofs.EvaluationLaws.{wire-bit, gate-bit}
-use Rattle.plan_fields.specs.Parsing.{got, byte_at, field, standing}
-use Rattle.plan_fields.specs.Fields.{map_field, operand_field, max_two_lines, table_limit, table_of_byte, table_field, first_place, second_place, table_place, absent_table, map_bit, gate_step_within}
+use Rattle.plan_fields.specs.Parsing.{got, pure, byte_at, field, standing}
+use Rattle.plan_fields.specs.Fields.{map_field, operand_field, max_two_lines, table_limit, table_of_byte, table_field, first_place, second_place, table_place, absent_table, map_bit, gate_fields, gate_step_within}
 use Rattle.plan_fields.proofs.ParsingLaws.{field-read, field-got, field-bad, both_read}
 use Rattle.plan_reading.specs.PlanFile.{plan_read, drawing_read}
 use Rattle.plan_order.specs.Drawing.{drawn_order, renumbered, ordered_plan}
 use Rattle.plan_drawn.specs.DrawnFile.{drawn_read}
-use Rattle.plan_drawn.proofs.WholeFileLaws.{FileHeld}
+use Rattle.plan_drawn.proofs.WholeFileLaws.{table_on, second_on, FileHeld}
 use Rattle.plan_drawn.proofs.DrawingFileLaws.{file-held, plan-got, drawing-got}
 use Rattle.plan_drawn.proofs.DrawnTheoremsLaws.{drawn-right_theorem}
 use Rattle.plan_files.specs.Encoding.{TwoLines}
@@ -40,7 +40,7 @@ use Rattle.plan_files.proofs.EncodingLaws.{outer_bits, gate-reads, full-gate}
 table-read : (stands second : Bool) (s : List ℕ) (at t next : ℕ) → standing stands (table_field second) absent_table s at ≡ got t next
     → (stands ≡ true → (last_byte s next ≤ table_limit second) × (t ≡ table_of_byte second (last_byte s next))) × (stands ≡ false → t ≡ absent_table)
 table-read true second s at t next e =
-    let (b, mid, here, end) = both_read _ s (field 1 byte_at (λ b. leb b (table_limit second)) Fault.Table s at) e in
+    let (b, mid, here, end) = both_read (λ b. pure (table_of_byte second b)) s (field 1 byte_at (λ b. leb b (table_limit second)) Fault.Table s at) e in
     let (allowed, value, behind) = field-read 1 byte_at (λ b. leb b (table_limit second)) Fault.Table s at (sym here) in
     let table : table_of_byte second b ≡ t = cc in
     let cursor : mid ≡ next = cc in
@@ -100,10 +100,11 @@ fields_read bound s at m x y b c t d g next here second table e =
 pub table-read_theorem : TableReadTheorem
 unfolding gate_step_within
 table-read_theorem bound own s at next g e =
-    let (m, a, map, e) = both_read _ s (map_field s at) e in
-    let (x, b, first, e) = both_read _ s (standing (map_bit m first_place) (operand_field bound) (own - 1) s a) e in
-    let (y, c, second, e) = both_read _ s (standing (map_bit m second_place) (operand_field bound) x s b) e in
-    let (t, d, table, e) = both_read _ s (standing (map_bit m table_place) (table_field (map_bit m second_place)) absent_table s c) e in
+    let (m, a, map, e) = both_read (gate_fields bound own) s (map_field s at) e in
+    let (x, b, first, e) = both_read (second_on bound m) s (standing (map_bit m first_place) (operand_field bound) (own - 1) s a) e in
+    let (y, c, second, e) = both_read (table_on m x) s (standing (map_bit m second_place) (operand_field bound) x s b) e in
+    let (t, d, table, e) = both_read (λ t. pure (record { first = wire x; second = wire y; table = t })) s
+    (standing (map_bit m table_place) (table_field (map_bit m second_place)) absent_table s c) e in
     fields_read bound s at m x y b c t d g next (field-read 1 byte_at map_allowed Fault.Map s at (sym map)).1 second table e
 
 -- ---- the checks of a table of two lines, and the sixteen tables of four
