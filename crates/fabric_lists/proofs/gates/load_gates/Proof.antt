@@ -35,17 +35,17 @@ again c =
       omega arith,
       simp length-set loop.invariant.1,
       simp length-set loop.invariant.2,
-      gate-step a.t1 a.operands.now loop.i (omega arith) (omega arith) loop.invariant.3,
-      table_step a.t1 a.tables.now loop.i (omega arith) (omega arith) loop.invariant.4,
+      gate-step a.plan a.operands.now loop.i (omega arith) (omega arith) loop.invariant.3,
+      table_step a.plan a.tables.now loop.i (omega arith) (omega arith) loop.invariant.4,
     )
 
 all : tie.Need-returns invariant_loop decreases_loop
 all c =
     let loop = c.loop-i in
     let a = c.args in
-    let e : loop.i ≡ loaded_gates a.t1.gate_count (length a.operands.now) (length a.tables.now) = omega arith in (
-      loop.invariant.3 ∙ ap (λ n. over (list_of (operands * n) (plan_gates a.t1).operand) a.operands.now) e,
-      loop.invariant.4 ∙ ap (λ n. over (list_of n (plan_gates a.t1).table) a.tables.now) e,
+    let e : loop.i ≡ loaded_gates a.plan.gate_count (length a.operands.now) (length a.tables.now) = omega arith in (
+      loop.invariant.3 ∙ ap (λ n. over (list_of (operands * n) (plan_gates a.plan).operand) a.operands.now) e,
+      loop.invariant.4 ∙ ap (λ n. over (list_of n (plan_gates a.plan).table) a.tables.now) e,
     )
 
 pub load_gates_spec : {M : Type 1} → statement M
