@@ -11,26 +11,22 @@ use Rattle.fabric_sheet.proofs.count_kinds.Statement.{statement}
 use Rattle.fabric_sheet.proofs.count_kinds.Tie as tie
 
 -- where the checks are done, none fails
-module _ (c : tie.After-enum-told) where
-  none : let a = c.before.before.before.args in 0 ≡ counts_fault a.u a.k a.v
-  none = ap answer_number (sym c.enum_told.given.1) ∙ c.before.before.counts-fault.ensures
+module _ (c : tie.In-Done) where
+  none : let a = c.args in 0 ≡ counts_fault a.u a.k a.v
+  none = ap answer_number (sym c.in-Done.is) ∙ c.counts_fault.ensures
 
-  within : let a = c.before.before.before.args in CountsWithin a.u a.k a.v
+  within : let a = c.args in CountsWithin a.u a.k a.v
   within = counts-within _ _ _ (sym none)
 
-refused : tie.Need-returns
+refused : tie.Need-returns-in-Refused
 refused c =
-    let answer = c.before in
-    let call = answer.before.before in
-    let a = call.before.args in
-    refused-sheet answer.f.given.0.0 _ (sheet_of a.u a.k a.v) (ap answer_number (sym answer.f.given.1) ∙ call.counts-fault.ensures)
+    let a = c.args in
+    refused-sheet c.in-Refused.f _ (sheet_of a.u a.k a.v) (ap answer_number (sym c.in-Refused.is) ∙ c.counts_fault.ensures)
 
-counted : tie.Need-returns-2
-counted c = given-sheet _ c.sheet-of.result (none c.before) c.sheet-of.ensures
+counted : tie.Need-returns-in-Done
+counted c = given-sheet _ c.sheet_of.result (none c.before) c.sheet_of.ensures
 
 pub count_kinds_spec : {M : Type 1} → statement M
 count_kinds_spec =
     tie.close
-    (tie.spec
-    (λ c κs. search rules) (λ c. search rules) (λ c. search rules) (λ c. let w = within c in omega arith)
-    (λ c. let w = within c in omega arith) (λ c. let w = within c in omega arith) (λ c κs. search rules) refused counted)
+    (tie.spec (λ c κs. search rules) (λ c. search rules) (λ c. search rules) (λ c. let w = within c in omega arith) (λ c. let w = within c in omega arith) (λ c. let w = within c in omega arith) (λ c κs. search rules) refused counted)

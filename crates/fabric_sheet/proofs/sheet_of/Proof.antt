@@ -6,18 +6,11 @@ use Rattle.fabric_sheet.proofs.sheet_of.Tie as tie
 
 sheet : tie.Need-returns
 sheet c =
-    let output = c.before in
-    let block = output.before.before in
-    let input = block.before.before in
-    let a = input.before.before.args in
-    sheet_of_lem a.u a.k a.v input.before.pin-counts.ensures block.before.universal-counts.ensures output.before.output-counts.ensures
-    input.kinds-of.ensures.0 block.kinds-of2.ensures.0 output.kinds-of3.ensures.0 c.added.ensures
+    let a = c.args in
+    sheet_of_lem a.u a.k a.v c.pin_counts.ensures c.universal_counts.ensures c.output_counts.ensures
+    c.kinds_of-input.ensures.0 c.kinds_of-block.ensures.0 c.kinds_of-output.ensures.0 c.added-sum.ensures
 
 pub sheet_of_spec : {M : Type 1} → statement M
 sheet_of_spec =
     tie.close
-    (tie.spec
-    (λ c κs. search rules) (λ c κs. have_kinds (input-rows _ _ 0 c.pin-counts.ensures))
-    (λ c κs. search rules) (λ c κs. have_kinds (block-rows 0 _ 0 c.universal-counts.ensures))
-    (λ c κs. search rules) (λ c κs. have_kinds (output-rows 0 _ _ c.output-counts.ensures))
-    (λ c κs. search rules) sheet)
+    (tie.spec (λ c κs. search rules) (λ c κs. have_kinds (input-rows _ _ 0 c.pin_counts.ensures)) (λ c κs. search rules) (λ c κs. have_kinds (block-rows 0 _ 0 c.universal_counts.ensures)) (λ c κs. search rules) (λ c κs. have_kinds (output-rows 0 _ _ c.output_counts.ensures)) (λ c κs. search rules) sheet)
