@@ -14,28 +14,24 @@ use Rattle.fabric_table_checks.proofs.checking.check_end.Statement.{statement}
 use Rattle.fabric_table_checks.proofs.checking.check_end.Tie as tie
 
 -- where the output wires are made
-made : (c : tie.After-enum-told) → let table = c.before.before.before.before.args.table.now in
+made : (c : tie.In-Done) → let table = c.args.table.now in
     0 ≡ first_of (output_wire_fault table) (outputs_in table)
-made c = ap answer_number (sym c.enum_told.given.1) ∙ c.before.before.check-outputs.ensures
+made c = ap answer_number (sym c.in-Done.is) ∙ c.check_outputs.ensures
 
-many : tie.Need-returns
+many : tie.Need-returns-then-wires-gt-MAX_WIRES
 many c =
-    let told = c.before in
-    let s = told.before.before.before.before in
-    let l : max_wires < wires_in s.args.table.now = omega (arith, s.requires.1) in
-    ◌then◌ (made told) (rw (lt-leb (wires_in s.args.table.now) max_wires l))
+    let l : max_wires < wires_in c.args.table.now = omega (arith, c.requires.1) in
+    ◌then◌ (made c.before) (rw (lt-leb (wires_in c.args.table.now) max_wires l))
 
-unmade : tie.Need-returns-2
+unmade : tie.Need-returns-in-Refused
 unmade c =
-    stop c.before.f.given.0.0 _
-    (ap answer_number (sym c.before.f.given.1) ∙ c.before.before.before.check-outputs.ensures)
+    stop c.in-Refused.f _
+    (ap answer_number (sym c.in-Refused.is) ∙ c.check_outputs.ensures)
 
-within : tie.Need-returns-3
+within : tie.Need-returns-else-wires-gt-MAX_WIRES
 within c =
-    let told = c.before in
-    let s = told.before.before.before.before in
-    let l : wires_in s.args.table.now ≤ max_wires = omega (arith, s.requires.1) in
-    ◌then◌ (made told) (rw (le-leb (wires_in s.args.table.now) max_wires l))
+    let l : wires_in c.args.table.now ≤ max_wires = omega (arith, c.requires.1) in
+    ◌then◌ (made c.before) (rw (le-leb (wires_in c.args.table.now) max_wires l))
 
 pub check_end_spec : {M : Type 1} → statement M
 check_end_spec = tie.close (tie.spec (λ c κs. search rules) (λ c. search rules) (λ c. search rules) many unmade within)

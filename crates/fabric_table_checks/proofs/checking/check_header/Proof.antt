@@ -7,68 +7,54 @@ use Rattle.fabric_table_checks.specs.TableFault.{header_fault}
 use Rattle.fabric_table_checks.proofs.checking.check_header.Statement.{statement}
 use Rattle.fabric_table_checks.proofs.checking.check_header.Tie as tie
 
-short : tie.Need-returns
+short : tie.Need-returns-then-table-lt-HEADER
 unfolding header_fault
-short c = rw (lt-leb 3 _ c.if1.true)
+short c = rw (lt-leb 3 _ c.if-table-lt-HEADER.true)
 
-inputs : tie.Need-returns-2
+inputs : tie.Need-returns-then-not-count_allowed
 unfolding header_fault
 inputs c =
-    let asked = c.before in
-    rw (le-leb 3 _ asked.before.before.if1.false, sym asked.count-allowed.ensures ∙ not-true _ c.if2.true)
+    rw (le-leb 3 _ c.if-table-lt-HEADER.false, sym c.count_allowed.ensures ∙ not-true _ c.if-not-count_allowed.true-raw)
 
-outputs : tie.Need-returns-3
+outputs : tie.Need-returns-then-not-count_allowed-2
 unfolding header_fault
 outputs c =
-    let asked₂ = c.before in
-    let past₁ = asked₂.before.before in
-    let asked₁ = past₁.before in
     rw (
-      le-leb 3 _ asked₁.before.before.if1.false,
-      sym asked₁.count-allowed.ensures ∙ not-false _ past₁.if2.false,
-      sym asked₂.count-allowed2.ensures ∙ not-true _ c.if3.true,
+      le-leb 3 _ c.if-table-lt-HEADER.false,
+      sym c.count_allowed.ensures ∙ not-false _ c.if-not-count_allowed.false-raw,
+      sym c.count_allowed-2.ensures ∙ not-true _ c.if-not-count_allowed-2.true-raw,
     )
 
-other_length : tie.Need-returns-4
+other_length : tie.Need-returns-then-table-expected_length
 unfolding header_fault
 other_length c =
-    let past₂ = c.before.before in
-    let asked₂ = past₂.before in
-    let past₁ = asked₂.before.before in
-    let asked₁ = past₁.before in
     rw (
-      le-leb 3 _ asked₁.before.before.if1.false,
-      sym asked₁.count-allowed.ensures ∙ not-false _ past₁.if2.false,
-      sym asked₂.count-allowed2.ensures ∙ not-false _ past₂.if3.false,
-      ← c.before.expected-length.ensures,
-      ne_eqb _ _ c.if4.true,
+      le-leb 3 _ c.if-table-lt-HEADER.false,
+      sym c.count_allowed.ensures ∙ not-false _ c.if-not-count_allowed.false-raw,
+      sym c.count_allowed-2.ensures ∙ not-false _ c.if-not-count_allowed-2.false-raw,
+      ← c.expected_length.ensures,
+      ne_eqb _ _ c.if-table-expected_length.true,
     )
 
-within : tie.Need-returns-5
+within : tie.Need-returns
 unfolding header_fault
 within c =
-    let past₂ = c.before.before in
-    let asked₂ = past₂.before in
-    let past₁ = asked₂.before.before in
-    let asked₁ = past₁.before in
     rw (
-      le-leb 3 _ asked₁.before.before.if1.false,
-      sym asked₁.count-allowed.ensures ∙ not-false _ past₁.if2.false,
-      sym asked₂.count-allowed2.ensures ∙ not-false _ past₂.if3.false,
-      ← c.before.expected-length.ensures,
-      eq-eqb _ _ c.if4.false,
+      le-leb 3 _ c.if-table-lt-HEADER.false,
+      sym c.count_allowed.ensures ∙ not-false _ c.if-not-count_allowed.false-raw,
+      sym c.count_allowed-2.ensures ∙ not-false _ c.if-not-count_allowed-2.false-raw,
+      ← c.expected_length.ensures,
+      eq-eqb _ _ c.if-table-expected_length.false,
     )
 
 -- an entry is of 16 bits
-few-inputs : tie.Need-overflow-cast-count-allowed
-few-inputs c = omega (arith, c.shared-slice-known2.given 0)
+few-inputs : tie.Need-overflow_cast-table
+few-inputs c = omega (arith, c.shared_slice_known-2-1.given 0)
 
-few-outputs : tie.Need-overflow-cast-count-allowed-2
-few-outputs c = omega (arith, c.shared-slice-known3.given 1)
+few-outputs : tie.Need-overflow_cast-table-2
+few-outputs c = omega (arith, c.shared_slice_known-3-1.given 1)
 
 pub check_header_spec : {M : Type 1} → statement M
 check_header_spec =
     tie.close
-    (tie.spec
-    short (λ c. search rules) few-inputs (λ c κs. search rules) inputs (λ c. search rules) few-outputs (λ c κs. search rules)
-    outputs (λ c κs. search rules) other_length within)
+    (tie.spec short (λ c. search rules) few-inputs (λ c κs. search rules) inputs (λ c. search rules) few-outputs (λ c κs. search rules) outputs (λ c κs. search rules) other_length within)

@@ -18,80 +18,72 @@ use Rattle.fabric_table_checks.proofs.checking.check_table.Statement.{statement}
 use Rattle.fabric_table_checks.proofs.checking.check_table.Tie as tie
 
 -- what is handed over
-abbrev start : tie.After-enum-told → tie.Start
-start c = c.before.before.before.before
+abbrev start : tie.In-Done → tie.Start
+start c = c.before.before.before
 
 -- where the header, and then the rows pass
-header-passes : (c : tie.After-enum-told) → 0 ≡ header_fault (start c).args.table.now
-header-passes c = ap answer_number (sym c.enum_told.given.1) ∙ c.before.before.check-header.ensures
+header-passes : (c : tie.In-Done) → 0 ≡ header_fault c.args.table.now
+header-passes c = ap answer_number (sym c.in-Done.is) ∙ c.check_header.ensures
 
-module _ (c : tie.After-c) where
+module _ (c : tie.In-Counted-2) where
   abbrev table_of : List ℕ
-  table_of = (start c.before.before.before).args.table.now
+  table_of = c.args.table.now
 
-  rows_pass : CountedBy (first_of (row_fault table_of) (rows_in table_of)) table_of c.c.given.0.0
+  rows_pass : CountedBy (first_of (row_fault table_of) (rows_in table_of)) table_of c.in-Counted.c
   rows_pass =
-      counted_by (first_of (row_fault table_of) (rows_in table_of)) table_of c.c.given.0.0
-      (ap check_outcome (sym c.c.given.1) ∙ c.before.before.check-rows.ensures.0)
+      counted_by (first_of (row_fault table_of) (rows_in table_of)) table_of c.in-Counted.c
+      (ap check_outcome (sym c.in-Counted.is) ∙ c.check_rows.ensures.0)
 
-for_rows : tie.Need-check-rows-requires
-for_rows c κs = (header-faultless (start c).args.table.now).0 (sym (header-passes c))
+for_rows : tie.Need-check_rows-requires
+for_rows c κs = (header-faultless c.args.table.now).0 (sym (header-passes c))
 
-for_end : tie.Need-check-end-requires
+for_end : tie.Need-check_end-requires
 for_end c κs =
-    ((header-faultless (table_of c.before)).0 (sym (header-passes c.before.before.before.before)), (rows_pass c.before).counted.wires)
+    ((header-faultless (table_of c.before)).0 (sym (header-passes c.before.before)), (rows_pass c.before).counted.wires)
 
-bad-header : tie.Need-returns
+bad-header : tie.Need-returns-in-Refused
 unfolding table_fault
 bad-header c =
-    let f = c.before.f.given in
-    let asked = c.before.before.before in
-    let table = asked.before.before.args.table.now in (
-      refused-table f.0.0 (table_fault table) table
-          (stop f.0.0 _ (ap answer_number (sym f.1) ∙ asked.check-header.ensures)),
+    let table = c.args.table.now in (
+      refused-table c.in-Refused.f (table_fault table) table
+          (stop c.in-Refused.f _ (ap answer_number (sym c.in-Refused.is) ∙ c.check_header.ensures)),
       omega arith,
     )
 
-bad-row : tie.Need-returns-2
+bad-row : tie.Need-returns-in-Refused-check_rows
 unfolding table_fault
 bad-row c =
-    let f = c.before.f2.given in
-    let asked = c.before.before.before in
-    let table = asked.before.before.before.before.before.args.table.now in
-    let e = refused_by f.0.0 (first_of (row_fault table) (rows_in table)) table (ap check_outcome (sym f.1) ∙ asked.check-rows.ensures.0) in (
-      refused-table f.0.0 (table_fault table) table
-          (◌then◌ (header-passes asked.before) (stop f.0.0 _ e)),
+    let table = c.args.table.now in
+    let e = refused_by c.in-Refused-check_rows.f (first_of (row_fault table) (rows_in table)) table (ap check_outcome (sym c.in-Refused-check_rows.is) ∙ c.check_rows.ensures.0) in (
+      refused-table c.in-Refused-check_rows.f (table_fault table) table
+          (◌then◌ (header-passes c.before.before) (stop c.in-Refused-check_rows.f _ e)),
       omega arith,
     )
 
-bad_end : tie.Need-returns-3
+bad_end : tie.Need-returns-in-Refused-check_end
 unfolding table_fault
 bad_end c =
-    let f = c.before.f3.given in
     let asked = c.before.before.before in
     let rows = asked.before.before in (
-      refused-table f.0.0 (table_fault (table_of rows)) (table_of rows)
-          (◌then◌ (header-passes rows.before.before.before)
-          (◌then◌ (rows_pass rows).passes (ap answer_number (sym f.1) ∙ asked.check-end.ensures))),
+      refused-table c.in-Refused-check_end.f (table_fault (table_of rows)) (table_of rows)
+          (◌then◌ (header-passes c.before.before.before.before)
+          (◌then◌ (rows_pass rows).passes (ap answer_number (sym c.in-Refused-check_end.is) ∙ c.check_end.ensures))),
       omega arith,
     )
 
-well_formed_lem : tie.Need-returns-4
+well_formed_lem : tie.Need-returns-in-Done-check_end
 unfolding table_fault
 well_formed_lem c =
     let asked = c.before.before in
-    let rows = asked.before.before in
-    let counts = rows.c.given in (
-      counted-table (table_fault (table_of rows)) (table_of rows) counts.0.0
-          (◌then◌ (header-passes rows.before.before.before)
-          (◌then◌ (rows_pass rows).passes (ap answer_number (sym c.enum-told2.given.1) ∙ asked.check-end.ensures)))
+    let rows = asked.before.before in (
+      counted-table (table_fault (table_of rows)) (table_of rows) c.in-Counted.c
+          (◌then◌ (header-passes c.before.before.before.before)
+          (◌then◌ (rows_pass rows).passes (ap answer_number (sym c.in-Done-check_end.is) ∙ c.check_end.ensures)))
           (rows_pass rows).counted,
-      subst (λ r. (check_outcome r).bits ≤ max_bits) counts.1 rows.before.before.check-rows.ensures.1,
+      subst (λ r. (check_outcome r).bits ≤ max_bits) c.in-Counted.is c.check_rows.ensures.1,
     )
 
 pub check_table_spec : {M : Type 1} → statement M
 check_table_spec =
     tie.close
-    (tie.spec
-    (λ c κs. search rules) (λ c. search rules) (λ c. search rules) for_rows (λ c. search rules) (λ c. search rules) for_end
-    (λ c. search rules) (λ c. search rules) bad-header bad-row bad_end well_formed_lem)
+    (tie.spec (λ c κs. search rules) (λ c. search rules) (λ c. search rules) for_rows (λ c. search rules) (λ c. search rules) for_end (λ c. search rules) (λ c. search rules) bad-header bad-row bad_end well_formed_lem)

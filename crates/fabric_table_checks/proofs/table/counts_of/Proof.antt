@@ -6,18 +6,18 @@ use Rattle.fabric_table_checks.proofs.CountingLaws.{kind-x, kind-y, kind-g}
 use Rattle.fabric_table_checks.proofs.table.counts_of.Statement.{statement}
 use Rattle.fabric_table_checks.proofs.table.counts_of.Tie as tie
 
-of_x : tie.Need-returns
+of_x : tie.Need-returns-then-kind-eq-KIND_X
 unfolding makes takes
-of_x c = let is = kind-x _ 0 0 c.if1.true in record { wires = rw is; bits = rw is; few_wires = omega arith; few_bits = omega arith }
+of_x c = let is = kind-x _ 0 0 c.if-kind-eq-KIND_X.true in record { wires = rw is; bits = rw is; few_wires = omega arith; few_bits = omega arith }
 
-of_y : tie.Need-returns-2
+of_y : tie.Need-returns-then-kind-eq-KIND_Y
 unfolding makes takes
-of_y c = let is = kind-y _ 0 0 c.if2.true in record { wires = rw is; bits = rw is; few_wires = omega arith; few_bits = omega arith }
+of_y c = let is = kind-y _ 0 0 c.if-kind-eq-KIND_Y.true in record { wires = rw is; bits = rw is; few_wires = omega arith; few_bits = omega arith }
 
-of_g : tie.Need-returns-3
+of_g : tie.Need-returns
 unfolding makes takes
 of_g c =
-    let is = kind-g _ 0 0 c.before.if1.false c.if2.false in
+    let is = kind-g _ 0 0 c.if-kind-eq-KIND_X.false c.if-kind-eq-KIND_Y.false in
     record { wires = rw is; bits = rw is; few_wires = omega arith; few_bits = omega arith }
 
 pub counts_of_spec : {M : Type 1} → statement M
