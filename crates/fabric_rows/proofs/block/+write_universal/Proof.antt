@@ -50,25 +50,25 @@ module _ (t : ℕ) where
   Start = write-universal-lts.Start (claims t) (write_universal_at t) write-universal.Post
 
   abbrev Parted : Type 0
-  Parted = write-universal-lts.After-universal-parts (claims t) (write_universal_at t) write-universal.Post
+  Parted = write-universal-lts.After-universal_parts-parts (claims t) (write_universal_at t) write-universal.Post
 
   abbrev Upper : Type 0
-  Upper = write-universal-lts.After-write-universal (claims t) (write_universal_at t) write-universal.Post
+  Upper = write-universal-lts.After-write_universal (claims t) (write_universal_at t) write-universal.Post
 
   abbrev Fed : Type 0
-  Fed = write-universal-lts.After-slice-known6 (claims t) (write_universal_at t) write-universal.Post
+  Fed = write-universal-lts.After-slice_known-then-gates-gt1-3-1 (claims t) (write_universal_at t) write-universal.Post
 
   abbrev Middle : Type 0
-  Middle = write-universal-lts.After-write-middle (claims t) (write_universal_at t) write-universal.Post
+  Middle = write-universal-lts.After-write_middle (claims t) (write_universal_at t) write-universal.Post
 
   abbrev Mixed : Type 0
-  Mixed = write-universal-lts.After-slice-known8 (claims t) (write_universal_at t) write-universal.Post
+  Mixed = write-universal-lts.After-slice_known-then-gates-gt1-5-1 (claims t) (write_universal_at t) write-universal.Post
 
   abbrev Lower : Type 0
-  Lower = write-universal-lts.After-write-universal2 (claims t) (write_universal_at t) write-universal.Post
+  Lower = write-universal-lts.After-write_universal-then-gates-gt1 (claims t) (write_universal_at t) write-universal.Post
 
   abbrev Ended : Type 0
-  Ended = write-universal-lts.After-slice-known11 (claims t) (write_universal_at t) write-universal.Post
+  Ended = write-universal-lts.After-slice_known-then-gates-gt1-8-1 (claims t) (write_universal_at t) write-universal.Post
 
   abbrev started : Parted → Start
   started c = c.before.before.before.before.before
@@ -92,74 +92,74 @@ module _ (t : ℕ) where
   lower c = c.before.before.before.before.before.before
 
   abbrev parts : Upper → UniversalParts
-  parts c = (parted c).universal-parts.result
+  parts c = (parted c).universal_parts-parts.result
 
   -- the table's part once the rows between the halves are written
   abbrev middle_rows : Middle → List ℕ
-  middle_rows c = with_part (parts (upper c)).select (upper c).write-universal.new.1.1.0 c.write-middle.new.1.0
+  middle_rows c = with_part (parts (upper c)).select (upper c).write_universal.new.rows c.write_middle.new.rows
 
   -- the steps
   begun : (c : Parted) → (
       let a = (started c).args in
-      UniversalBegun a.gates a.next.0 c.universal-parts.result a.rows.now a.pins.now a.outs.now)
-  begun c = record { room = (started c).requires.1; at = c.universal-parts.ensures }
+      UniversalBegun a.gates a.next.0 c.universal_parts-parts.result a.rows.now a.pins.now a.outs.now)
+  begun c = record { room = (started c).requires.1; at = c.universal_parts-parts.ensures }
 
   upper-done : (c : Upper) → (
       let a = (started (parted c)).args in
-      let l = c.write-universal.new.1.1 in
+      let l = c.write_universal.new.1.1 in
       UpperDone a.next.0 (parts c) a.rows.now a.pins.now a.outs.now l.0 l.1.0 l.1.1.0)
   upper-done c =
-      let e = c.write-universal.ensures in
-      record { kept = c.write-universal.auto.1.1.1.0; rows = e.0; pins = e.1.0; outs = e.1.1 }
+      let e = c.write_universal.ensures in
+      record { kept = c.write_universal.auto.pins; rows = e.0; pins = e.1.0; outs = e.1.1 }
 
   middle-done : (c : Middle) → (
-      let l = (upper c).write-universal.new.1.1 in
-      MiddleDone (parts (upper c)) l.0 l.1.0 l.1.1.0 c.write-middle.new.1.0 c.write-middle.new.1.1.0)
-  middle-done c = record { rows = c.write-middle.ensures.0; pins = c.write-middle.ensures.1 }
+      let l = (upper c).write_universal.new.1.1 in
+      MiddleDone (parts (upper c)) l.0 l.1.0 l.1.1.0 c.write_middle.new.rows c.write_middle.new.pins)
+  middle-done c = record { rows = c.write_middle.ensures.0; pins = c.write_middle.ensures.1 }
 
   lower-done : (c : Lower) → (
       let m = middle c in
-      let l = c.write-universal2.new.1.1 in
-      LowerDone (started (parted (upper m))).args.gates (parts (upper m)) (middle_rows m) m.write-middle.last.1.1.0
-      (upper m).write-universal.last.1.1.1.1.0 l.0 l.1.0 l.1.1.0)
+      let l = c.write_universal-then-gates-gt1.new.1.1 in
+      LowerDone (started (parted (upper m))).args.gates (parts (upper m)) (middle_rows m) m.write_middle.new.pins
+      (upper m).write_universal.new.outs l.0 l.1.0 l.1.1.0)
   lower-done c =
-      let e = c.write-universal2.ensures in
+      let e = c.write_universal-then-gates-gt1.ensures in
       record { rows = e.0; pins = e.1.0; outs = e.1.1 }
 
   done : (c : Lower) → (
       let m = middle c in
       let a = (started (parted (upper m))).args in
-      let l = c.write-universal2.new.1.1 in
+      let l = c.write_universal-then-gates-gt1.new.1.1 in
       UniversalWritten a.gates a.next.0 a.rows.now a.pins.now a.outs.now
-      (with_part (parts (upper m)).lower (middle_rows m) l.0) (with_part a.gates m.write-middle.last.1.1.0 l.1.0)
-      (with_part (parts (upper m)).half (upper m).write-universal.last.1.1.1.1.0 l.1.1.0))
+      (with_part (parts (upper m)).lower (middle_rows m) l.0) (with_part a.gates m.write_middle.new.pins l.1.0)
+      (with_part (parts (upper m)).half (upper m).write_universal.new.outs l.1.1.0))
   done c =
       let m = middle c in
       universal_written (begun (parted (upper m))) (upper-done (upper m)) (middle-done m) (lower-done c)
 
   -- where the stretches begin
-  select-fits : (c : Upper) → (parts c).select ≤ length c.write-universal.new.1.1.0
+  select-fits : (c : Upper) → (parts c).select ≤ length c.write_universal.new.rows
   select-fits c = select-start (begun (parted c)) (upper-done c)
 
   lower-fits : (c : Middle) → (parts (upper c)).lower ≤ length (middle_rows c)
   lower-fits c = lower-start (begun (parted (upper c))) (upper-done (upper c)) (middle-done c)
 
-  pins-fit : (c : Middle) → (started (parted (upper c))).args.gates ≤ length c.write-middle.new.1.1.0
+  pins-fit : (c : Middle) → (started (parted (upper c))).args.gates ≤ length c.write_middle.new.pins
   pins-fit c = pins-start (begun (parted (upper c))) (upper-done (upper c)) (middle-done c)
 
-  outs-fit : (c : Upper) → (parts c).half ≤ length c.write-universal.new.1.1.1.1.0
+  outs-fit : (c : Upper) → (parts c).half ≤ length c.write_universal.new.outs
   outs-fit c = outs-start (begun (parted c)) (upper-done c)
 
   -- the pins stay as many
   pins-kept : (c : Lower) → (
       let m = middle c in
       let a = (started (parted (upper m))).args in
-      length (with_part a.gates m.write-middle.last.1.1.0 c.write-universal2.new.1.1.1.0) ≡ length a.pins.now)
+      length (with_part a.gates m.write_middle.new.pins c.write_universal-then-gates-gt1.new.pins) ≡ length a.pins.now)
   pins-kept c =
       let m = middle c in
-      length_with (started (parted (upper m))).args.gates m.write-middle.last.1.1.0 c.write-universal2.new.1.1.1.0
-      c.write-universal2.auto.1.1.1.0
-      ∙ m.write-middle.kept.1.1.0 ∙ (upper m).write-universal.kept.1.1.1.0
+      length_with (started (parted (upper m))).args.gates m.write_middle.new.pins c.write_universal-then-gates-gt1.new.pins
+      c.write_universal-then-gates-gt1.auto.pins
+      ∙ m.write_middle.auto.pins ∙ (upper m).write_universal.auto.pins
 
 pub +write_universal_spec : {M : Type 1} → statement M
 +write_universal_spec =
@@ -171,7 +171,7 @@ pub +write_universal_spec : {M : Type 1} → statement M
     -- the parts
     (λ c κs.
     let pre = c.before.before.before.before.requires.1 in
-    record { some = c.if1.true; power = pre.power; few = pre.few; wires = pre.wires })
+    record { some = c.if-gates-gt1.true; power = pre.power; few = pre.few; wires = pre.wires })
     (λ c. search rules)
     -- the upper half
     (λ c κs.
@@ -201,7 +201,7 @@ pub +write_universal_spec : {M : Type 1} → statement M
     let m = mixed t c.before.before.before in
     let p = parted t (upper t m) in
     let b = begun t p in
-    (omega (arith, (started t p).pre.0), lower_write_room b (upper-done t (upper t m)) (middle-done t m)))
+    (omega (arith, (started t p).requires.0), lower_write_room b (upper-done t (upper t m)) (middle-done t m)))
     -- U(1)
     (λ c κs. search rules)
     -- what is written
@@ -214,5 +214,5 @@ pub +write_universal_spec : {M : Type 1} → statement M
     let test = gate.before.before.before.before in
     let start = test.before.before.before.before in
     let a = start.args in
-    let w = gate-written a.rows.now a.pins.now a.outs.now test.if1.false start.requires.1 gate.write-gate.ensures in
+    let w = gate-written a.rows.now a.pins.now a.outs.now test.if-gates-gt1.false start.requires.1 gate.write_gate.ensures in
     (w.0, (refl, w.1)))

@@ -7,22 +7,14 @@ use Rattle.fabric_rows.proofs.block.write_middle.Tie as tie
 
 written : tie.Need-returns
 written c =
-    let mixed = c.before.before.before.before in
-    let given_back = mixed.before.before.before in
-    let select = given_back.before.before.before.before in
-    let start = select.before.before.before.before.before.before in
-    let a = start.args in
-    let laid = select.write-selection-on.ensures.1 in
-    let e = mixed.write-mix.ensures in (
-      middle-written a.parts a.outs.now a.rows.now a.pins.now start.requires laid e.0,
-      middle-fed a.parts a.outs.now a.rows.now a.pins.now start.requires laid e.1,
+    let a = c.args in
+    let laid = c.write_selection_on.ensures.1 in
+    let e = c.write_mix.ensures in (
+      middle-written a.parts a.outs.now a.rows.now a.pins.now c.requires laid e.0,
+      middle-fed a.parts a.outs.now a.rows.now a.pins.now c.requires laid e.1,
     )
 
 pub write_middle_spec : {M : Type 1} → statement M
 write_middle_spec =
     tie.close
-    (tie.spec
-    (λ c κs. search rules)
-    -- the Y rows and their stretch
-    (λ c. search rules) (λ c. search rules) (λ c. search rules) (λ c. search rules) (λ c κs. search rules)
-    (λ c. search rules) (λ c. search rules) written)
+    (tie.spec (λ c κs. search rules) (λ c. search rules) (λ c. search rules) (λ c. search rules) (λ c. search rules) (λ c κs. search rules) (λ c. search rules) (λ c. search rules) written)

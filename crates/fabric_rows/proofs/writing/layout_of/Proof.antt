@@ -10,28 +10,19 @@ use Rattle.fabric_rows.proofs.writing.layout_of.Statement.{statement}
 use Rattle.fabric_rows.proofs.writing.layout_of.Tie as tie
 
 -- K is of 16 bits
-few : tie.Need-overflow-cast-t12
+few : tie.Need-overflow_cast-result
 few c =
-    let outputs = c.before.before.before.before in
-    let start = outputs.before.before.before in
-    omega (arith, c.gate-places.ensures.is_places, few-places start.args.k start.requires.gates)
+    omega (arith, c.gate_places.ensures.is_places, few-places c.args.k c.requires.gates)
 
 layout : tie.Need-returns
 layout c =
-    let last = c.before in
-    let second = last.before in
-    let first = second.before in
-    let places = first.before in
-    let outputs = places.before.before.before.before in
-    let universal = outputs.before in
-    let pins = universal.before in
-    layout_is pins.before.requires pins.pin-counts.ensures universal.universal-counts.ensures outputs.output-counts.ensures
-    places.gate-places.ensures
+    layout_is c.requires c.pin_counts-pins.ensures c.universal_counts-universal.ensures c.output_counts-outputs.ensures
+    c.gate_places.ensures
     (record {
       is_rows = refl;
-      universal_at = ap (λ n. header + n) first.row-place.ensures;
-      outputs_at = ap (λ n. header + n) second.row-place2.ensures;
-      end_at = last.row-place3.ensures;
+      universal_at = ap (λ n. header + n) c.row_place.ensures;
+      outputs_at = ap (λ n. header + n) c.row_place-2.ensures;
+      end_at = c.row_place-3.ensures;
       universal_from = refl;
       output_from = refl;
     })
@@ -39,7 +30,4 @@ layout c =
 pub layout_of_spec : {M : Type 1} → statement M
 layout_of_spec =
     tie.close
-    (tie.spec
-    (λ c κs. search rules) (λ c κs. search rules) (λ c κs. search rules) (λ c. search rules) (λ c. search rules) (λ c. search rules)
-    (λ c. search rules) (λ c κs. search rules) few (λ c κs. search rules) (λ c. search rules) (λ c κs. search rules) (λ c. search rules)
-    (λ c κs. search rules) (λ c. search rules) layout)
+    (tie.spec (λ c κs. search rules) (λ c κs. search rules) (λ c κs. search rules) (λ c. search rules) (λ c. search rules) (λ c. search rules) (λ c. search rules) (λ c κs. search rules) few (λ c κs. search rules) (λ c. search rules) (λ c κs. search rules) (λ c. search rules) (λ c κs. search rules) (λ c. search rules) layout)

@@ -13,69 +13,56 @@ use Rattle.fabric_rows.proofs.writing.put_fabric.Statement.{statement}
 use Rattle.fabric_rows.proofs.writing.put_fabric.Tie as tie
 
 -- the way back from S(K, v) to U(K), to S(u, 2K), to the header, to the layout
-abbrev gates : tie.After-put-outputs → tie.After-write-universal
-gates c = c.before.before.before.before.before.before.before
+abbrev gates : tie.After-put_outputs → tie.After-write_universal
+gates c = c.before.before.before.before.before.before.before.before
 
-abbrev pins : tie.After-write-universal → tie.After-put-pins
-pins c = c.before.before.before.before.before.before.before
+abbrev pins : tie.After-write_universal → tie.After-put_pins
+pins c = c.before.before.before.before.before.before.before.before
 
-abbrev headed : tie.After-put-pins → tie.After-put-header
+abbrev headed : tie.After-put_pins → tie.After-put_header
 headed c = c.before.before.before.before.before
 
-abbrev laid : tie.After-put-header → tie.After-layout-of
+abbrev laid : tie.After-put_header → tie.After-layout_of-layout
 laid c = c.before.before
 
-abbrev layout : tie.After-put-header → Layout
-layout c = (laid c).layout_of.result
+abbrev layout : tie.After-put_header → Layout
+layout c = c.layout_of-layout.result
 
 -- the steps
-begun : (c : tie.After-put-header) → (
-    let a = (laid c).before.before.args in
-    FabricBegun a.u a.k a.v (layout c) a.table.now c.put-header.new.1.1.1.0)
-begun c = record { passes = (laid c).before.before.requires; layout = (laid c).layout_of.ensures; headed = c.put-header.ensures }
+begun : (c : tie.After-put_header) → (
+    let a = c.args in
+    FabricBegun a.u a.k a.v (layout c) a.table.now c.put_header.new.table)
+begun c = record { passes = c.requires; layout = c.layout_of-layout.ensures; headed = c.put_header.ensures }
 
-abbrev pin_rows : tie.After-put-pins → List ℕ
-pin_rows c = with_part header (headed c).put-header.new.1.1.1.0 c.put-pins.new.1.1.0
+abbrev pin_rows : tie.After-put_pins → List ℕ
+pin_rows c = with_part header c.put_header.new.table c.put_pins.new.rows
 
-pins-done : (c : tie.After-put-pins) → (
-    let h = headed c in
-    PinsDone (laid h).before.before.args.u (layout h) h.put-header.last.1.1.1.0 (replicate max_pins 0) c.put-pins.new.1.1.0
-    c.put-pins.new.1.1.1.0)
-pins-done c = record { rows = c.put-pins.ensures.0; pins = c.put-pins.ensures.1 }
+pins-done : (c : tie.After-put_pins) → (
+    PinsDone c.args.u (layout c.before.before.before.before.before) c.put_header.new.table (replicate max_pins 0) c.put_pins.new.rows
+    c.put_pins.new.pins)
+pins-done c = record { rows = c.put_pins.ensures.0; pins = c.put_pins.ensures.1 }
 
-abbrev gate_rows : tie.After-write-universal → List ℕ
-gate_rows c = with_part (layout (headed (pins c))).universal (pin_rows (pins c)) c.write-universal.new.1.1.0
+abbrev gate_rows : tie.After-write_universal → List ℕ
+gate_rows c = with_part (layout c.before.before.before.before.before.before.before.before.before.before.before.before.before).universal (pin_rows c.before.before.before.before.before.before.before.before) c.write_universal.new.rows
 
-gates-done : (c : tie.After-write-universal) → (
-    let p = pins c in
-    GatesDone (layout (headed p)) (pin_rows p) p.put-pins.last.1.1.1.0 (replicate max_gates 0) c.write-universal.new.1.1.0
-    c.write-universal.new.1.1.1.1.0)
-gates-done c = record { rows = c.write-universal.ensures.0; outs = c.write-universal.ensures.1.1 }
+gates-done : (c : tie.After-write_universal) → (
+    GatesDone (layout c.before.before.before.before.before.before.before.before.before.before.before.before.before) (pin_rows c.before.before.before.before.before.before.before.before) c.put_pins.new.pins (replicate max_gates 0) c.write_universal.new.rows
+    c.write_universal.new.outs)
+gates-done c = record { rows = c.write_universal.ensures.0; outs = c.write_universal.ensures.1.1 }
 
-for_pins : tie.Need-put-pins-requires
+for_pins : tie.Need-put_pins-requires
 for_pins c κs = pin_room_lem (begun c.before.before.before.before)
 
-for_gates : tie.Need-write-universal-requires
+for_gates : tie.Need-write_universal-requires
 for_gates c κs =
-    let p = c.before.before.before.before.before.before in
-    let kept = p.put-pins.auto.1.1.1.0 in
-    rw kept (universal_write_room (begun (headed p)) (pins-done p))
+    let kept = c.put_pins.auto.pins in
+    rw kept (universal_write_room (begun c.before.before.before.before.before.before.before.before.before.before.before.before) (pins-done c.before.before.before.before.before.before.before))
 
 written : tie.Need-returns
 written c =
-    let o = c.before.before in
-    let g = gates o in
-    table-written (begun (headed (pins g))) (pins-done (pins g)) (gates-done g) o.put-outputs.ensures.1
+    table-written (begun c.before.before.before.before.before.before.before.before.before.before.before.before.before.before.before.before.before.before.before.before.before.before.before) (pins-done c.before.before.before.before.before.before.before.before.before.before.before.before.before.before.before.before.before.before) (gates-done c.before.before.before.before.before.before.before.before.before.before) c.put_outputs.ensures.1
 
 pub put_fabric_spec : {M : Type 1} → statement M
 put_fabric_spec =
     tie.close
-    (tie.spec
-    (λ c κs. search rules) (λ c κs. search rules)
-    -- S(u, 2K) and its stretch
-    (λ c. search rules) (λ c. search rules) (λ c. search rules) (λ c. search rules) for_pins
-    -- U(K) and its stretch
-    (λ c. search rules) (λ c. search rules) (λ c. search rules) (λ c. search rules) (λ c. search rules) (λ c. search rules) for_gates
-    -- S(K, v) and its stretch
-    (λ c. search rules) (λ c. search rules) (λ c. search rules) (λ c. search rules) (λ c. search rules) (λ c κs. search rules)
-    (λ c. search rules) written)
+    (tie.spec (λ c κs. search rules) (λ c κs. search rules) (λ c. search rules) (λ c. search rules) (λ c. search rules) (λ c. search rules) for_pins (λ c. search rules) (λ c. search rules) (λ c. search rules) (λ c. search rules) (λ c. search rules) (λ c. search rules) for_gates (λ c. search rules) (λ c. search rules) (λ c. search rules) (λ c. search rules) (λ c. search rules) (λ c κs. search rules) (λ c. search rules) written)

@@ -14,5 +14,4 @@ written c =
 pub put_header_spec : {M : Type 1} → statement M
 put_header_spec =
     tie.close
-    (tie.spec
-    (λ c. search rules) (λ c. simp length-set (omega arith)) (λ c. search rules) (λ c. search rules) (λ c. search rules) written)
+    (tie.spec (λ c. search rules) (λ c. simp length-set (omega arith)) (λ c. search rules) (λ c. search rules) (λ c. search rules) written)

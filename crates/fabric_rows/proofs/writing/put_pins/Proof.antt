@@ -7,14 +7,9 @@ use Rattle.fabric_rows.proofs.writing.put_pins.Tie as tie
 
 written : tie.Need-returns
 written c =
-    let done = c.before.before.before.before in
-    let put = done.before.before.before.before.before in
-    let start = put.before.before.before.before in
-    pins-put _ start.args.rows.now start.args.pins.now start.requires refl put.put-wires.ensures done.write-selection-on.ensures.1
+    pins-put _ c.args.rows.now c.args.pins.now c.requires refl c.put_wires.ensures c.write_selection_on.ensures.1
 
 pub put_pins_spec : {M : Type 1} → statement M
 put_pins_spec =
     tie.close
-    (tie.spec
-    (λ c. search rules) (λ c κs. search rules) (λ c. search rules) (λ c. search rules) (λ c. search rules) (λ c κs. search rules) (λ c. search rules)
-    (λ c. search rules) written)
+    (tie.spec (λ c. search rules) (λ c κs. search rules) (λ c. search rules) (λ c. search rules) (λ c. search rules) (λ c κs. search rules) (λ c. search rules) (λ c. search rules) written)

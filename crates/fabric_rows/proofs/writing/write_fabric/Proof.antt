@@ -11,29 +11,25 @@ use Rattle.fabric_rows.proofs.writing.write_fabric.Statement.{statement}
 use Rattle.fabric_rows.proofs.writing.write_fabric.Tie as tie
 
 -- where the checks are done, none fails
-module _ (c : tie.After-enum-told) where
-  none : let a = c.before.before.before.before.args in 0 ≡ fabric_fault a.u a.k a.v (length a.table.now)
-  none = ap answer_number (sym c.enum_told.given.1) ∙ c.before.before.check-fabric.ensures
+module _ (c : tie.In-Done) where
+  none : let a = c.args in 0 ≡ fabric_fault a.u a.k a.v (length a.table.now)
+  none = ap answer_number (sym c.in-Done.is) ∙ c.check_fabric.ensures
 
-  passes : let a = c.before.before.before.before.args in FabricPasses a.u a.k a.v (length a.table.now)
+  passes : let a = c.args in FabricPasses a.u a.k a.v (length a.table.now)
   passes = fabric_passes _ _ _ _ (sym none)
 
-refused : tie.Need-returns
+refused : tie.Need-returns-in-Refused
 refused c =
-    let f = c.before.f.given.0.0 in
-    let e = ap answer_number (sym c.before.f.given.1) ∙ c.before.before.before.check-fabric.ensures in
+    let f = c.in-Refused.f in
+    let e = ap answer_number (sym c.in-Refused.is) ∙ c.check_fabric.ensures in
     (e, filled-refused f _ _ _ e)
 
-done : tie.Need-returns-2
+done : tie.Need-returns-in-Done
 done c =
-    let put = c.before.before in
-    let z = none put.before.before in
-    (z, is-filled _ _ _ _ put.put-fabric.ensures z)
+    let z = none c.before.before.before.before in
+    (z, is-filled _ _ _ _ c.put_fabric.ensures z)
 
 pub write_fabric_spec : {M : Type 1} → statement M
 write_fabric_spec =
     tie.close
-    (tie.spec
-    (λ c κs. search rules) (λ c. search rules) (λ c. search rules) (λ c. let w = (passes c).counts in omega arith)
-    (λ c. let w = (passes c).counts in omega arith) (λ c. let w = (passes c).counts in omega arith) (λ c κs. passes c.before) refused
-    (λ c. search rules) done)
+    (tie.spec (λ c κs. search rules) (λ c. search rules) (λ c. search rules) (λ c. let w = (passes c).counts in omega arith) (λ c. let w = (passes c).counts in omega arith) (λ c. let w = (passes c).counts in omega arith) (λ c κs. passes c.before) refused (λ c. search rules) done)
