@@ -11,10 +11,9 @@ use Rattle.plan_saving.proofs.gate.fields_needed.Tie as tie
 decided : tie.Need-returns
 unfolding fields_needed
 decided c =
-    let wire = c.before.before.before.before in
-    let gate = wire.before.args.gate in
+    let gate = c.args.gate in
     ap₂ (λ w s. record { first = not (eqb gate.first.0 w); second = s; table = not (eqb gate.table absent_table) })
-    wire.wire-before.ensures c.before.second-needed.ensures
+    c.wire_before-default.ensures c.second_needed.ensures
 
 pub fields_needed_spec : {M : Type 1} → statement M
 fields_needed_spec = tie.close (tie.spec (λ c κs. search rules) (λ c κs. search rules) decided)

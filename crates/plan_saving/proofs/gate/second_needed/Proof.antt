@@ -4,11 +4,11 @@ use borrow.Author.Tests.{eq-eqb, ne_eqb}
 use Rattle.plan_saving.proofs.gate.second_needed.Statement.{statement}
 use Rattle.plan_saving.proofs.gate.second_needed.Tie as tie
 
-differs : tie.Need-returns
-differs c = rw (ne_eqb _ _ c.if1.true)
+differs : tie.Need-returns-then-gate
+differs c = rw (ne_eqb _ _ c.if-gate.true)
 
-equal : tie.Need-returns-2
-equal c = rw (eq-eqb _ _ c.before.if1.false) refl
+equal : tie.Need-returns
+equal c = rw (eq-eqb _ _ c.if-gate.false) refl
 
 pub second_needed_spec : {M : Type 1} → statement M
 second_needed_spec = tie.close (tie.spec differs equal)

@@ -4,11 +4,11 @@ use borrow.Author.Rules.{rules}
 use Rattle.plan_saving.proofs.gate.table_byte.Statement.{statement}
 use Rattle.plan_saving.proofs.gate.table_byte.Tie as tie
 
-four : tie.Need-returns
-four c = rw c.if1.true refl
+four : tie.Need-returns-then-second
+four c = rw c.if-second.true refl
 
-two : tie.Need-returns-2
-two c = rw c.if1.false refl
+two : tie.Need-returns
+two c = rw c.if-second.false refl
 
 pub table_byte_spec : {M : Type 1} → statement M
 table_byte_spec =

@@ -6,10 +6,7 @@ use Rattle.plan_saving.proofs.saving.encode_counts.Tie as tie
 
 counts : tie.Need-returns
 counts c =
-    let third = c.before.before in
-    let second = third.before.before.before.before in
-    let first = second.before.before.before.before in
-    wrote-more first.encode-word.ensures (wrote-more second.encode-word2.ensures third.encode-word3.ensures)
+    wrote-more c.encode_word-first.ensures (wrote-more c.encode_word-second.ensures c.encode_word.ensures)
 
 pub encode_counts_spec : {M : Type 1} → statement M
 encode_counts_spec =

@@ -12,40 +12,33 @@ use Rattle.plan_saving.proofs.FileLaws.{saved-parts, saved-long}
 use Rattle.plan_saving.proofs.saving.encode_plan.Statement.{statement}
 use Rattle.plan_saving.proofs.saving.encode_plan.Tie as tie
 
-counts-fit : tie.Need-encode-counts-requires
+counts-fit : tie.Need-encode_counts-header-requires
 counts-fit c κs =
-    let start = c.before.before in
-    omega (arith, start.requires.1, saved-long start.args.plan)
+    omega (arith, c.requires.1, saved-long c.args.plan)
 
-gates-fit : tie.Need-encode-gates-requires
+gates-fit : tie.Need-encode_gates-end-requires
 gates-fit c κs =
-    let counts = c.before.before.before in
-    let start = counts.before.before.before in
-    let header = counts.encode-counts.ensures in
-    (start.requires.0, omega (arith, start.requires.1, saved-long start.args.plan, header.is_next, wrote-length header))
+    let header = c.encode_counts-header.ensures in
+    (c.requires.0, omega (arith, c.requires.1, saved-long c.args.plan, header.is_next, wrote-length header))
 
 -- the counts and the gates
-gates-put : (c : tie.After-encode-gates)
-    → let a = c.before.before.before.before.before.before.before.args in let p = a.plan in
+gates-put : (c : tie.After-encode_gates-end)
+    → let a = c.args in let p = a.plan in
     Wrote ((word p.inputs ++ (word p.gate_count ++ word p.output_count)) ++ saved_gates p p.gate_count) a.file.now 0
-    c.encode-gates.new.0 c.encode-gates.result
-gates-put c = wrote-more c.before.before.before.before.encode-counts.ensures c.encode-gates.ensures
+    c.encode_gates-end.new.file c.encode_gates-end.result
+gates-put c = wrote-more c.encode_counts-header.ensures c.encode_gates-end.ensures
 
-outputs-fit : tie.Need-encode-outputs-requires
+outputs-fit : tie.Need-encode_outputs-requires
 outputs-fit c κs =
-    let gates = c.before.before.before.before in
-    let start = gates.before.before.before.before.before.before.before in
-    let p = start.args.plan in
-    let put = gates-put gates in
-    let bound = accepted-counts p start.requires.0 in
-    (bound.outputs, omega (arith, start.requires.1, saved-long p, put.is_next, wrote-length put, length-append (word p.inputs ++ (word p.gate_count ++ word p.output_count)) (saved_gates p p.gate_count)))
+    let p = c.args.plan in
+    let put = gates-put c.before.before.before.before in
+    let bound = accepted-counts p c.requires.0 in
+    (bound.outputs, omega (arith, c.requires.1, saved-long p, put.is_next, wrote-length put, length-append (word p.inputs ++ (word p.gate_count ++ word p.output_count)) (saved_gates p p.gate_count)))
 
 whole : tie.Need-returns
 whole c =
-    let last = c.before.before in
-    let gates = last.before.before.before.before.before in
-    let p = gates.before.before.before.before.before.before.before.args.plan in
-    wrote_as (wrote-more (gates-put gates) last.encode-outputs.ensures)
+    let p = c.args.plan in
+    wrote_as (wrote-more (gates-put c.before.before.before.before.before.before.before) c.encode_outputs.ensures)
     (append_assoc (word p.inputs ++ (word p.gate_count ++ word p.output_count)) (saved_gates p p.gate_count) _ ∙ saved-parts p)
 
 pub encode_plan_spec : {M : Type 1} → statement M

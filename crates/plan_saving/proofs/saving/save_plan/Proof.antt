@@ -19,55 +19,47 @@ use Rattle.plan_saving.proofs.saving.save_plan.Statement.{statement}
 use Rattle.plan_saving.proofs.saving.save_plan.Tie as tie
 
 -- the plan has no fault where its file is made
-passes : (c : tie.After-enum-told) → 0 ≡ plan_fault c.before.before.before.before.args.plan
-passes c = answer-passes c.enum_told.given.1 c.before.before.plan-fault.ensures
+passes : (c : tie.In-Done) → 0 ≡ plan_fault c.args.plan
+passes c = answer-passes c.in-Done.is c.plan_fault.ensures
 
 -- and there is room for the file
-room : (c : tie.After-enum-told) → length (saved_file c.before.before.before.before.args.plan) ≤ longest_file
-room c = let p = c.before.before.before.before.args.plan in longest (shortest_map p) p (sym (passes c))
+room : (c : tie.In-Done) → length (saved_file c.args.plan) ≤ longest_file
+room c = let p = c.args.plan in longest (shortest_map p) p (sym (passes c))
 
-makes : tie.Need-encode-plan-requires
+makes : tie.Need-encode_plan-length-requires
 makes c κs = (sym (passes c.before), room c.before)
 
-short : tie.Need-returns
+short : tie.Need-returns-then-file-length
 unfolding plan_save
 short c =
-    let made = c.before.before in
-    let told = made.before.before in
-    let file = told.before.before.before.before.args.file.now in
-    let e = passes told then room-refuses {room = length file} (front_long made.encode-plan.ensures) (omega (arith, c.if1.true)) in
+    let file = c.args.file.now in
+    let e = passes c.before.before.before.before then room-refuses {room = length file} (front_long c.encode_plan-length.ensures) (omega (arith, c.if-file-length.true)) in
     (outcome-refused Fault.Short _ _ e, filled-refused Fault.Short _ _ _ e)
 
-fits : tie.Need-copy-front-requires
+fits : tie.Need-copy_front-requires
 fits c κs =
-    let made = c.before.before.before.before in
-    let front = made.encode-plan.ensures in
-    (omega (arith, front_long front, wrote-length front, room made.before.before), c.before.before.if1.false)
+    let front = c.encode_plan-length.ensures in
+    (omega (arith, front_long front, wrote-length front, room c.before.before.before.before.before.before), c.if-file-length.false)
 
-faulty : tie.Need-returns-2
+faulty : tie.Need-returns-in-Refused
 unfolding plan_save
 faulty c =
-    let f = c.before.f.given.0.0 in
-    let e = stop f _ (answer-refuses c.before.f.given.1 c.before.before.before.plan-fault.ensures) in
+    let f = c.in-Refused.f in
+    let e = stop f _ (answer-refuses c.in-Refused.is c.plan_fault.ensures) in
     (outcome-refused f _ _ e, filled-refused f _ _ _ e)
 
-saved : tie.Need-returns-3
+saved : tie.Need-returns-else-file-length
 unfolding plan_save
 saved c =
-    let copied = c.before.before in
-    let test = copied.before.before.before in
-    let made = test.before.before in
-    let told = made.before.before in
-    let args = told.before.before.before.before.args in
+    let args = c.args in
     let file = saved_file args.plan in
-    let front = made.encode-plan.ensures in
-    let z = passes told then room-passes (front_long front) test.if1.false in
-    let is-file : take made.encode-plan.result made.encode-plan.new.0 ≡ file =
-    ap₂ take (front_long front) (front-over front (room told)) ∙ take_at file _ (length file) refl in
-    (outcome-done _ _ z (front_long front), is-filled _ _ _ _ (copied.copy-front.ensures ∙ ap (λ l. over l args.file.now) is-file) z)
+    let front = c.encode_plan-length.ensures in
+    let z = passes c.before.before.before.before.before.before.before.before.before then room-passes (front_long front) c.if-file-length.false in
+    let is-file : take c.encode_plan-length.result c.encode_plan-length.new.file ≡ file =
+    ap₂ take (front_long front) (front-over front (room c.before.before.before.before.before.before.before.before.before)) ∙ take_at file _ (length file) refl in
+    (outcome-done _ _ z (front_long front), is-filled _ _ _ _ (c.copy_front.ensures ∙ ap (λ l. over l args.file.now) is-file) z)
 
 pub save_plan_spec : {M : Type 1} → statement M
 save_plan_spec =
     tie.close
-    (tie.spec
-    (λ c κs. search rules) (λ c. search rules) (λ c. search rules) (λ c. search rules) makes short (λ c. search rules) fits faulty (λ c. search rules) saved)
+    (tie.spec (λ c κs. search rules) (λ c. search rules) (λ c. search rules) (λ c. search rules) makes short (λ c. search rules) fits faulty (λ c. search rules) saved)
