@@ -99,7 +99,7 @@ made-last : {next : ℕ} (r : List Row) (row : Row) → MadeBefore next (r ++ (r
 unfolding total
 made-last {next} [] row (made_more b m) = (made_none, rw (add-zero next) b)
 made-last {next} (first ∷ r) row (made_more b m) =
-    let t = made-last r row m in
+    let t = made-last {next = next + makes first} r row m in
     (made_more b t.0, rw (← add_assoc next (makes first) (total makes r)) t.1)
 
 pub made_at : (next n : ℕ) (f : ℕ → Row) → MadeBefore next (list_of n f) → (i : ℕ) → i < n → Below (next + total makes (list_of i f)) (inputs_of (f i))

@@ -29,7 +29,7 @@ holds : tie.Need-loop-i-init invariant_loop decreases_loop
 unfolding first_of
 holds c =
     let table = c.args.table.now in
-    (omega arith, refl, counted-first table _ (omega arith), omega (arith, c.shared-slice-known2.given 2))
+    (omega arith, refl, counted-first table _ (omega arith), omega (arith, c.shared_slice_known-2-1.given 2))
 
 -- the way back: from a row's counts to the loop, to what is handed over
 abbrev looped : tie.After-counts_of-own invariant_loop decreases_loop → tie.In-loop-i invariant_loop decreases_loop

@@ -25,7 +25,7 @@ start c = c.before.before.before
 header-passes : (c : tie.In-Done) → 0 ≡ header_fault c.args.table.now
 header-passes c = ap answer_number (sym c.in-Done.is) ∙ c.check_header.ensures
 
-module _ (c : tie.In-Counted-2) where
+module _ (c : tie.In-Counted) where
   abbrev table_of : List ℕ
   table_of = c.args.table.now
 
@@ -39,7 +39,7 @@ for_rows c κs = (header-faultless c.args.table.now).0 (sym (header-passes c))
 
 for_end : tie.Need-check_end-requires
 for_end c κs =
-    ((header-faultless (table_of c.before)).0 (sym (header-passes c.before.before)), (rows_pass c.before).counted.wires)
+    ((header-faultless (table_of c)).0 (sym (header-passes c.before.before)), (rows_pass c).counted.wires)
 
 bad-header : tie.Need-returns-in-Refused
 unfolding table_fault
@@ -63,8 +63,7 @@ bad-row c =
 bad_end : tie.Need-returns-in-Refused-check_end
 unfolding table_fault
 bad_end c =
-    let asked = c.before.before.before in
-    let rows = asked.before.before in (
+    let rows = c.before.before in (
       refused-table c.in-Refused-check_end.f (table_fault (table_of rows)) (table_of rows)
           (◌then◌ (header-passes c.before.before.before.before)
           (◌then◌ (rows_pass rows).passes (ap answer_number (sym c.in-Refused-check_end.is) ∙ c.check_end.ensures))),
@@ -74,8 +73,7 @@ bad_end c =
 well_formed_lem : tie.Need-returns-in-Done-check_end
 unfolding table_fault
 well_formed_lem c =
-    let asked = c.before.before in
-    let rows = asked.before.before in (
+    let rows = c.before.before in (
       counted-table (table_fault (table_of rows)) (table_of rows) c.in-Counted.c
           (◌then◌ (header-passes c.before.before.before.before)
           (◌then◌ (rows_pass rows).passes (ap answer_number (sym c.in-Done-check_end.is) ∙ c.check_end.ensures)))
