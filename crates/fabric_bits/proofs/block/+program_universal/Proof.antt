@@ -58,16 +58,16 @@ table : (t : ℕ) → program-universal-lts.Need-returns (calls t) (universal_at
 table t c =
     let if1 = c.before.before.before.before.before in
     let a = if1.before.before.before.before.before.args in (
-      omega (arith, gate-takes if1.if1.true),
-      c.before.before.store-table.ensures
-          ∙ gate-stored (listed_gates a.before a.operands.now a.tables.now) a.gates a.base a.start a.program.now if1.if1.true,
+      omega (arith, gate-takes if1.if-gates-le1.true),
+      c.before.before.store_table.ensures
+          ∙ gate-stored (listed_gates a.before a.operands.now a.tables.now) a.gates a.base a.start a.program.now if1.if-gates-le1.true,
     )
 
 for_upper : (t : ℕ) → program-universal-lts.Need-program-universal-requires (calls t) (universal_at_lem t) program-universal.Post
 for_upper t c κs =
     let if1 = c.before.before in
     let s = if1.before.before.before.before.before in
-    let h = halved s.requires.1.power if1.if1.false in
+    let h = halved s.requires.1.power if1.if-gates-le1.false in
     (omega (arith, s.requires.0), upper-program-room s.requires.1 h)
 
 for_between : (t : ℕ) → program-universal-lts.Need-program-between-requires (calls t) (universal_at_lem t) program-universal.Post
@@ -75,9 +75,9 @@ for_between t c κs =
     let upper = c.before.before.before.before.before.before in
     let if1 = upper.before.before.before in
     let s = if1.before.before.before.before.before in
-    let h = halved s.requires.1.power if1.if1.false in
-    let kept = upper.program-universal.auto in
-    between_room s.requires.1 h upper.program-universal.ensures.0 kept.1.1.1.1.1.0 kept.1.1.1.1.1.1.0
+    let h = halved s.requires.1.power if1.if-gates-le1.false in
+    let kept = upper.program_universal-between.auto in
+    between_room s.requires.1 h upper.program_universal-between.ensures.0 kept.1.1.1.1.1.0 kept.1.1.1.1.1.1.0
 
 lower_base : (t : ℕ) → program-universal-lts.Need-overflow-add-program-universal (calls t) (universal_at_lem t) program-universal.Post
 lower_base t c =
@@ -96,12 +96,12 @@ for_lower t c κs =
     let if1 = upper.before.before.before in
     let s = if1.before.before.before.before.before in
     let a = s.args in
-    let h = halved s.requires.1.power if1.if1.false in
+    let h = halved s.requires.1.power if1.if-gates-le1.false in
     let size = length_between (listed_operands a.before a.operands.now) a.base (a.gates / 2) in (
       omega (arith, s.requires.0),
-      lower-program-room s.requires.1 h (omega (arith, between.program-between.ensures.0, upper.program-universal.ensures.0, size))
-          (between.program-between.auto.1.1.1.1.0 ∙ upper.program-universal.auto.1.1.1.1.1.0)
-          (between.program-between.auto.1.1.1.1.1.0 ∙ upper.program-universal.auto.1.1.1.1.1.1.0),
+      lower-program-room s.requires.1 h (omega (arith, between.program_between-lower.ensures.0, upper.program_universal-between.ensures.0, size))
+          (between.program_between-lower.auto.wanted ∙ upper.program_universal-between.auto.wanted)
+          (between.program_between-lower.auto.program ∙ upper.program_universal-between.auto.program),
     )
 
 stored : (t : ℕ) → program-universal-lts.Need-returns-2 (calls t) (universal_at_lem t) program-universal.Post
@@ -116,22 +116,22 @@ stored t c =
     let a = s.args in
     let operandList = a.operands.now in
     let G = listed_gates a.before operandList a.tables.now in
-    let h = halved s.requires.1.power if1.if1.false in
+    let h = halved s.requires.1.power if1.if-gates-le1.false in
     let same = between_listed a.before operandList a.tables.now a.base (a.gates / 2) in
     let size = length_between (listed_operands a.before operandList) a.base (a.gates / 2) in (
       omega (
         arith,
-        lower.program-universal2.ensures.0,
-        between.program-between.ensures.0,
-        upper.program-universal.ensures.0,
+        lower.program_universal.ensures.0,
+        between.program_between-lower.ensures.0,
+        upper.program_universal-between.ensures.0,
         size,
         takes-half s.requires.1 h,
       ),
       halves_stored G a.gates a.base a.start a.program.now h
-          upper.program-universal.ensures.1 upper.program-universal.ensures.0
-          (between.program-between.ensures.1 ∙ ap (store_bits upper.program-universal.new.1.1.1.1.1.1.0 _) same)
-          (between.program-between.ensures.0 ∙ ap (λ (bits : List ℕ). upper.program-universal.result + length bits) same)
-          lower.program-universal2.ensures.1,
+          upper.program_universal-between.ensures.1 upper.program_universal-between.ensures.0
+          (between.program_between-lower.ensures.1 ∙ ap (store_bits upper.program_universal-between.new.program _) same)
+          (between.program_between-lower.ensures.0 ∙ ap (λ (bits : List ℕ). upper.program_universal-between.result + length bits) same)
+          lower.program_universal.ensures.1,
     )
 
 pub +program_universal_spec : {M : Type 1} → statement M

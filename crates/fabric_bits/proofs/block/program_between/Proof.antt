@@ -11,34 +11,27 @@ use Rattle.fabric_bits.proofs.UniversalBitsLaws.{length_between, between_passes,
 use Rattle.fabric_bits.proofs.block.program_between.Statement.{statement}
 use Rattle.fabric_bits.proofs.block.program_between.Tie as tie
 
-listed : (c : tie.After-list-gates) → let a = c.before.before.before.before.before.args in
-    take (2 * a.half) c.list-gates.new.1.1.1.1.0 ≡ wanted_gates (listed_operands a.before a.operands.now) a.base a.half
+listed : (c : tie.After-list_gates) → let a = c.args in
+    take (2 * a.half) c.list_gates.new.wanted ≡ wanted_gates (listed_operands a.before a.operands.now) a.base a.half
 listed c =
-    let s = c.before.before.before.before.before in
-    let a = s.args in
-    gates-listed a.wanted.now (listed_operands a.before a.operands.now) a.base a.half c.list-gates.ensures s.requires.wanted_room
+    let a = c.args in
+    gates-listed a.wanted.now (listed_operands a.before a.operands.now) a.base a.half c.list_gates.ensures c.requires.wanted_room
 
-for_selection : tie.Need-store-selection-requires
+for_selection : tie.Need-store_selection-choices-requires
 for_selection c κs =
-    let list = c.before.before.before.before in
-    let s = list.before.before.before.before.before in
-    let a = s.args in
-    (between_passes (listed_operands a.before a.operands.now) a.base list.list-gates.new.1.1.1.1.0 s.requires (listed list), omega (arith, s.requires.few))
+    let a = c.args in
+    (between_passes (listed_operands a.before a.operands.now) a.base c.list_gates.new.wanted c.requires (listed c.before.before.before), omega (arith, c.requires.few))
 
 stored : tie.Need-returns
 stored c =
-    let first = c.before.before.before.before.before.before in
-    let list = first.before.before.before.before.before in
-    let a = list.before.before.before.before.before.args in
+    let a = c.args in
     let G = listed_operands a.before a.operands.now in (
-      omega (arith, first.store-selection.ensures.0, length_between G a.base a.half),
-      between_stored G a.base a.half a.start a.program.now (listed list) first.store-selection.ensures.1 first.store-selection.ensures.0
-          c.before.before.store-choices.ensures,
+      omega (arith, c.store_selection-choices.ensures.0, length_between G a.base a.half),
+      between_stored G a.base a.half a.start a.program.now (listed c.before.before.before.before.before.before.before.before.before.before) c.store_selection-choices.ensures.1 c.store_selection-choices.ensures.0
+          c.store_choices.ensures,
     )
 
 pub program_between_spec : {M : Type 1} → statement M
 program_between_spec =
     tie.close
-    (tie.spec
-    (λ c κs. search rules) (λ c. search rules) for_selection (λ c κs. search rules) (λ c. search rules) (λ c. search rules) (λ c. search rules)
-    (λ c. search rules) stored)
+    (tie.spec (λ c κs. search rules) (λ c. search rules) for_selection (λ c κs. search rules) (λ c. search rules) (λ c. search rules) (λ c. search rules) (λ c. search rules) stored)

@@ -7,15 +7,12 @@ use Rattle.fabric_bits.proofs.block.store_selection.Statement.{statement}
 use Rattle.fabric_bits.proofs.block.store_selection.Tie as tie
 
 stored : tie.Need-returns
-stored c =
-    let called = c.before.before.before in
-    let s = called.before.before.before.before.before in (
-      ap (λ n. s.args.start + n) c.selection-count.ensures,
-      called.program-selection-at.ensures.1 ∙ selection-stored s.args.program.now s.requires.0,
-    )
+stored c = (
+  ap (λ n. c.args.start + n) c.selection_count.ensures,
+  c.program_selection_at.ensures.1 ∙ selection-stored c.args.program.now c.requires.0,
+)
 
 pub store_selection_spec : {M : Type 1} → statement M
 store_selection_spec =
     tie.close
-    (tie.spec
-    (λ c. search rules) (λ c κs. search rules) (λ c κs. search rules) (λ c. search rules) (λ c. search rules) (λ c. search rules) stored)
+    (tie.spec (λ c. search rules) (λ c κs. search rules) (λ c κs. search rules) (λ c. search rules) (λ c. search rules) (λ c. search rules) stored)

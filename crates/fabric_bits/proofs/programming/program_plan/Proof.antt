@@ -17,44 +17,41 @@ use Rattle.fabric_bits.proofs.programming.program_plan.Statement.{statement}
 use Rattle.fabric_bits.proofs.programming.program_plan.Tie as tie
 
 -- where the checks give a length, none fails
-module _ (c : tie.After-length) where
-  checked : let a = c.before.before.before.before.args in ProgramChecked a.plan (length a.program.now) (ProgramCheck.Length c.length.given.0.0)
-  checked = subst (ProgramChecked _ _) c.length.given.1 c.before.before.check-plan-program.ensures
+module _ (c : tie.In-Length-2) where
+  checked : let a = c.args in ProgramChecked a.plan (length a.program.now) (ProgramCheck.Length c.in-Length.length)
+  checked = subst (ProgramChecked _ _) c.in-Length.is c.check_plan_program.ensures
 
-  passes : let a = c.before.before.before.before.args in PlanProgramPasses a.plan (length a.program.now)
+  passes : let a = c.args in PlanProgramPasses a.plan (length a.program.now)
   passes = plan-program-passes _ _ (sym checked.0)
 
-for_bits : tie.Need-store-plan-requires
+for_bits : tie.Need-store_plan-requires
 for_bits c κs =
-    let filled = c.before.before.before.fill-bytes in
+    let filled = c.fill_bytes in
     let h = passes c.before.before.before.before.before.before in
-    (h.accepted, omega (arith, h.fits, filled.auto.0))
+    (h.accepted, omega (arith, h.fits, c.fill_bytes.auto.bytes))
 
-refused : tie.Need-returns
+refused : tie.Need-returns-in-Refused
 refused c =
-    let f = c.before.f.given in
-    let e = subst (ProgramChecked _ _) f.1 c.before.before.before.check-plan-program.ensures in
-    (e, filled-refused f.0.0 _ _ _ e)
+    let e = subst (ProgramChecked _ _) c.in-Refused.is c.check_plan_program.ensures in
+    (e, filled-refused c.in-Refused.f _ _ _ e)
 
-done : tie.Need-returns-2
+done : tie.Need-returns-in-Length
 unfolding plan_program
 done c =
-    let stored = c.before.before.store-plan in
+    let stored = c.store_plan in
     let filled = c.before.before.before.before.before.before in
     let told = filled.before.before.before in
     let (none, measured) = checked told in
-    let a = told.before.before.before.before.args in
+    let a = c.args in
     let bits = plan_bits a.plan in
-    let room : told.length.given.0.0 ≤ length a.program.now = omega (arith, (passes told).ranges, measured) in
+    let room : c.in-Length.length ≤ length a.program.now = omega (arith, (passes told).ranges, measured) in
     let bytes = ap bytes_for (length-plan_bits a.plan) ∙ sym measured in (
       none,
-      stored.ensures ∙ ap (λ s. store_bits s 0 bits) (filled.fill-bytes.ensures ∙ bytes-filled _ 0 a.program.now room)
+      stored.ensures ∙ ap (λ s. store_bits s 0 bits) (c.fill_bytes.ensures ∙ bytes-filled _ 0 a.program.now room)
           ∙ store_zeroed bits a.program.now _ bytes ∙ filled-done _ _ _ none,
     )
 
 pub program_plan_spec : {M : Type 1} → statement M
 program_plan_spec =
     tie.close
-    (tie.spec
-    (λ c κs. search rules) (λ c. search rules) (λ c. search rules) (λ c κs. search rules) for_bits refused
-    (λ c. search rules) done)
+    (tie.spec (λ c κs. search rules) (λ c. search rules) (λ c. search rules) (λ c κs. search rules) for_bits refused (λ c. search rules) done)

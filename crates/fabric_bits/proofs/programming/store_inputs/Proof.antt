@@ -10,25 +10,20 @@ use Rattle.fabric_lists.proofs.WantedListsLaws.{inputs-listed}
 use Rattle.fabric_bits.proofs.programming.store_inputs.Statement.{statement}
 use Rattle.fabric_bits.proofs.programming.store_inputs.Tie as tie
 
-listed : (c : tie.After-list-inputs) → let a = c.before.before.before.before.before.args in
-    take a.count c.list-inputs.new.1.1.1.0 ≡ inputs_wanted a.inputs a.operands.now a.count
+listed : (c : tie.After-list_inputs) → let a = c.args in
+    take a.count c.list_inputs.new.wanted ≡ inputs_wanted a.inputs a.operands.now a.count
 listed c =
-    let s = c.before.before.before.before.before in
-    inputs-listed s.args.wanted.now s.args.inputs s.args.operands.now s.args.count c.list-inputs.ensures s.requires.1.0
+    inputs-listed c.args.wanted.now c.args.inputs c.args.operands.now c.args.count c.list_inputs.ensures c.requires.1.0
 
-for_selection : tie.Need-store-selection-requires
+for_selection : tie.Need-store_selection-requires
 for_selection c κs =
-    let list = c.before.before.before.before in
-    let s = list.before.before.before.before.before in
-    (rw (listed list) s.requires.0, omega (arith, s.requires.1.1))
+    (rw (listed c.before.before.before) c.requires.0, omega (arith, c.requires.1.1))
 
 stored : tie.Need-returns
 stored c =
-    let selected = c.before.before in
-    let first = selected.store-selection in
-    let list = selected.before.before.before.before.before in
-    let a = list.before.before.before.before.before.args in
-    (omega (arith, first.ensures.0), first.ensures.1 ∙ ap (λ w. store_bits a.program.now 0 (selection_bits a.inputs a.count w)) (listed list))
+    let first = c.store_selection in
+    let a = c.args in
+    (omega (arith, first.ensures.0), first.ensures.1 ∙ ap (λ w. store_bits a.program.now 0 (selection_bits a.inputs a.count w)) (listed c.before.before.before.before.before.before))
 
 pub store_inputs_spec : {M : Type 1} → statement M
 store_inputs_spec = tie.close (tie.spec (λ c κs. search rules) for_selection (λ c. search rules) (λ c. search rules) stored)

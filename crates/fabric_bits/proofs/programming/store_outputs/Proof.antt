@@ -14,37 +14,30 @@ use Rattle.fabric_bits.proofs.programming.store_outputs.Statement.{statement}
 use Rattle.fabric_bits.proofs.programming.store_outputs.Tie as tie
 
 -- the way back: from the outputs' bits to their list, to what is handed over
-abbrev list : tie.After-store-selection-arg2 → tie.After-list-outputs
+abbrev list : tie.After-store-selection-arg2 → tie.After-list_outputs
 list c = c.before.before.before.before.before.before
 
-abbrev start : tie.After-list-outputs → tie.Start
+abbrev start : tie.After-list_outputs → tie.Start
 start c = c.before.before.before.before
 
-listed : (c : tie.After-list-outputs) → let p = (start c).args.plan in take p.output_count c.list-outputs.new.1.0 ≡ wanted_outputs p
+listed : (c : tie.After-list_outputs) → let p = c.args.plan in take p.output_count c.list_outputs.new.wanted ≡ wanted_outputs p
 listed c =
-    let s = start c in
-    let few = (accepted-counts s.args.plan s.pre.0).outputs in
-    outputs-listed s.args.wanted.now s.args.plan c.list-outputs.ensures few (omega (arith, s.pre.1.0))
+    let few = (accepted-counts c.args.plan c.requires.0).outputs in
+    outputs-listed c.args.wanted.now c.args.plan c.list_outputs.ensures few (omega (arith, c.requires.1.0))
 
-for_selection : tie.Need-store-selection-requires
+for_selection : tie.Need-store_selection-requires
 for_selection c κs =
-    let outputs = list c in
-    let s = start outputs in
-    let e = (plan-places s.args.plan s.pre.0).is_places in
-    (outputs_pass s.args.plan s.pre.0 outputs.list-outputs.last.1.0 e (listed outputs) s.pre.1.1.0, rw e s.pre.1.1.1)
+    let e = (plan-places c.args.plan c.requires.0).is_places in
+    (outputs_pass c.args.plan c.requires.0 c.list_outputs.new.wanted e (listed c.before.before.before.before.before) c.requires.1.1.0, rw e c.requires.1.1.1)
 
 stored : tie.Need-returns
 stored c =
-    let selected = c.before.before in
-    let outputs = list selected.before in
-    let s = start outputs in
-    let a = s.args in
-    selected.store-selection.ensures.1
-    ∙ ap₂ (λ m w. store_bits a.program.now a.start (selection_bits m a.plan.output_count w)) (plan-places a.plan s.pre.0).is_places
-    (listed outputs)
+    let a = c.args in
+    c.store_selection.ensures.1
+    ∙ ap₂ (λ m w. store_bits a.program.now a.start (selection_bits m a.plan.output_count w)) (plan-places a.plan c.requires.0).is_places
+    (listed c.before.before.before.before.before.before.before.before)
 
 pub store_outputs_spec : {M : Type 1} → statement M
 store_outputs_spec =
     tie.close
-    (tie.spec
-    (λ c κs. search rules) (λ c. search rules) (λ c. search rules) for_selection (λ c. search rules) (λ c. search rules) stored)
+    (tie.spec (λ c κs. search rules) (λ c. search rules) (λ c. search rules) for_selection (λ c. search rules) (λ c. search rules) stored)

@@ -9,44 +9,33 @@ use Rattle.fabric_bits.proofs.programming.store_plan.Statement.{statement}
 use Rattle.fabric_bits.proofs.programming.store_plan.Tie as tie
 
 -- the way back: from the gates' bits to their lists, to what is handed over
-abbrev listed : tie.After-store-gates-arg → tie.After-load-gates
+abbrev listed : tie.After-store_gates-arg-1 → tie.After-load_gates
 listed c = c.before.before.before.before.before.before.before
 
-abbrev start : tie.After-load-gates → tie.Start
+abbrev start : tie.After-load_gates → tie.Start
 start c = c.before.before.before.before
 
-lists : (c : tie.After-load-gates) → Loaded (start c).args.plan c.load-gates.new.1.0 c.load-gates.new.1.1.0
-lists c = let s = start c in loaded s.args.plan s.pre.0 refl c.load-gates.ensures.0 c.load-gates.ensures.1
+lists : (c : tie.After-load_gates) → Loaded c.args.plan c.load_gates.new.operands c.load_gates.new.tables
+lists c = loaded c.args.plan c.requires.0 refl c.load_gates.ensures.0 c.load_gates.ensures.1
 
-for_gates : tie.Need-store-gates-requires
+for_gates : tie.Need-store_gates-next-requires
 for_gates c κs =
-    let load = listed c in
-    let s = start load in
-    gates-program-room s.args.plan (lists load) s.pre.0 refl s.pre.1
+    gates-program-room c.args.plan (lists c.before.before.before.before.before.before.before) c.requires.0 refl c.requires.1
 
-for_outputs : tie.Need-store-outputs-requires
+for_outputs : tie.Need-store_outputs-requires
 for_outputs c κs =
-    let gates = c.before.before.before.before.before in
-    let lists = listed gates.before in
-    let load = lists.load-gates in
-    let s = start lists in
-    let kept = gates.store-gates.auto.1.1.1.1.1.0 in
-    let room = length s.args.program.now in
-    let fit = output-bits-fit s.args.plan s.pre.0 load.last.1.0 load.last.1.1.0 room s.pre.1 gates.store-gates.ensures.0 in
-    (s.pre.0, (gates.store-gates.auto.1.1.1.1.0, (rw kept fit.0, fit.1)))
+    let load = c.load_gates in
+    let kept = c.store_gates-next.auto.program in
+    let room = length c.args.program.now in
+    let fit = output-bits-fit c.args.plan c.requires.0 c.load_gates.new.operands c.load_gates.new.tables room c.requires.1 c.store_gates-next.ensures.0 in
+    (c.requires.0, (c.store_gates-next.auto.wanted, (rw kept fit.0, fit.1)))
 
 stored : tie.Need-returns
 stored c =
-    let outputs = c.before.before.before in
-    let gates = outputs.before.before.before.before.before.before in
-    let load = listed gates.before in
-    let s = start load in
-    plan-stored s.args.plan (lists load) s.pre.0 s.args.program.now gates.store-gates.ensures.1 gates.store-gates.ensures.0
-    outputs.store-outputs.ensures
+    plan-stored c.args.plan (lists c.before.before.before.before.before.before.before.before.before.before.before.before.before.before.before.before.before) c.requires.0 c.args.program.now c.store_gates-next.ensures.1 c.store_gates-next.ensures.0
+    c.store_outputs.ensures
 
 pub store_plan_spec : {M : Type 1} → statement M
 store_plan_spec =
     tie.close
-    (tie.spec
-    (λ c. search rules) (λ c. search rules) (λ c κs. search rules) (λ c. search rules) (λ c. search rules) (λ c. search rules) (λ c. search rules) for_gates
-    (λ c. search rules) for_outputs (λ c. search rules) stored)
+    (tie.spec (λ c. search rules) (λ c. search rules) (λ c κs. search rules) (λ c. search rules) (λ c. search rules) (λ c. search rules) (λ c. search rules) for_gates (λ c. search rules) for_outputs (λ c. search rules) stored)
