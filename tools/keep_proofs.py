@@ -429,6 +429,10 @@ def main():
         asked = re.search(r"(?s)  pub spec :\n(.*?)  spec =", open(tie, encoding="utf-8").read())
         lts = open(os.path.join(os.path.dirname(tie), "Lts.antt"), encoding="utf-8").read()
         places_of = dict(re.findall(rf"abbrev pub Need-({WORD}) :[^=]*=\s*\(c : ({WORD})\)", lts))
+        # a parameter that had no name of its own goes by its own name now
+        own = re.search(r"pub record Args : Type \d where\n((?: +pub .*\n(?: +(?!pub).*\n)*)+)", lts)
+        own = re.findall(rf"(?m)^ +pub ({WORD}) :", own[1]) if own else []
+        text = re.sub(r"\.t(\d+)(?![\w'-])", lambda m: "." + own[int(m[1]) - 1] if 0 < int(m[1]) <= len(own) else m[0], text)
         new = convert(text, names[key], re.findall(rf"Need-({WORD})", asked[1]) if asked else [b for a, b in names[key]["needs"]], places_of, folder)
         if new != text:
             open(f, "w", encoding="utf-8").write(new)

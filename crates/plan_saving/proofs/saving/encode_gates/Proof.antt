@@ -29,14 +29,14 @@ gate-fits c = let counts = accepted-counts _ c.requires.0 in omega arith
 
 -- the fields that the code decides on are those of the shortest file
 decided : (c : tie.After-fields_needed invariant_loop decreases_loop)
-    → let plan = c.args.t3 in
+    → let plan = c.args.plan in
     c.fields_needed.result ≡ fields_needed (gate_wire plan.inputs c.loop-i.i) (gate_at plan c.loop-i.i)
 decided c =
     needed-fields _ c.requires.0 c.loop-i.i (omega arith) c.gate_wire.ensures c.fields_needed.ensures
 
 room : tie.Need-encode_gate-at-requires invariant_loop decreases_loop
 room c κs =
-    let plan = c.args.t3 in
+    let plan = c.args.plan in
     let i = c.loop-i.i in
     let held = c.loop-i.invariant.1 in (
       (accepted-gate plan c.requires.0 i (omega arith)).table,
@@ -52,7 +52,7 @@ room c κs =
 
 again : tie.Need-loop-i-preserved invariant_loop decreases_loop
 again c =
-    let plan = c.args.t3 in
+    let plan = c.args.plan in
     let i = c.loop-i.i in
     let gate = wrote_as c.encode_gate-at.ensures (ap (λ s. encode_gate (map_byte_of s) (gate_at plan i)) (decided c.before.before.before)) in
     (omega arith, wrote_as (wrote-more c.loop-i.invariant.1 gate) (joined-more (λ j. encode_gate (shortest_map plan j) (gate_at plan j)) i))
@@ -62,7 +62,7 @@ same_length c = wrote-length c.loop-i.invariant.1
 
 all : tie.Need-returns invariant_loop decreases_loop
 all c =
-    let plan = c.args.t3 in
+    let plan = c.args.plan in
     let e : c.loop-i.i ≡ plan.gate_count = omega arith in
     wrote_as c.loop-i.invariant.1 (ap (saved_gates plan) e)
 

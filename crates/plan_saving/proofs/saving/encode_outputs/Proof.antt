@@ -34,12 +34,12 @@ room c κs =
       c.requires.1,
       held.is_next,
       wrote-length held,
-      joined_length (λ i. word (get_or c.args.t4 i (wire 0)).0) output_bytes c.loop-j.j (λ i. refl),
+      joined_length (λ i. word (get_or c.args.outputs i (wire 0)).0) output_bytes c.loop-j.j (λ i. refl),
     )
 
 again : tie.Need-loop-j-preserved invariant_loop decreases_loop
 again c =
-    let outputs = c.args.t4 in
+    let outputs = c.args.outputs in
     (omega arith, wrote_as (wrote-more c.loop-j.invariant.1 c.encode_word-at.ensures) (joined-more (λ i. word (get_or outputs i (wire 0)).0) c.loop-j.j))
 
 same_length : tie.Need-shape_of-file invariant_loop decreases_loop
@@ -49,7 +49,7 @@ all : tie.Need-returns invariant_loop decreases_loop
 all c =
     let start = c.args in
     let e : c.loop-j.j ≡ start.count = omega arith in
-    wrote_as c.loop-j.invariant.1 (ap (λ n. joined_bytes n (λ i. word (get_or start.t4 i (wire 0)).0)) e)
+    wrote_as c.loop-j.invariant.1 (ap (λ n. joined_bytes n (λ i. word (get_or start.outputs i (wire 0)).0)) e)
 
 pub encode_outputs_spec : {M : Type 1} → statement M
 encode_outputs_spec =
