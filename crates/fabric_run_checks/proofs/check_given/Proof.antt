@@ -15,54 +15,49 @@ use Rattle.fabric_run_checks.proofs.check_given.Statement.{statement}
 use Rattle.fabric_run_checks.proofs.check_given.Tie as tie
 
 -- where the table passes: its wires and bits are counted
-module _ (c : tie.After-c) where
+module _ (c : tie.In-Counted-2) where
   abbrev start : tie.Start
-  start = c.before.before.before.before.before
+  start = c.before.before.before.before
 
   abbrev table : List ℕ
   table = start.args.table.now
 
-  counted : CountedBy (table_fault table) table c.c.given.0.0
+  counted : CountedBy (table_fault table) table c.in-Counted.c
   counted =
-      counted_by (table_fault table) table c.c.given.0.0 (ap check_outcome (sym c.c.given.1) ∙ c.before.before.check-table.ensures.0)
+      counted_by (table_fault table) table c.in-Counted.c (ap check_outcome (sym c.in-Counted.is) ∙ c.check_table.ensures.0)
 
-  few : c.c.given.0.0.bits ≤ max_bits
-  few = subst (λ r. (check_outcome r).bits ≤ max_bits) c.c.given.1 c.before.before.check-table.ensures.1
+  few : c.in-Counted.c.bits ≤ max_bits
+  few = subst (λ r. (check_outcome r).bits ≤ max_bits) c.in-Counted.is c.check_table.ensures.1
 
 -- what 14 answers
-program-asked : (c : tie.After-check-given-program) → let t = c.before.before in
-    answer_number c.check-given-program.result ≡ given_program_fault (bits_in (table t)) (start t).args.program.now
+program-asked : (c : tie.After-check_given_program) → let t = c.before.before in
+    answer_number c.check_given_program.result ≡ given_program_fault (bits_in (table t)) (start t).args.program.now
 program-asked c =
     let t = c.before.before in
-    c.check-given-program.ensures ∙ ap (λ n. given_program_fault n (start t).args.program.now) (counted t).counted.bits
+    c.check_given_program.ensures ∙ ap (λ n. given_program_fault n (start t).args.program.now) (counted t).counted.bits
 
-bad-table : tie.Need-returns
+bad-table : tie.Need-returns-in-Refused
 unfolding given_fault
 bad-table c =
-    let f = c.before.f.given in
-    let asked = c.before.before.before in
-    let table = asked.before.before.before.args.table.now in
-    refused-table f.0.0 _ table
-    (stop f.0.0 _ (refused_by f.0.0 (table_fault table) table (ap check_outcome (sym f.1) ∙ asked.check-table.ensures.0)))
+    let table = c.args.table.now in
+    refused-table c.in-Refused.f _ table
+    (stop c.in-Refused.f _ (refused_by c.in-Refused.f (table_fault table) table (ap check_outcome (sym c.in-Refused.is) ∙ c.check_table.ensures.0)))
 
-bad-program : tie.Need-returns-2
+bad-program : tie.Need-returns-in-Refused-check_given_program
 unfolding given_fault
 bad-program c =
-    let f = c.before.f2.given in
     let asked = c.before.before.before in
     let t = asked.before.before in
-    refused-table f.0.0 _ (table t) ((counted t).passes then (ap answer_number (sym f.1) ∙ program-asked asked))
+    refused-table c.in-Refused-check_given_program.f _ (table t) ((counted t).passes then (ap answer_number (sym c.in-Refused-check_given_program.is) ∙ program-asked c.before))
 
-passes : tie.Need-returns-3
+passes : tie.Need-returns-in-Done
 unfolding given_fault
 passes c =
     let asked = c.before.before in
     let t = asked.before.before in
-    counted-table _ (table t) _ ((counted t).passes then (ap answer_number (sym c.enum_told.given.1) ∙ program-asked asked)) (counted t).counted
+    counted-table _ (table t) _ ((counted t).passes then (ap answer_number (sym c.in-Done.is) ∙ program-asked c.before)) (counted t).counted
 
 pub check_given_spec : {M : Type 1} → statement M
 check_given_spec =
     tie.close
-    (tie.spec
-    (λ c κs. search rules) (λ c. search rules) (λ c. search rules) (λ c κs. few c.before) (λ c. search rules) (λ c. search rules)
-    bad-table bad-program passes)
+    (tie.spec (λ c κs. search rules) (λ c. search rules) (λ c. search rules) (λ c κs. few c.before) (λ c. search rules) (λ c. search rules) bad-table bad-program passes)

@@ -16,9 +16,9 @@ use Rattle.fabric_run_checks.proofs.check_run_series.Statement.{statement}
 use Rattle.fabric_run_checks.proofs.check_run_series.Tie as tie
 
 -- where table and program pass: the table is well formed, and its wires are counted
-module _ (c : tie.After-c) where
+module _ (c : tie.In-Counted-2) where
   abbrev start : tie.Start
-  start = c.before.before.before.before.before.before.before
+  start = c.before.before.before.before.before.before
 
   abbrev table : List ℕ
   table = start.args.table.now
@@ -26,56 +26,51 @@ module _ (c : tie.After-c) where
   abbrev given : ℕ
   given = given_fault table start.args.program.now
 
-  counted : CountedBy given table c.c.given.0.0
-  counted = counted_by given table c.c.given.0.0 (ap check_outcome (sym c.c.given.1) ∙ c.before.before.check-given.ensures)
+  counted : CountedBy given table c.in-Counted.c
+  counted = counted_by given table c.in-Counted.c (ap check_outcome (sym c.in-Counted.is) ∙ c.check_given.ensures)
 
   well_formed_lem : WellFormed table
   well_formed_lem = given_well_formed table start.args.program.now (sym counted.passes)
 
 -- from behind the checks of a series to there
-abbrev passed : tie.After-check-series → tie.After-c
+abbrev passed : tie.After-check_series → tie.In-Counted-2
 passed c = c.before.before.before.before
 
-inputs_read : tie.Need-shared-slice-read-inputs
+inputs_read : tie.Need-bounds-table-0
 inputs_read c = let w = (well_formed_lem c.before.before).start in omega arith
 
-outputs-read : tie.Need-shared-slice-read-outputs
+outputs-read : tie.Need-bounds-table-1
 outputs-read c = let w = (well_formed_lem c.before.before.before).start in omega arith
 
-bad-given : tie.Need-returns-2
+bad-given : tie.Need-returns-in-Refused
 unfolding run_series_fault
 bad-given c =
-    let f = c.before.f.given in
-    let asked = c.before.before.before in
-    let a = asked.before.before.before.before.before.args in
-    stop f.0.0 _ (refused_by f.0.0 (given_fault a.table.now a.program.now) a.table.now (ap check_outcome (sym f.1) ∙ asked.check-given.ensures))
+    let a = c.args in
+    stop c.in-Refused.f _ (refused_by c.in-Refused.f (given_fault a.table.now a.program.now) a.table.now (ap check_outcome (sym c.in-Refused.is) ∙ c.check_given.ensures))
 
-bad-series : tie.Need-returns-3
+bad-series : tie.Need-returns-in-Refused-check_series
 unfolding run_series_fault
 bad-series c =
-    let f = c.before.f2.given in
     let asked = c.before.before.before in
-    (counted (passed asked)).passes then stop f.0.0 _ (answer-refuses f.1 asked.check-series.ensures)
+    (counted (passed asked)).passes then stop c.in-Refused-check_series.f _ (answer-refuses c.in-Refused-check_series.is c.check_series.ensures)
 
 -- behind the checks of a series the work buffer decides
-module _ (told : tie.After-enum-told) where
-  abbrev asked : tie.After-check-series
-  asked = told.before.before
+module _ (told : tie.In-Done) where
+  abbrev asked : tie.After-check_series
+  asked = told.before
 
   decides : {m : ℕ} → m ≡ room_fault (wires_in (table (passed asked))) (start (passed asked)).args.work → let a = (start (passed asked)).args in
       m ≡ run_series_fault a.table.now a.program.now a.hold a.intervals a.fresh.now a.start.now a.work a.results a.end
   unfolding run_series_fault
-  decides e = (counted (passed asked)).passes then answer-passes told.enum_told.given.1 asked.check-series.ensures then e
+  decides e = (counted (passed asked)).passes then answer-passes told.in-Done.is asked.check_series.ensures then e
 
-short-work : tie.Need-returns
-short-work c = let told = c.before.before in decides told (room-refuses (counted (passed (asked told))).counted.wires c.if1.true)
+short-work : tie.Need-returns-then-work-c
+short-work c = decides c.before.before (room-refuses (counted (passed (asked c.before.before))).counted.wires c.if-work-c.true)
 
-room : tie.Need-returns-4
-room c = let told = c.before.before in decides told (room-passes (counted (passed (asked told))).counted.wires c.if1.false)
+room : tie.Need-returns-else-work-c
+room c = decides c.before.before (room-passes (counted (passed (asked c.before.before))).counted.wires c.if-work-c.false)
 
 pub check_run_series_spec : {M : Type 1} → statement M
 check_run_series_spec =
     tie.close
-    (tie.spec
-    (λ c κs. search rules) (λ c. search rules) (λ c. search rules) inputs_read outputs-read (λ c κs. search rules) (λ c. search rules)
-    (λ c. search rules) short-work bad-given bad-series room)
+    (tie.spec (λ c κs. search rules) (λ c. search rules) (λ c. search rules) inputs_read outputs-read (λ c κs. search rules) (λ c. search rules) (λ c. search rules) short-work bad-given bad-series room)
