@@ -85,6 +85,15 @@ def align(args, kinds, needs):
     return out, dropped
 
 
+def places_of_entry(entry):
+    """The old name of a place to its new one; the parts of an arm are one place."""
+    out = {}
+    for old, new, arm in zip(entry["places"], entry["places_by_name"], entry["arms"]):
+        whole = "In-" + arm[0][3:] if arm and arm[0].startswith("in-") else None
+        out[norm(old[0])] = whole if whole in entry["places_by_name"] else new
+    return out
+
+
 def steps_of(entry):
     """The old name of a step to its new one, its callee and its fields; and what an arm of a match has, by the old step."""
     fields = {}
@@ -196,7 +205,7 @@ def of_cycle(text, names, crate):
         if not entry or ".Lts" not in path:
             continue
         fields, arms = steps_of(entry)
-        places = {norm(old[0]): new for old, new in zip(entry["places"], entry["places_by_name"])}
+        places = places_of_entry(entry)
         text = re.sub(rf"(?<![\w.-]){re.escape(alias)}\.({WORD})", lambda m: alias + "." + places.get(norm(m[1]), m[1]), text)
         text = named(text, entry, fields, arms, set())
     return text
@@ -204,7 +213,7 @@ def of_cycle(text, names, crate):
 
 def convert(text, entry, asked, places_of, where):
     fields, arms = steps_of(entry)
-    places = {norm(old[0]): new for old, new in zip(entry["places"], entry["places_by_name"])}
+    places = places_of_entry(entry)
     loops = {norm(pair[0]): pair[1] for pair, _ in entry["loops"]}
 
     head, _, tail = text.rpartition("tie.spec")

@@ -15,7 +15,7 @@ use Rattle.fabric_run_checks.proofs.check_given.Statement.{statement}
 use Rattle.fabric_run_checks.proofs.check_given.Tie as tie
 
 -- where the table passes: its wires and bits are counted
-module _ (c : tie.In-Counted-2) where
+module _ (c : tie.In-Counted) where
   abbrev start : tie.Start
   start = c.before.before.before.before
 
@@ -30,11 +30,9 @@ module _ (c : tie.In-Counted-2) where
   few = subst (λ r. (check_outcome r).bits ≤ max_bits) c.in-Counted.is c.check_table.ensures.1
 
 -- what 14 answers
-program-asked : (c : tie.After-check_given_program) → let t = c.before.before in
-    answer_number c.check_given_program.result ≡ given_program_fault (bits_in (table t)) (start t).args.program.now
+program-asked : (c : tie.After-check_given_program) → answer_number c.check_given_program.result ≡ given_program_fault (bits_in (table c.before)) (start c.before).args.program.now
 program-asked c =
-    let t = c.before.before in
-    c.check_given_program.ensures ∙ ap (λ n. given_program_fault n (start t).args.program.now) (counted t).counted.bits
+    c.check_given_program.ensures ∙ ap (λ n. given_program_fault n (start c.before).args.program.now) (counted c.before).counted.bits
 
 bad-table : tie.Need-returns-in-Refused
 unfolding given_fault
@@ -46,18 +44,14 @@ bad-table c =
 bad-program : tie.Need-returns-in-Refused-check_given_program
 unfolding given_fault
 bad-program c =
-    let asked = c.before.before.before in
-    let t = asked.before.before in
-    refused-table c.in-Refused-check_given_program.f _ (table t) ((counted t).passes then (ap answer_number (sym c.in-Refused-check_given_program.is) ∙ program-asked c.before))
+    refused-table c.in-Refused-check_given_program.f _ (table c.before.before) ((counted c.before.before).passes then (ap answer_number (sym c.in-Refused-check_given_program.is) ∙ program-asked c.before))
 
 passes : tie.Need-returns-in-Done
 unfolding given_fault
 passes c =
-    let asked = c.before.before in
-    let t = asked.before.before in
-    counted-table _ (table t) _ ((counted t).passes then (ap answer_number (sym c.in-Done.is) ∙ program-asked c.before)) (counted t).counted
+    counted-table _ (table c.before.before) _ ((counted c.before.before).passes then (ap answer_number (sym c.in-Done.is) ∙ program-asked c.before)) (counted c.before.before).counted
 
 pub check_given_spec : {M : Type 1} → statement M
 check_given_spec =
     tie.close
-    (tie.spec (λ c κs. search rules) (λ c. search rules) (λ c. search rules) (λ c κs. few c.before) (λ c. search rules) (λ c. search rules) bad-table bad-program passes)
+    (tie.spec (λ c κs. search rules) (λ c. search rules) (λ c. search rules) (λ c κs. few c) (λ c. search rules) (λ c. search rules) bad-table bad-program passes)

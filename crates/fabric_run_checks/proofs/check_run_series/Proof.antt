@@ -16,7 +16,7 @@ use Rattle.fabric_run_checks.proofs.check_run_series.Statement.{statement}
 use Rattle.fabric_run_checks.proofs.check_run_series.Tie as tie
 
 -- where table and program pass: the table is well formed, and its wires are counted
-module _ (c : tie.In-Counted-2) where
+module _ (c : tie.In-Counted) where
   abbrev start : tie.Start
   start = c.before.before.before.before.before.before
 
@@ -33,14 +33,14 @@ module _ (c : tie.In-Counted-2) where
   well_formed_lem = given_well_formed table start.args.program.now (sym counted.passes)
 
 -- from behind the checks of a series to there
-abbrev passed : tie.After-check_series → tie.In-Counted-2
-passed c = c.before.before.before.before
+abbrev passed : tie.After-check_series → tie.In-Counted
+passed c = c.before.before.before
 
 inputs_read : tie.Need-bounds-table-0
-inputs_read c = let w = (well_formed_lem c.before.before).start in omega arith
+inputs_read c = let w = (well_formed_lem c.before).start in omega arith
 
 outputs-read : tie.Need-bounds-table-1
-outputs-read c = let w = (well_formed_lem c.before.before.before).start in omega arith
+outputs-read c = let w = (well_formed_lem c.before.before).start in omega arith
 
 bad-given : tie.Need-returns-in-Refused
 unfolding run_series_fault
@@ -51,8 +51,7 @@ bad-given c =
 bad-series : tie.Need-returns-in-Refused-check_series
 unfolding run_series_fault
 bad-series c =
-    let asked = c.before.before.before in
-    (counted (passed asked)).passes then stop c.in-Refused-check_series.f _ (answer-refuses c.in-Refused-check_series.is c.check_series.ensures)
+    (counted c.before.before.before.before).passes then stop c.in-Refused-check_series.f _ (answer-refuses c.in-Refused-check_series.is c.check_series.ensures)
 
 -- behind the checks of a series the work buffer decides
 module _ (told : tie.In-Done) where
