@@ -8,8 +8,8 @@ use Rattle.fabric_run.proofs.calls.run.Tie as tie
 
 single : tie.Need-returns
 single c =
-    let call = c.before.before.before.before.before.run-series in
-    let a = c.before.before.before.before.before.before.before.before.before.before.before.before.before.before.before.args in
+    let call = c.run_series in
+    let a = c.args in
     let is = run-series-single a.table.now a.program.now a.row.now a.work.now a.result.now [] in
     (call.ensures.0 ∙ is.answered, (call.ensures.1.0 ∙ is.worked, call.ensures.1.1.0 ∙ is.written))
 

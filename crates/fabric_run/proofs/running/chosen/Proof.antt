@@ -7,8 +7,7 @@ use Rattle.fabric_run.proofs.running.chosen.Tie as tie
 
 wire : tie.Need-returns
 wire c =
-    let s = c.before.before.before in
-    c.wire-of.ensures ∙ choose-entry s.args.table.now s.args.at s.args.b s.requires.1
+    c.wire_of.ensures ∙ choose-entry c.args.table.now c.args.at c.args.b c.requires.1
 
 pub chosen_spec : {M : Type 1} → statement M
 chosen_spec =

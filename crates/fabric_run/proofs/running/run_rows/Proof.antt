@@ -21,11 +21,11 @@ use Rattle.fabric_run.proofs.RunLaws.{RunStands, start-room, stands-first, row-r
 use Rattle.fabric_run.proofs.running.run_rows.Statement.{statement}
 use Rattle.fabric_run.proofs.running.run_rows.Tie as tie
 
-abbrev invariant_loop : tie.invariant-loop
+abbrev invariant_loop : tie.invariant-loop-i
 invariant_loop table program row state work₀ rows made₀ bit₀ i₀ work made bit i =
     (i ≤ rows) × (rows < max_wires) × RunStands table program (row ++ state) work₀ i bit made work
 
-abbrev decreases_loop : tie.decreases-loop
+abbrev decreases_loop : tie.decreases-loop-i
 decreases_loop table program row state work₀ rows made₀ bit₀ i₀ work made bit i = rows - i
 
 -- the numbers of the run are small, and its places lie in the table
@@ -59,93 +59,73 @@ module _ {i rows : ℕ} (h : i < rows) where
   fewer-left = omega arith
 
 -- the way back: from a row's counts to its run, to the loop, to where wire 0 and the inputs stand, to what is handed over
-abbrev ran : tie.After-counts-of invariant_loop decreases_loop → tie.After-run-row invariant_loop decreases_loop
+abbrev ran : tie.After-counts_of-own invariant_loop decreases_loop → tie.After-run_row invariant_loop decreases_loop
 ran c = c.before.before.before
 
-abbrev looped : tie.After-run-row invariant_loop decreases_loop → tie.In-loop invariant_loop decreases_loop
+abbrev looped : tie.After-run_row invariant_loop decreases_loop → tie.In-loop-i invariant_loop decreases_loop
 looped c = c.before.before.before.before
 
-abbrev started : tie.At-loop invariant_loop decreases_loop → tie.After-start-wires invariant_loop decreases_loop
+abbrev started : tie.At-loop-i invariant_loop decreases_loop → tie.After-start_wires invariant_loop decreases_loop
 started c = c.before.before.before.before.before.before
 
-abbrev start : tie.After-start-wires invariant_loop decreases_loop → tie.Start invariant_loop decreases_loop
+abbrev start : tie.After-start_wires invariant_loop decreases_loop → tie.Start invariant_loop decreases_loop
 start c = c.before.before.before.before.before.before.before
 
-for_start : tie.Need-start-wires-requires invariant_loop decreases_loop
-for_start c κs = start-room c.before.before.before.before.before.before.requires
+for_start : tie.Need-start_wires-requires invariant_loop decreases_loop
+for_start c κs = start-room c.requires
 
-holds : tie.Need-loop-init invariant_loop decreases_loop
+holds : tie.Need-loop-i-init invariant_loop decreases_loop
 holds c =
-    let read = c.before.before in
-    let first = read.before.before.before in
-    let s = start first in
-    let a = s.args in
-    let ready = subst (Runnable a.table.now (a.row.now ++ a.state.now)) (sym first.start-wires.auto.1.1.0) s.pre in
-    let made = 1 + c.wide.result in
-    let counted = counted-first a.table.now made (ap (λ n. 1 + n) c.wide.ensures.0) in (
+    let a = c.args in
+    let ready = subst (Runnable a.table.now (a.row.now ++ a.state.now)) (sym c.start_wires.auto.work) c.requires in
+    let made = 1 + c.wide-made.result in
+    let counted = counted-first a.table.now made (ap (λ n. 1 + n) c.wide-made.ensures.0) in (
       zero-le,
-      omega (arith, read.shared-slice-known5.given 2),
-      stands-first a.table.now a.program.now (a.row.now ++ a.state.now) a.work.now _ made ready counted first.start-wires.ensures,
+      omega (arith, c.shared-slice-known5.given 2),
+      stands-first a.table.now a.program.now (a.row.now ++ a.state.now) a.work.now _ made ready counted c.start_wires.ensures,
     )
 
 -- the kind that is read
-kind-read : (c : tie.After-row-start invariant_loop decreases_loop) → let table = (start (started c.before.before)).args.table.now in
-    get_or table c.row-start.result 0 ≡ kind_at table c.before.before.loop.i
-kind-read c = ap (λ n. get_or (start (started c.before.before)).args.table.now n 0) c.row-start.ensures.0
+kind-read : (c : tie.After-row_start-at invariant_loop decreases_loop) → let table = c.args.table.now in
+    get_or table c.row_start-at.result 0 ≡ kind_at table c.loop-i.i
+kind-read c = ap (λ n. get_or c.args.table.now n 0) c.row_start-at.ensures.0
 
-for_row : tie.Need-run-row-requires invariant_loop decreases_loop
+for_row : tie.Need-run_row-requires invariant_loop decreases_loop
 for_row c κs =
-    let placed = c.before.before in
-    let at = placed.before in
-    row-ready at.before.loop.invariant.2 at.loop-test.true (le_of_lt at.before.loop.invariant.1) placed.row-start.ensures.0 (kind-read placed)
+    row-ready c.loop-i.invariant.2 c.loop-i-test.true (le_of_lt c.loop-i.invariant.1) c.row_start-at.ensures.0 (kind-read c.before.before)
 
 -- few wires and bits are counted before row i
-few : (c : tie.In-loop invariant_loop decreases_loop) → Countable c.before.loop.made c.before.loop.bit
+few : (c : tie.In-loop-i invariant_loop decreases_loop) → Countable c.loop-i.made c.loop-i.bit
 few c =
-    let inv = c.before.loop.invariant in
+    let inv = c.loop-i.invariant in
     counted-few inv.2.ready.well_formed.start.inputs (le_trans inv.0 (le_of_lt inv.1)) inv.2.counted
 
-wires-fit : tie.Need-overflow-add-made-2 invariant_loop decreases_loop
-wires-fit c = let l = looped (ran c.before) in wires-sum l.before.loop.made (few l).wires c.before.Counts-of.ensures
+wires-fit : tie.Need-overflow_add-made-in-loop-i invariant_loop decreases_loop
+wires-fit c = wires-sum c.loop-i.made (few c.before.before.before.before.before.before.before.before).wires c.counts_of-own.ensures
 
-bits_fit : tie.Need-overflow-add-bit invariant_loop decreases_loop
-bits_fit c = let l = looped (ran c.before.before) in bits-sum l.before.loop.bit (few l).bits c.before.before.Counts-of.ensures
+bits_fit : tie.Need-overflow_add-bit invariant_loop decreases_loop
+bits_fit c = bits-sum c.loop-i.bit (few c.before.before.before.before.before.before.before.before.before).bits c.counts_of-own.ensures
 
-again : tie.Need-loop-preserved invariant_loop decreases_loop
+again : tie.Need-loop-i-preserved invariant_loop decreases_loop
 again c =
-    let counted = c.before.before in
-    let placed = (ran counted).before.before.before in
-    let loop = placed.before.before.loop in
-    let taken = placed.before.loop-test.taken in (
+    let loop = c.loop-i in
+    let taken = c.loop-i-test.true in (
       next-within taken,
-      loop.inv.1,
-      stands-more loop.inv.2 taken counted.Counts-of.result _ placed.row-start.ensures.0 (kind-read placed)
-          counted.Counts-of.ensures (ran counted).run_row.ensures,
+      loop.invariant.1,
+      stands-more loop.invariant.2 taken c.counts_of-own.result _ c.row_start-at.ensures.0 (kind-read c.before.before.before.before.before.before.before.before)
+          c.counts_of-own.ensures c.run_row.ensures,
     )
 
-same_length : tie.Need-same-length invariant_loop decreases_loop
-same_length c = c.before.loop.invariant.2.size ∙ (started c.before).start-wires.kept.1.1.0
+same_length : tie.Need-shape_of-work invariant_loop decreases_loop
+same_length c = c.loop-i.invariant.2.size ∙ c.start_wires.auto.work
 
 all : tie.Need-returns invariant_loop decreases_loop
 all c =
-    let loop = c.before.loop in
-    let first = started c.before in
-    let a = (start first).args in
-    stands-last a.work.now loop.invariant.2 (le_antisymm loop.invariant.0 c.loop-test.false) first.start-wires.ensures
+    let loop = c.loop-i in
+    let a = c.args in
+    stands-last a.work.now loop.invariant.2 (le_antisymm loop.invariant.0 c.loop-i-test.false) c.start_wires.ensures
 
 pub run_rows_spec : {M : Type 1} → statement M
 run_rows_spec =
     tie.close
-    (tie.spec invariant_loop decreases_loop
-    for_start
-    -- the table's counts
-    (λ c. header_in rows_place (lit< tt) (start c.before.before.before).pre.well_formed)
-    (λ c. header_in inputs_place (lit< tt) (start c.before.before.before.before).pre.well_formed)
-    (λ c κs. tt) (λ c. first_fits c.wide.ensures.1) holds
-    -- a row
-    (λ c κs. tt) (λ c. place-fits c.row-start.ensures.1)
-    (λ c. let l = c.before.before in place_in (start (started l.before)).pre.well_formed l.loop-test.true c.before.row-start.ensures.0)
-    for_row (λ c κs. tt) wires-fit bits_fit
-    (λ c. let l = looped (ran c.before.before) in next_fits l.loop-test.taken l.before.loop.inv.1)
-    (λ c. fewer-left (looped (ran c.before.before)).loop-test.taken) again
-    same_length all)
+    (tie.spec invariant_loop decreases_loop for_start (λ c. header_in rows_place (lit< tt) c.requires.well_formed) (λ c. header_in inputs_place (lit< tt) c.requires.well_formed) (λ c κs. tt) (λ c. first_fits c.wide-made.ensures.1) holds (λ c κs. tt) (λ c. place-fits c.row_start-at.ensures.1) (λ c. place_in c.requires.well_formed c.loop-i-test.true c.row_start-at.ensures.0) for_row (λ c κs. tt) wires-fit bits_fit (λ c. next_fits c.loop-i-test.true c.loop-i.invariant.1) (λ c. fewer-left c.loop-i-test.true) again same_length all)

@@ -9,20 +9,17 @@ use Rattle.fabric_run.proofs.running.run_y.Tie as tie
 
 for_wire : tie.Need-chosen-requires
 for_wire c κs =
-    let s = c.before.before.before.before in
-    (s.requires.entries, omega (arith, c.read-bit.ensures, bit_at_lt s.args.program.now s.args.bit))
+    (c.requires.entries, omega (arith, c.read_bit-b.ensures, bit_at_lt c.args.program.now c.args.bit))
 
-wire-made : tie.Need-slice-read-work
-wire-made c = let wire = c.before.before in chosen-fits _ _ wire.before.before.before.before.before.requires wire.chosen.ensures
+wire-made : tie.Need-bounds-work-chosen
+wire-made c = chosen-fits _ _ c.requires c.chosen.ensures
 
 given : tie.Need-returns
 given c =
-    let wire = c.before.before in
-    let read = wire.before in
-    let a = read.before.before.before.before.args in
+    let a = c.args in
     let table = a.table.now in
     y-done a.program.now a.work.now a.bit a.made (left_of table a.at) (right_of table a.at) _ _
-    read.read-bit.ensures wire.chosen.ensures
+    c.read_bit-b.ensures c.chosen.ensures
 
 pub run_y_spec : {M : Type 1} → statement M
 run_y_spec = tie.close (tie.spec (λ c κs. search rules) for_wire (λ c. search rules) wire-made (λ c. search rules) (λ c. search rules) given)
