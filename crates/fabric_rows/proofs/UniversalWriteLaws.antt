@@ -17,7 +17,7 @@ use Rattle.blocks.proofs.ElementsLaws.{flat_append, length-flat, part-is}
 use Rattle.blocks.specs.Networks.{selection_rows, selection_outs, selection_count, selection_wires}
 use Rattle.blocks.proofs.NetworksLaws.{length-selection_outs}
 use Rattle.fabric_universal.specs.Selector.{pin_count, selection}
-use Rattle.fabric_universal.proofs.SelectorLaws.{double, selection-shape}
+use Rattle.fabric_universal.proofs.SelectorLaws.{selection-shape}
 use Rattle.fabric_universal.specs.Universal.{mix_rows, wires_from, universal_count, universal_wires, select_next, lower_half_next, universal_outs, selected_outs}
 use Rattle.fabric_universal.specs.Universal.{lower_pins, universal_rows}
 use Rattle.fabric_universal.proofs.UniversalLaws.{length-universal_outs, universal_below, length-universal_rows, universal_totals}

@@ -80,13 +80,13 @@ module _ (t : ℕ) where
   fed c = c.before.before.before.before.before.before
 
   abbrev upper : Middle → Upper
-  upper c = fed c.before.before.before.before
+  upper c = fed c.before.before.before
 
   abbrev mixed : Mixed → Middle
   mixed c = c.before.before.before.before
 
   abbrev middle : Lower → Middle
-  middle c = mixed c.before.before.before.before
+  middle c = mixed c.before.before.before.before.before
 
   abbrev lower : Ended → Lower
   lower c = c.before.before.before.before.before.before
@@ -106,22 +106,22 @@ module _ (t : ℕ) where
 
   upper-done : (c : Upper) → (
       let a = (started (parted c)).args in
-      let l = c.write_universal.new.1.1 in
-      UpperDone a.next.0 (parts c) a.rows.now a.pins.now a.outs.now l.0 l.1.0 l.1.1.0)
+      let l = c.write_universal.new in
+      UpperDone a.next.0 (parts c) a.rows.now a.pins.now a.outs.now l.rows l.pins l.outs)
   upper-done c =
       let e = c.write_universal.ensures in
       record { kept = c.write_universal.auto.pins; rows = e.0; pins = e.1.0; outs = e.1.1 }
 
   middle-done : (c : Middle) → (
-      let l = (upper c).write_universal.new.1.1 in
-      MiddleDone (parts (upper c)) l.0 l.1.0 l.1.1.0 c.write_middle.new.rows c.write_middle.new.pins)
+      let l = (upper c).write_universal.new in
+      MiddleDone (parts (upper c)) l.rows l.pins l.outs c.write_middle.new.rows c.write_middle.new.pins)
   middle-done c = record { rows = c.write_middle.ensures.0; pins = c.write_middle.ensures.1 }
 
   lower-done : (c : Lower) → (
       let m = middle c in
-      let l = c.write_universal-then-gates-gt1.new.1.1 in
+      let l = c.write_universal-then-gates-gt1.new in
       LowerDone (started (parted (upper m))).args.gates (parts (upper m)) (middle_rows m) m.write_middle.new.pins
-      (upper m).write_universal.new.outs l.0 l.1.0 l.1.1.0)
+      (upper m).write_universal.new.outs l.rows l.pins l.outs)
   lower-done c =
       let e = c.write_universal-then-gates-gt1.ensures in
       record { rows = e.0; pins = e.1.0; outs = e.1.1 }
@@ -129,10 +129,10 @@ module _ (t : ℕ) where
   done : (c : Lower) → (
       let m = middle c in
       let a = (started (parted (upper m))).args in
-      let l = c.write_universal-then-gates-gt1.new.1.1 in
+      let l = c.write_universal-then-gates-gt1.new in
       UniversalWritten a.gates a.next.0 a.rows.now a.pins.now a.outs.now
-      (with_part (parts (upper m)).lower (middle_rows m) l.0) (with_part a.gates m.write_middle.new.pins l.1.0)
-      (with_part (parts (upper m)).half (upper m).write_universal.new.outs l.1.1.0))
+      (with_part (parts (upper m)).lower (middle_rows m) l.rows) (with_part a.gates m.write_middle.new.pins l.pins)
+      (with_part (parts (upper m)).half (upper m).write_universal.new.outs l.outs))
   done c =
       let m = middle c in
       universal_written (begun (parted (upper m))) (upper-done (upper m)) (middle-done m) (lower-done c)
@@ -183,22 +183,22 @@ pub +write_universal_spec : {M : Type 1} → statement M
     (λ c. select-fits t (fed t c))
     (λ c. let s = select-fits t (fed t c) in search rules)
     (λ c. search rules)
-    (λ c κs. let up = fed t c.before.before.before in middle-room (begun t (parted t up)) (upper-done t up))
+    (λ c κs. let up = fed t c.before.before in middle-room (begun t (parted t up)) (upper-done t up))
     -- the lower half: its stretch, its pins, its output wires
     (λ c. search rules)
-    (λ c. lower-fits t (mixed t c))
-    (λ c. let s = lower-fits t (mixed t c) in search rules)
+    (λ c. lower-fits t (mixed t c.before))
+    (λ c. let s = lower-fits t (mixed t c.before) in search rules)
     (λ c. search rules)
     (λ c. search rules)
-    (λ c. pins-fit t (mixed t c.before))
-    (λ c. let s = pins-fit t (mixed t c.before) in search rules)
+    (λ c. pins-fit t (mixed t c.before.before))
+    (λ c. let s = pins-fit t (mixed t c.before.before) in search rules)
     (λ c. search rules)
     (λ c. search rules)
-    (λ c. outs-fit t (upper t (mixed t c.before.before)))
-    (λ c. let s = outs-fit t (upper t (mixed t c.before.before)) in search rules)
+    (λ c. outs-fit t (upper t (mixed t c.before.before.before)))
+    (λ c. let s = outs-fit t (upper t (mixed t c.before.before.before)) in search rules)
     (λ c. search rules)
     (λ c κs.
-    let m = mixed t c.before.before.before in
+    let m = mixed t c.before.before.before.before in
     let p = parted t (upper t m) in
     let b = begun t p in
     (omega (arith, (started t p).requires.0), lower_write_room b (upper-done t (upper t m)) (middle-done t m)))
@@ -211,7 +211,7 @@ pub +write_universal_spec : {M : Type 1} → statement M
     (λ c. search rules) (λ c. search rules) (λ c. search rules)
     (λ c.
     let gate = c.before.before.before.before in
-    let test = gate.before.before.before.before in
+    let test = gate.before.before.before in
     let start = test.before.before.before.before in
     let a = start.args in
     let w = gate-written a.rows.now a.pins.now a.outs.now test.if-gates-gt1.false start.requires.1 gate.write_gate.ensures in
