@@ -39,99 +39,71 @@ calls t = (
   program-between-reads.Learnt,
 )
 
-place-fits : (t : ℕ) → program-universal-lts.Need-overflow-mul-store-table (calls t) (universal_at_lem t) program-universal.Post
-place-fits t c = omega (arith, c.before.before.before.before.before.requires.1.all)
+place-fits : (t : ℕ) → program-universal-lts.Need-offset_bounds-tables-place (calls t) (universal_at_lem t) program-universal.Post
+place-fits t c = omega (arith, c.requires.1.all)
 
-gate-there : (t : ℕ) → program-universal-lts.Need-shared-slice-read-store-table (calls t) (universal_at_lem t) program-universal.Post
+gate-there : (t : ℕ) → program-universal-lts.Need-bounds-tables-place (calls t) (universal_at_lem t) program-universal.Post
 gate-there t c =
-    let s = c.before.before.before.before.before.before in
-    let r = s.requires.1 in
-    omega (arith, pow_pos (gate_level s.args.gates), r.power, r.all, r.table_room)
+    let r = c.requires.1 in
+    omega (arith, pow_pos (gate_level c.args.gates), r.power, r.all, r.table_room)
 
-behind-gate : (t : ℕ) → program-universal-lts.Need-overflow-add-result (calls t) (universal_at_lem t) program-universal.Post
-behind-gate t c =
-    let if1 = c.before.before.before.before.before in
-    let s = if1.before.before.before.before.before in
-    omega (arith, s.requires.1.few)
+behind-gate : (t : ℕ) → program-universal-lts.Need-overflow_add-result (calls t) (universal_at_lem t) program-universal.Post
+behind-gate t c = omega (arith, c.requires.1.few)
 
-table : (t : ℕ) → program-universal-lts.Need-returns (calls t) (universal_at_lem t) program-universal.Post
+table : (t : ℕ) → program-universal-lts.Need-returns-then-gates-le1 (calls t) (universal_at_lem t) program-universal.Post
 table t c =
-    let if1 = c.before.before.before.before.before in
-    let a = if1.before.before.before.before.before.args in (
-      omega (arith, gate-takes if1.if-gates-le1.true),
-      c.before.before.store_table.ensures
-          ∙ gate-stored (listed_gates a.before a.operands.now a.tables.now) a.gates a.base a.start a.program.now if1.if-gates-le1.true,
+    let a = c.args in (
+      omega (arith, gate-takes c.if-gates-le1.true),
+      c.store_table.ensures
+          ∙ gate-stored (listed_gates a.before a.operands.now a.tables.now) a.gates a.base a.start a.program.now c.if-gates-le1.true,
     )
 
-for_upper : (t : ℕ) → program-universal-lts.Need-program-universal-requires (calls t) (universal_at_lem t) program-universal.Post
+for_upper : (t : ℕ) → program-universal-lts.Need-program_universal-between-requires (calls t) (universal_at_lem t) program-universal.Post
 for_upper t c κs =
-    let if1 = c.before.before in
-    let s = if1.before.before.before.before.before in
-    let h = halved s.requires.1.power if1.if-gates-le1.false in
-    (omega (arith, s.requires.0), upper-program-room s.requires.1 h)
+    let h = halved c.requires.1.power c.if-gates-le1.false in
+    (omega (arith, c.requires.0), upper-program-room c.requires.1 h)
 
-for_between : (t : ℕ) → program-universal-lts.Need-program-between-requires (calls t) (universal_at_lem t) program-universal.Post
+for_between : (t : ℕ) → program-universal-lts.Need-program_between-lower-requires (calls t) (universal_at_lem t) program-universal.Post
 for_between t c κs =
-    let upper = c.before.before.before.before.before.before in
-    let if1 = upper.before.before.before in
-    let s = if1.before.before.before.before.before in
-    let h = halved s.requires.1.power if1.if-gates-le1.false in
-    let kept = upper.program_universal-between.auto in
-    between_room s.requires.1 h upper.program_universal-between.ensures.0 kept.1.1.1.1.1.0 kept.1.1.1.1.1.1.0
+    let h = halved c.requires.1.power c.if-gates-le1.false in
+    let kept = c.program_universal-between.auto in
+    between_room c.requires.1 h c.program_universal-between.ensures.0 kept.wanted kept.program
 
-lower_base : (t : ℕ) → program-universal-lts.Need-overflow-add-program-universal (calls t) (universal_at_lem t) program-universal.Post
-lower_base t c =
-    let between = c.before.before.before.before in
-    let asked = between.before in
-    let upper = asked.before.before.before.before.before.before in
-    let if1 = upper.before.before.before in
-    let s = if1.before.before.before.before.before in
-    omega (arith, s.requires.1.all)
+lower_base : (t : ℕ) → program-universal-lts.Need-overflow_add-base (calls t) (universal_at_lem t) program-universal.Post
+lower_base t c = omega (arith, c.requires.1.all)
 
-for_lower : (t : ℕ) → program-universal-lts.Need-program-universal-requires-2 (calls t) (universal_at_lem t) program-universal.Post
+for_lower : (t : ℕ) → program-universal-lts.Need-program_universal-requires (calls t) (universal_at_lem t) program-universal.Post
 for_lower t c κs =
-    let between = c.before.before.before.before.before.before in
-    let asked = between.before in
-    let upper = asked.before.before.before.before.before.before in
-    let if1 = upper.before.before.before in
-    let s = if1.before.before.before.before.before in
-    let a = s.args in
-    let h = halved s.requires.1.power if1.if-gates-le1.false in
+    let a = c.args in
+    let h = halved c.requires.1.power c.if-gates-le1.false in
     let size = length_between (listed_operands a.before a.operands.now) a.base (a.gates / 2) in (
-      omega (arith, s.requires.0),
-      lower-program-room s.requires.1 h (omega (arith, between.program_between-lower.ensures.0, upper.program_universal-between.ensures.0, size))
-          (between.program_between-lower.auto.wanted ∙ upper.program_universal-between.auto.wanted)
-          (between.program_between-lower.auto.program ∙ upper.program_universal-between.auto.program),
+      omega (arith, c.requires.0),
+      lower-program-room c.requires.1 h (omega (arith, c.program_between-lower.ensures.0, c.program_universal-between.ensures.0, size))
+          (c.program_between-lower.auto.wanted ∙ c.program_universal-between.auto.wanted)
+          (c.program_between-lower.auto.program ∙ c.program_universal-between.auto.program),
     )
 
-stored : (t : ℕ) → program-universal-lts.Need-returns-2 (calls t) (universal_at_lem t) program-universal.Post
+stored : (t : ℕ) → program-universal-lts.Need-returns (calls t) (universal_at_lem t) program-universal.Post
 stored t c =
-    let lower = c.before.before.before.before in
-    let lower-asked = lower.before in
-    let between = lower-asked.before.before.before.before.before.before in
-    let asked = between.before in
-    let upper = asked.before.before.before.before.before.before in
-    let if1 = upper.before.before.before in
-    let s = if1.before.before.before.before.before in
-    let a = s.args in
+    let a = c.args in
     let operandList = a.operands.now in
     let G = listed_gates a.before operandList a.tables.now in
-    let h = halved s.requires.1.power if1.if-gates-le1.false in
+    let h = halved c.requires.1.power c.if-gates-le1.false in
     let same = between_listed a.before operandList a.tables.now a.base (a.gates / 2) in
     let size = length_between (listed_operands a.before operandList) a.base (a.gates / 2) in (
       omega (
         arith,
-        lower.program_universal.ensures.0,
-        between.program_between-lower.ensures.0,
-        upper.program_universal-between.ensures.0,
+        c.program_universal.ensures.0,
+        c.program_between-lower.ensures.0,
+        c.program_universal-between.ensures.0,
         size,
-        takes-half s.requires.1 h,
+        takes-half c.requires.1 h,
       ),
       halves_stored G a.gates a.base a.start a.program.now h
-          upper.program_universal-between.ensures.1 upper.program_universal-between.ensures.0
-          (between.program_between-lower.ensures.1 ∙ ap (store_bits upper.program_universal-between.new.program _) same)
-          (between.program_between-lower.ensures.0 ∙ ap (λ (bits : List ℕ). upper.program_universal-between.result + length bits) same)
-          lower.program_universal.ensures.1,
+          c.program_universal-between.ensures.1 c.program_universal-between.ensures.0
+          (c.program_between-lower.ensures.1 ∙ ap (store_bits c.program_universal-between.new.program _) same)
+          (c.program_between-lower.ensures.0 ∙ ap (λ (bits : List ℕ). c.program_universal-between.result + length bits) same)
+          c.program_universal.ensures.1,
     )
 
 pub +program_universal_spec : {M : Type 1} → statement M

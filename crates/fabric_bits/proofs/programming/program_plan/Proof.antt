@@ -17,7 +17,7 @@ use Rattle.fabric_bits.proofs.programming.program_plan.Statement.{statement}
 use Rattle.fabric_bits.proofs.programming.program_plan.Tie as tie
 
 -- where the checks give a length, none fails
-module _ (c : tie.In-Length-2) where
+module _ (c : tie.In-Length) where
   checked : let a = c.args in ProgramChecked a.plan (length a.program.now) (ProgramCheck.Length c.in-Length.length)
   checked = subst (ProgramChecked _ _) c.in-Length.is c.check_plan_program.ensures
 
@@ -26,8 +26,7 @@ module _ (c : tie.In-Length-2) where
 
 for_bits : tie.Need-store_plan-requires
 for_bits c κs =
-    let filled = c.fill_bytes in
-    let h = passes c.before.before.before.before.before.before in
+    let h = passes c.before.before.before.before.before in
     (h.accepted, omega (arith, h.fits, c.fill_bytes.auto.bytes))
 
 refused : tie.Need-returns-in-Refused
@@ -38,16 +37,14 @@ refused c =
 done : tie.Need-returns-in-Length
 unfolding plan_program
 done c =
-    let stored = c.store_plan in
-    let filled = c.before.before.before.before.before.before in
-    let told = filled.before.before.before in
+    let told = c.before.before.before.before.before.before.before.before in
     let (none, measured) = checked told in
     let a = c.args in
     let bits = plan_bits a.plan in
-    let room : c.in-Length.length ≤ length a.program.now = omega (arith, (passes told).ranges, measured) in
+    let room : c.in-Length.length ≤ length a.program.now = omega (arith, (passes told).fits, measured) in
     let bytes = ap bytes_for (length-plan_bits a.plan) ∙ sym measured in (
       none,
-      stored.ensures ∙ ap (λ s. store_bits s 0 bits) (c.fill_bytes.ensures ∙ bytes-filled _ 0 a.program.now room)
+      c.store_plan.ensures ∙ ap (λ s. store_bits s 0 bits) (c.fill_bytes.ensures ∙ bytes-filled _ 0 a.program.now room)
           ∙ store_zeroed bits a.program.now _ bytes ∙ filled-done _ _ _ none,
     )
 

@@ -5,10 +5,6 @@ use Rattle.fabric_bits.proofs.PlanBitsLaws.{length-gates, room-behind, gates-sto
 use Rattle.fabric_bits.proofs.programming.store_gates.Statement.{statement}
 use Rattle.fabric_bits.proofs.programming.store_gates.Tie as tie
 
--- the way back: from the first bits to what is handed over
-abbrev start : tie.After-store_inputs-arg-2-1 → tie.Start
-start c = c.before.before.before.before.before.before
-
 for_inputs : tie.Need-store_inputs-next-requires
 for_inputs c κs =
     let R = c.requires.gates in
@@ -16,8 +12,8 @@ for_inputs c κs =
 
 for_universal : tie.Need-program_universal-requires
 for_universal c κs =
-    let kept = c.store_inputs-next.auto.1.1.1 in
-    room-behind c.requires.gates kept.0 c.store_inputs-next.ensures.0 kept.1.0
+    let kept = c.store_inputs-next.auto in
+    room-behind c.requires.gates kept.wanted c.store_inputs-next.ensures.0 kept.program
 
 stored : tie.Need-returns
 stored c =

@@ -13,12 +13,9 @@ use Rattle.fabric_bits.proofs.PlanBitsLaws.{outputs_pass}
 use Rattle.fabric_bits.proofs.programming.store_outputs.Statement.{statement}
 use Rattle.fabric_bits.proofs.programming.store_outputs.Tie as tie
 
--- the way back: from the outputs' bits to their list, to what is handed over
-abbrev list : tie.After-store-selection-arg2 → tie.After-list_outputs
-list c = c.before.before.before.before.before.before
-
-abbrev start : tie.After-list_outputs → tie.Start
-start c = c.before.before.before.before
+-- the way back: from the outputs' bits to their list
+abbrev list : tie.After-store_selection-arg-1 → tie.After-list_outputs
+list c = c.before.before.before.before.before
 
 listed : (c : tie.After-list_outputs) → let p = c.args.plan in take p.output_count c.list_outputs.new.wanted ≡ wanted_outputs p
 listed c =
@@ -28,14 +25,14 @@ listed c =
 for_selection : tie.Need-store_selection-requires
 for_selection c κs =
     let e = (plan-places c.args.plan c.requires.0).is_places in
-    (outputs_pass c.args.plan c.requires.0 c.list_outputs.new.wanted e (listed c.before.before.before.before.before) c.requires.1.1.0, rw e c.requires.1.1.1)
+    (outputs_pass c.args.plan c.requires.0 c.list_outputs.new.wanted e (listed (list c)) c.requires.1.1.0, rw e c.requires.1.1.1)
 
 stored : tie.Need-returns
 stored c =
     let a = c.args in
     c.store_selection.ensures.1
     ∙ ap₂ (λ m w. store_bits a.program.now a.start (selection_bits m a.plan.output_count w)) (plan-places a.plan c.requires.0).is_places
-    (listed c.before.before.before.before.before.before.before.before)
+    (listed (list c.before.before.before))
 
 pub store_outputs_spec : {M : Type 1} → statement M
 store_outputs_spec =

@@ -8,23 +8,19 @@ use Rattle.fabric_bits.proofs.PlanBitsLaws.{gates-program-room, plan-stored, out
 use Rattle.fabric_bits.proofs.programming.store_plan.Statement.{statement}
 use Rattle.fabric_bits.proofs.programming.store_plan.Tie as tie
 
--- the way back: from the gates' bits to their lists, to what is handed over
+-- the way back: from the gates' bits to their lists
 abbrev listed : tie.After-store_gates-arg-1 → tie.After-load_gates
 listed c = c.before.before.before.before.before.before.before
-
-abbrev start : tie.After-load_gates → tie.Start
-start c = c.before.before.before.before
 
 lists : (c : tie.After-load_gates) → Loaded c.args.plan c.load_gates.new.operands c.load_gates.new.tables
 lists c = loaded c.args.plan c.requires.0 refl c.load_gates.ensures.0 c.load_gates.ensures.1
 
 for_gates : tie.Need-store_gates-next-requires
 for_gates c κs =
-    gates-program-room c.args.plan (lists c.before.before.before.before.before.before.before) c.requires.0 refl c.requires.1
+    gates-program-room c.args.plan (lists (listed c)) c.requires.0 refl c.requires.1
 
 for_outputs : tie.Need-store_outputs-requires
 for_outputs c κs =
-    let load = c.load_gates in
     let kept = c.store_gates-next.auto.program in
     let room = length c.args.program.now in
     let fit = output-bits-fit c.args.plan c.requires.0 c.load_gates.new.operands c.load_gates.new.tables room c.requires.1 c.store_gates-next.ensures.0 in
@@ -32,7 +28,7 @@ for_outputs c κs =
 
 stored : tie.Need-returns
 stored c =
-    plan-stored c.args.plan (lists c.before.before.before.before.before.before.before.before.before.before.before.before.before.before.before.before.before) c.requires.0 c.args.program.now c.store_gates-next.ensures.1 c.store_gates-next.ensures.0
+    plan-stored c.args.plan (lists (listed c.before.before.before.before.before.before.before.before.before.before)) c.requires.0 c.args.program.now c.store_gates-next.ensures.1 c.store_gates-next.ensures.0
     c.store_outputs.ensures
 
 pub store_plan_spec : {M : Type 1} → statement M
