@@ -10,7 +10,7 @@ single : tie.Need-returns
 single c =
     let call = c.run_series in
     let a = c.args in
-    let is = run-series-single a.table.now a.program.now a.row.now a.work.now a.result.now [] in
+    let is = run-series-single a.table.now a.program.now a.row.now a.work.now a.res.now [] in
     (call.ensures.0 ∙ is.answered, (call.ensures.1.0 ∙ is.worked, call.ensures.1.1.0 ∙ is.written))
 
 pub run_spec : {M : Type 1} → statement M

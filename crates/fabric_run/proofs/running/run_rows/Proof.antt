@@ -81,7 +81,7 @@ holds c =
     let made = 1 + c.wide-made.result in
     let counted = counted-first a.table.now made (ap (λ n. 1 + n) c.wide-made.ensures.0) in (
       zero-le,
-      omega (arith, c.shared-slice-known5.given 2),
+      omega (arith, c.shared_slice_known-5-1.given 2),
       stands-first a.table.now a.program.now (a.row.now ++ a.state.now) a.work.now _ made ready counted c.start_wires.ensures,
     )
 
