@@ -8,8 +8,8 @@ use Rattle.fabricsheet.proofs.put_file.Tie as tie
 
 whole : tie.Need-returns
 whole c =
-    let a = c.before.before.before.args in
-    (c.put-text.ensures.counted, puts_whole c.put-text.ensures (omega (arith, file-long a.file.now)))
+    let a = c.args in
+    (c.put_text.ensures.counted, puts_whole c.put_text.ensures (omega (arith, file-long a.file.now)))
 
 pub put_file_spec : {M : Type 1} → statement M
 put_file_spec = tie.close (tie.spec (λ c κs. search rules) whole)

@@ -5,23 +5,17 @@ use Rattle.fabricsheet.proofs.SheetTextLaws.{plan-text, refused-text}
 use Rattle.fabricsheet.proofs.put_text.Statement.{statement}
 use Rattle.fabricsheet.proofs.put_text.Tie as tie
 
-refused : tie.Need-returns
+refused : tie.Need-returns-in-Refused
 refused c =
-    let put = c.before.before in
-    let answer = put.before.before.before in
-    let call = answer.before.before.before.read-small-plan in
-    puts_same (refused-text _ call.result call.ensures _ answer.answer.given.1) put.put-refusal.ensures
+    let call = c.read_small_plan-read in
+    puts_same (refused-text _ call.result call.ensures _ c.in-Refused.is) c.put_refusal.ensures
 
-accepted : tie.Need-returns-2
+accepted : tie.Need-returns-in-Accepted
 accepted c =
-    let put = c.before.before in
-    let answer = put.before.before in
-    let call = answer.before.before.before.read-small-plan in
-    puts_same (plan-text _ call.result call.ensures answer.enum_told.given.1) put.put-plan.ensures
+    let call = c.read_small_plan-read in
+    puts_same (plan-text _ call.result call.ensures c.in-Accepted.is) c.put_plan.ensures
 
 pub put_text_spec : {M : Type 1} → statement M
 put_text_spec =
     tie.close
-    (tie.spec
-    (λ c κs. search rules) (λ c. search rules) (λ c κs. search rules) (λ c. search rules) (λ c κs. search rules) (λ c. search rules) refused
-    (λ c. search rules) accepted)
+    (tie.spec (λ c κs. search rules) (λ c. search rules) (λ c κs. search rules) (λ c. search rules) (λ c κs. search rules) (λ c. search rules) refused (λ c. search rules) accepted)
