@@ -10,40 +10,36 @@ use Rattle.equivalence.proofs.both.check_both.Statement.{statement}
 use Rattle.equivalence.proofs.both.check_both.Tie as tie
 
 -- the way back: the row is looked at where there is no plan fault
-abbrev faultless : tie.After-enum-told2 → tie.After-enum-told
-faultless c = c.before.before.before.before
+abbrev faultless : tie.In-Done-contact_fault → tie.In-Done
+faultless c = c.before.before.before
 
-abbrev start : tie.After-enum-told → tie.Start
-start c = c.before.before.before.before
+abbrev start : tie.In-Done → tie.Start
+start c = c.before.before.before
 
-planned : (c : tie.After-enum-told) → 0 ≡ plan_fault (start c).args.plan
-planned c = ap answer_number (sym c.enum_told.given.1) ∙ c.before.before.plan-fault.ensures
+planned : (c : tie.In-Done) → 0 ≡ plan_fault c.args.plan
+planned c = ap answer_number (sym c.in-Done.is) ∙ c.plan_fault.ensures
 
 -- where the row is one of input contacts
-contacted : (c : tie.After-enum-told2) → let a = (start (faultless c)).args in
+contacted : (c : tie.In-Done-contact_fault) → let a = c.args in
     0 ≡ contact_fault a.plan.inputs a.row.now
-contacted c = ap answer_number (sym c.enum-told2.given.1) ∙ c.before.before.contact-fault.ensures
+contacted c = ap answer_number (sym c.in-Done-contact_fault.is) ∙ c.contact_fault.ensures
 
-faulty : tie.Need-returns
+faulty : tie.Need-returns-in-Refused
 unfolding both_fault
-faulty c = stop c.before.f.given.0.0 _ (ap answer_number (sym c.before.f.given.1) ∙ c.before.before.before.plan-fault.ensures)
+faulty c = stop c.in-Refused.f _ (ap answer_number (sym c.in-Refused.is) ∙ c.plan_fault.ensures)
 
-no_contact : tie.Need-returns-2
+no_contact : tie.Need-returns-in-Refused-contact_fault
 unfolding both_fault
 no_contact c =
-    let asked = c.before.before.before in
-    ◌then◌ (planned asked.before.before)
-    (stop c.before.f2.given.0.0 _ (ap answer_number (sym c.before.f2.given.1) ∙ asked.contact-fault.ensures))
+    ◌then◌ (planned c.before.before.before)
+    (stop c.in-Refused-contact_fault.f _ (ap answer_number (sym c.in-Refused-contact_fault.is) ∙ c.contact_fault.ensures))
 
-rooms : tie.Need-returns-3
+rooms : tie.Need-returns-in-Done-contact_fault
 unfolding both_fault
 rooms c =
-    let told = c.before in
-    ◌then◌ (planned (faultless told)) (◌then◌ (contacted told) c.check-both-rooms.ensures)
+    ◌then◌ (planned c.before.before.before.before) (◌then◌ (contacted c.before) c.check_both_rooms.ensures)
 
 pub check_both_spec : {M : Type 1} → statement M
 check_both_spec =
     tie.close
-    (tie.spec
-    (λ c κs. search rules) (λ c. search rules) (λ c. search rules) (λ c. search rules) (λ c κs. search rules) (λ c. search rules)
-    (λ c. search rules) (λ c κs. search rules) faulty no_contact rooms)
+    (tie.spec (λ c κs. search rules) (λ c. search rules) (λ c. search rules) (λ c. search rules) (λ c κs. search rules) (λ c. search rules) (λ c. search rules) (λ c κs. search rules) faulty no_contact rooms)

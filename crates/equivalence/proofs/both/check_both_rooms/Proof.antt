@@ -11,40 +11,40 @@ use Rattle.equivalence.proofs.both.check_both_rooms.Statement.{statement}
 use Rattle.equivalence.proofs.both.check_both_rooms.Tie as tie
 
 -- the way back from where table and program are long enough
-abbrev start : tie.Else2 → tie.Start
+abbrev start : tie.Else-program-lengths → tie.Start
 start c = c.before.before.before.before.before.before
 
-short-table : tie.Need-returns
+short-table : tie.Need-returns-then-table-lengths
 unfolding both_room_fault room_fault
 short-table c =
-    let a = c.before.before.before.before.args in
+    let a = c.args in
     let p = a.plan in
     let table : a.table < plan_table_length p = omega arith in
     rw (lt-leb _ _ table)
 
-short-program : tie.Need-returns-2
+short-program : tie.Need-returns-then-program-lengths
 unfolding both_room_fault room_fault
 short-program c =
-    let a = c.before.before.before.before.before.before.args in
+    let a = c.args in
     let p = a.plan in
     let table : plan_table_length p ≤ a.table = omega arith in
     let program : a.program < program_length p = omega arith in
     rw (le-leb _ _ table, lt-leb _ _ program)
 
-short-work : tie.Need-returns-3
+short-work : tie.Need-returns-then-work-lengths
 unfolding both_room_fault room_fault
 short-work c =
-    let a = (start c.before.before).args in
+    let a = c.args in
     let p = a.plan in
     let table : plan_table_length p ≤ a.table = omega arith in
     let program : program_length p ≤ a.program = omega arith in
     let work : a.work < plan_fabric_wires p = omega arith in
     rw (le-leb _ _ table, le-leb _ _ program, lt-leb _ _ work)
 
-short_evaluated : tie.Need-returns-4
+short_evaluated : tie.Need-returns-then-evaluated-outputs
 unfolding both_room_fault room_fault
 short_evaluated c =
-    let a = (start c.before.before.before).args in
+    let a = c.args in
     let p = a.plan in
     let table : plan_table_length p ≤ a.table = omega arith in
     let program : program_length p ≤ a.program = omega arith in
@@ -52,10 +52,10 @@ short_evaluated c =
     let evaluated : a.evaluated < p.output_count = omega arith in
     rw (le-leb _ _ table, le-leb _ _ program, le-leb _ _ work, lt-leb _ _ evaluated)
 
-short-ran : tie.Need-returns-5
+short-ran : tie.Need-returns-then-ran-outputs
 unfolding both_room_fault room_fault
 short-ran c =
-    let a = (start c.before.before.before.before).args in
+    let a = c.args in
     let p = a.plan in
     let table : plan_table_length p ≤ a.table = omega arith in
     let program : program_length p ≤ a.program = omega arith in
@@ -64,10 +64,10 @@ short-ran c =
     let ran : a.ran < p.output_count = omega arith in
     rw (le-leb _ _ table, le-leb _ _ program, le-leb _ _ work, le-leb _ _ evaluated, lt-leb _ _ ran)
 
-room : tie.Need-returns-6
+room : tie.Need-returns
 unfolding both_room_fault room_fault
 room c =
-    let a = (start c.before.before.before.before).args in
+    let a = c.args in
     let p = a.plan in
     let table : plan_table_length p ≤ a.table = omega arith in
     let program : program_length p ≤ a.program = omega arith in

@@ -6,18 +6,16 @@ use Rattle.equivalence.proofs.both.run_written.Statement.{statement}
 use Rattle.equivalence.proofs.both.run_written.Tie as tie
 
 -- what is handed over
-abbrev start : tie.After-run-arg → tie.Start
+abbrev start : tie.After-run-arg-1 → tie.Start
 start c = c.before.before.before.before.before.before
 
-entries : tie.Need-slice-aggregate-run
+entries : tie.Need-slice_bounds-run-end
 entries c =
-    let s = start c in
-    sym (length-take-le s.args.entries s.args.table.now s.pre.0)
+    sym (length-take-le c.args.entries c.args.table.now c.requires.0)
 
-bytes : tie.Need-slice-aggregate-run-2
+bytes : tie.Need-slice_bounds-run-end-2
 bytes c =
-    let s = start c.before in
-    sym (length-take-le s.args.bytes s.args.program.now s.pre.1)
+    sym (length-take-le c.args.bytes c.args.program.now c.requires.1)
 
 pub run_written_spec : {M : Type 1} → statement M
 run_written_spec =
