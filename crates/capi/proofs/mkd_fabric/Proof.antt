@@ -6,7 +6,7 @@ use Rattle.capi.proofs.mkd_fabric.Tie as tie
 
 returns : tie.Need-returns
 returns c =
-    let call = c.before.before.before.write-fabric in
+    let call = c.write_fabric in
     (c.number.ensures ∙ call.ensures.0, call.ensures.1)
 
 pub mkd_fabric_spec : {M : Type 1} → statement M

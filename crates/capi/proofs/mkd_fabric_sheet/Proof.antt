@@ -5,15 +5,13 @@ use Rattle.elements.specs.Elements.{sheet_outcome}
 use Rattle.capi.proofs.mkd_fabric_sheet.Statement.{statement}
 use Rattle.capi.proofs.mkd_fabric_sheet.Tie as tie
 
-counted : tie.Need-returns
+counted : tie.Need-returns-in-Counted
 counted c =
-    let answer = c.before.before.before.before.before in
-    ap sheet_outcome (sym answer.s.given.1) ∙ answer.before.before.count-kinds.ensures
+    ap sheet_outcome (sym c.in-Counted.is) ∙ c.count_kinds.ensures
 
-refused : tie.Need-returns-2
+refused : tie.Need-returns-in-Refused
 refused c =
-    let answer = c.before.before in
-    rw c.number.ensures (ap sheet_outcome (sym answer.f.given.1) ∙ answer.before.before.count-kinds.ensures)
+    rw c.number.ensures (ap sheet_outcome (sym c.in-Refused.is) ∙ c.count_kinds.ensures)
 
 pub mkd_fabric_sheet_spec : {M : Type 1} → statement M
 mkd_fabric_sheet_spec =

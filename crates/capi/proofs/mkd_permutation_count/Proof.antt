@@ -5,7 +5,7 @@ use Rattle.capi.proofs.mkd_permutation_count.Statement.{statement}
 use Rattle.capi.proofs.mkd_permutation_count.Tie as tie
 
 returns : tie.Need-returns
-returns c = c.export_Counts.ensures ∙ c.before.count-permutation.ensures
+returns c = c.export_counts.ensures ∙ c.count_permutation.ensures
 
 pub mkd_permutation_count_spec : {M : Type 1} → statement M
 mkd_permutation_count_spec = tie.close (tie.spec (λ c κs. search rules) (λ c κs. search rules) returns)

@@ -6,7 +6,7 @@ use Rattle.capi.proofs.mkd_permutation_write.Tie as tie
 
 returns : tie.Need-returns
 returns c =
-    let call = c.before.before.before.before.before.write-permutation in
+    let call = c.write_permutation in
     (c.number.ensures ∙ call.ensures.0, call.ensures.1)
 
 pub mkd_permutation_write_spec : {M : Type 1} → statement M

@@ -5,7 +5,7 @@ use Rattle.capi.proofs.mkd_plan_append_gate.Statement.{statement}
 use Rattle.capi.proofs.mkd_plan_append_gate.Tie as tie
 
 returns : tie.Need-returns
-returns c = c.export-edit.ensures ∙ c.before.append-gate.ensures
+returns c = c.export_edit.ensures ∙ c.append_gate.ensures
 
 pub mkd_plan_append_gate_spec : {M : Type 1} → statement M
 mkd_plan_append_gate_spec = tie.close (tie.spec (λ c κs. search rules) (λ c κs. search rules) returns)

@@ -6,7 +6,7 @@ use Rattle.capi.proofs.mkd_plan_evaluate.Tie as tie
 
 returns : tie.Need-returns
 returns c =
-    let call = c.before.before.before.evaluate in
+    let call = c.evaluate in
     (c.number.ensures ∙ call.ensures.0, call.ensures.1)
 
 pub mkd_plan_evaluate_spec : {M : Type 1} → statement M

@@ -5,16 +5,15 @@ use Rattle.plan_reading.specs.Answers.{answer_outcome}
 use Rattle.capi.proofs.mkd_plan_read.Statement.{statement}
 use Rattle.capi.proofs.mkd_plan_read.Tie as tie
 
-accepted : tie.Need-returns
+accepted : tie.Need-returns-in-Accepted
 accepted c =
-    let read = c.before.before.before.read-plan in
-    ap (λ a. answer_outcome a read.result.plan) (sym c.enum_told.given.1) ∙ read.ensures
+    let read = c.read_plan-read in
+    ap (λ a. answer_outcome a read.result.plan) (sym c.in-Accepted.is) ∙ read.ensures
 
-refused : tie.Need-returns-2
+refused : tie.Need-returns-in-Refused
 refused c =
-    let answer = c.before.before in
-    let read = answer.before.before.before.read-plan in
-    rw c.number.ensures (ap (λ a. answer_outcome a read.result.plan) (sym answer.answer.given.1) ∙ read.ensures)
+    let read = c.read_plan-read in
+    rw c.number.ensures (ap (λ a. answer_outcome a read.result.plan) (sym c.in-Refused.is) ∙ read.ensures)
 
 pub mkd_plan_read_spec : {M : Type 1} → statement M
 mkd_plan_read_spec =

@@ -5,7 +5,7 @@ use Rattle.capi.proofs.mkd_plan_replace_output.Statement.{statement}
 use Rattle.capi.proofs.mkd_plan_replace_output.Tie as tie
 
 returns : tie.Need-returns
-returns c = c.export-edit.ensures ∙ c.before.replace_output.ensures
+returns c = c.export_edit.ensures ∙ c.replace_output.ensures
 
 pub mkd_plan_replace_output_spec : {M : Type 1} → statement M
 mkd_plan_replace_output_spec = tie.close (tie.spec (λ c κs. search rules) (λ c κs. search rules) returns)

@@ -5,20 +5,17 @@ use Rattle.plan_saving.specs.Answers.{save_outcome}
 use Rattle.capi.proofs.mkd_plan_save.Statement.{statement}
 use Rattle.capi.proofs.mkd_plan_save.Tie as tie
 
-saved : tie.Need-returns
+saved : tie.Need-returns-in-Saved
 saved c =
-    let answer = c.before in
-    let call = answer.before.before.before.before.save-plan.ensures in
-    (ap save_outcome (sym answer.length.given.1) ∙ call.0, call.1)
+    let call = c.save_plan.ensures in
+    (ap save_outcome (sym c.in-Saved.is) ∙ call.0, call.1)
 
-refused : tie.Need-returns-2
+refused : tie.Need-returns-in-Refused
 refused c =
-    let answer = c.before.before in
-    let call = answer.before.before.before.before.save-plan.ensures in
-    (rw c.number.ensures (ap save_outcome (sym answer.f.given.1) ∙ call.0), call.1)
+    let call = c.save_plan.ensures in
+    (rw c.number.ensures (ap save_outcome (sym c.in-Refused.is) ∙ call.0), call.1)
 
 pub mkd_plan_save_spec : {M : Type 1} → statement M
 mkd_plan_save_spec =
     tie.close
-    (tie.spec
-    (λ c κs. search rules) (λ c. search rules) (λ c. search rules) (λ c κs. search rules) (λ c. search rules) saved (λ c. search rules) refused)
+    (tie.spec (λ c κs. search rules) (λ c. search rules) (λ c. search rules) (λ c κs. search rules) (λ c. search rules) saved (λ c. search rules) refused)

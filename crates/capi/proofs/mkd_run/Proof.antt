@@ -6,7 +6,7 @@ use Rattle.capi.proofs.mkd_run.Tie as tie
 
 returns : tie.Need-returns
 returns c =
-    let call = c.before.before.before.before.before.run in
+    let call = c.run in
     (c.number.ensures ∙ call.ensures.0, call.ensures.1)
 
 pub mkd_run_spec : {M : Type 1} → statement M

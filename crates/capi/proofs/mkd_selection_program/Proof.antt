@@ -6,7 +6,7 @@ use Rattle.capi.proofs.mkd_selection_program.Tie as tie
 
 returns : tie.Need-returns
 returns c =
-    let call = c.before.before.before.program-selection in
+    let call = c.program_selection in
     (c.number.ensures ∙ call.ensures.0, call.ensures.1)
 
 pub mkd_selection_program_spec : {M : Type 1} → statement M

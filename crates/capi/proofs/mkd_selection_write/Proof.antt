@@ -6,7 +6,7 @@ use Rattle.capi.proofs.mkd_selection_write.Tie as tie
 
 returns : tie.Need-returns
 returns c =
-    let call = c.before.before.before.before.before.write-selection in
+    let call = c.write_selection in
     (c.number.ensures ∙ call.ensures.0, call.ensures.1)
 
 pub mkd_selection_write_spec : {M : Type 1} → statement M
