@@ -12,46 +12,37 @@ use Rattle.twintest.proofs.put_counts.Statement.{statement}
 use Rattle.twintest.proofs.put_counts.Tie as tie
 
 -- the way back, call by call
-abbrev bits : tie.After-put-byte → tie.After-put-named6
+abbrev bits : tie.After-put_byte → tie.After-put_named-n-6
 bits c = c.before.before
 
-abbrev wires : tie.After-put-named6 → tie.After-put-named5
-wires c = c.before.before.before.before
+abbrev wires : tie.After-put_named-n-6 → tie.After-put_named-n-5
+wires c = c.before.before.before.before.before
 
-abbrev rows : tie.After-put-named5 → tie.After-put-named4
-rows c = c.before.before.before.before
+abbrev rows : tie.After-put_named-n-5 → tie.After-put_named-n-4
+rows c = c.before.before.before.before.before
 
-abbrev outputs : tie.After-put-named4 → tie.After-put-named3
-outputs c = c.before.before.before.before
+abbrev outputs : tie.After-put_named-n-4 → tie.After-put_named-n-3
+outputs c = c.before.before.before.before.before
 
-abbrev gates : tie.After-put-named3 → tie.After-put-named2
-gates c = c.before.before.before
+abbrev gates : tie.After-put_named-n-3 → tie.After-put_named-n-2
+gates c = c.before.before.before.before
 
-abbrev inputs : tie.After-put-named2 → tie.After-put-named
-inputs c = c.before.before.before
+abbrev inputs : tie.After-put_named-n-2 → tie.After-put_named-n
+inputs c = c.before.before.before.before
 
-fits : (c : tie.After-put-named) → let a = c.before.before.before.args in length (counts_line a.u a.k a.v a.c) ≤ length a.line.now
+fits : (c : tie.After-put_named-n) → let a = c.args in length (counts_line a.u a.k a.v a.c) ≤ length a.line.now
 fits c =
-    let a = c.before.before.before.args in
+    let a = c.args in
     omega (arith, counts-long a.u a.k a.v a.c)
 
 line : tie.Need-returns
 unfolding ascii
 line c =
-    let b = bits c in
-    let w = wires b in
-    let r = rows w in
-    let v = outputs r in
-    let k = gates v in
-    let u = inputs k in
-    let put = puts_more (puts_more (puts_more (puts_more (puts_more (puts_more u.put-named.ensures k.put-named2.ensures) v.put-named3.ensures)
-    r.put-named4.ensures) w.put-named5.ensures) b.put-named6.ensures) c.put_byte.ensures in
-    (put, puts_whole put (fits u))
+    let put = puts_more (puts_more (puts_more (puts_more (puts_more (puts_more c.put_named-n.ensures c.put_named-n-2.ensures) c.put_named-n-3.ensures)
+    c.put_named-n-4.ensures) c.put_named-n-5.ensures) c.put_named-n-6.ensures) c.put_byte.ensures in
+    (put, puts_whole put (fits c.before.before.before.before.before.before.before.before.before.before.before.before.before.before.before.before.before.before.before.before.before.before.before.before.before))
 
 pub put_counts_spec : {M : Type 1} → statement M
 put_counts_spec =
     tie.close
-    (tie.spec
-    (λ c. search rules) (λ c κs. search rules) (λ c. search rules) (λ c κs. search rules) (λ c. search rules) (λ c κs. search rules)
-    (λ c. search rules) (λ c. search rules) (λ c κs. search rules) (λ c. search rules) (λ c. search rules) (λ c κs. search rules)
-    (λ c. search rules) (λ c. search rules) (λ c κs. search rules) (λ c κs. search rules) line)
+    (tie.spec (λ c κs. search rules) (λ c κs. search rules) (λ c. search rules) (λ c. search rules) (λ c. search rules) (λ c. search rules) (λ c. search rules) (λ c. search rules) (λ c κs. search rules) (λ c κs. search rules) line)

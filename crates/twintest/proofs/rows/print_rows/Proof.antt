@@ -5,10 +5,10 @@ use native.Mathlib.Omega.{arith}
 use Rattle.twintest.proofs.rows.print_rows.Statement.{statement}
 use Rattle.twintest.proofs.rows.print_rows.Tie as tie
 
-abbrev invariant_loop : tie.invariant-loop
+abbrev invariant_loop : tie.invariant-loop-r
 invariant_loop plan table₀ program₀ work₀ inputs₀ evaluated₀ ran₀ rows r₀ table program work inputs evaluated ran r = Unit {0}
 
-abbrev decreases_loop : tie.decreases-loop
+abbrev decreases_loop : tie.decreases-loop-r
 decreases_loop plan table₀ program₀ work₀ inputs₀ evaluated₀ ran₀ rows r₀ table program work inputs evaluated ran r = rows - r
 
 pub print_rows_spec : {M : Type 1} → statement M

@@ -6,7 +6,7 @@ use lib.Seq.{length-take-le}
 use Rattle.twintest.proofs.rows.run_input_row.Statement.{statement}
 use Rattle.twintest.proofs.rows.run_input_row.Tie as tie
 
-first : tie.Need-slice-aggregate-run-both
+first : tie.Need-slice_bounds-run_both-end
 first c = sym (length-take-le _ _ (omega arith))
 
 pub run_input_row_spec : {M : Type 1} → statement M

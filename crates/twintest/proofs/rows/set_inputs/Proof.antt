@@ -5,10 +5,10 @@ use Rattle.plan.specs.Record.{max_inputs}
 use Rattle.twintest.proofs.rows.set_inputs.Statement.{statement}
 use Rattle.twintest.proofs.rows.set_inputs.Tie as tie
 
-abbrev invariant_loop : tie.invariant-loop
+abbrev invariant_loop : tie.invariant-loop-i
 invariant_loop inputs₀ r i₀ inputs i = Unit {0}
 
-abbrev decreases_loop : tie.decreases-loop
+abbrev decreases_loop : tie.decreases-loop-i
 decreases_loop inputs₀ r i₀ inputs i = max_inputs - i
 
 pub set_inputs_spec : {M : Type 1} → statement M
