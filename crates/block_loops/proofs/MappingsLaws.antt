@@ -15,14 +15,14 @@ use Rattle.block_elements.specs.Bits.{AreBits, store_bits}
 use Rattle.block_elements.proofs.BitsLaws.{bits-append, bits-list_of}
 use Rattle.block_bits.specs.Stores.{low_bits}
 use Rattle.block_bits.proofs.PackingLaws.{low_bits-same}
-use Rattle.block_networks.specs.Permutation.{Perm, partner, side, pick, in_half, permutation_count, permutation_bits}
-use Rattle.block_networks.proofs.Loops.{parity, partner-partner, partner_inj, partner-even, flipped, perm_inj, perm_lt}
+use Rattle.block_networks.specs.Permutation.{Perm, side, pick, in_half, permutation_count, permutation_bits}
+use Rattle.block_networks.proofs.Loops.{parity, flipped, perm_inj, perm_lt}
 use Rattle.block_networks.proofs.Halves.{half-perm, side_lt, output-sides}
 use Rattle.block_networks.proofs.Routing.{length-permutation_bits, permutation_bits-bits}
 use Rattle.block_networks.specs.Wanted.{taker_of}
 use Rattle.block_networks.proofs.WantedLaws.{taker-perm}
-use Rattle.block_loops.specs.Mappings.{map_of, inverse_of, IsPerm, list_bits, Paired, side_in, pair_side, inverse_list, across_of, across_list, input_side, input_sides, output_sides, row_sides, rows_stored, half_entry, half_list, sides_of, Levelled}
-use Rattle.block_loops.proofs.MarkingLaws.{read-map, pair_lt}
+use Rattle.block_loops.specs.Mappings.{map_of, inverse_of, IsPerm, list_bits, Paired, side_in, pair_side, inverse_list, input_side, input_sides, output_sides, row_sides, rows_stored, half_entry, half_list, sides_of, Levelled}
+use Rattle.block_loops.proofs.MarkingLaws.{read-map}
 
 -- ---- lists given place by place
 
@@ -64,44 +64,42 @@ pub list_bits-bits : (n : ℕ) {p : List ℕ} → length p ≡ 2 ^ n → IsPerm 
 unfolding list_bits
 list_bits-bits n e P = permutation_bits-bits n (rw e at P.perm)
 
--- ---- the outputs that a walk comes to, store by store
+-- ---- the inverse, store by store
 
--- those that it comes to from the partners of the first i outputs' inputs are stored
-pub record Crossed (p q : List ℕ) (i : ℕ) : Type 0 where
+pub record Inverted (p q : List ℕ) (i : ℕ) : Type 0 where
   pub size : length q ≡ length p
-  pub done : (o : ℕ) → o < i → get_or q (partner (map_of p o)) 0 ≡ partner o
+  pub done : (o : ℕ) → o < i → get_or q (map_of p o) 0 ≡ o
 
 module _ {p : List ℕ} (P : IsPerm p) where
   pub entry_lt : (o : ℕ) → o < length p → get_or p o 0 < length p
   entry_lt o l = rw (read-map p o l) (perm_lt P.perm o l)
 
-  module _ (even : 2 * (length p / 2) ≡ length p) where
-    pub across_lt : (o : ℕ) → o < length p → partner (get_or p o 0) < length p
-    across_lt o l = pair_lt even (get_or p o 0) (entry_lt o l)
+  inverted-more : {q : List ℕ} {i : ℕ} → i < length p → Inverted p q i → Inverted p (set q (get_or p i 0) i) (i + 1)
+  inverted-more {q} {i} l W = rw (read-map p i l) record {
+    size = length-set q (map_of p i) i ∙ W.size;
+    done = λ o d. go o d (dec_lt o i);
+  }
+    where
+      go : (o : ℕ) → o < i + 1 → Dec (o < i) → get_or (set q (map_of p i) i) (map_of p o) 0 ≡ o
+      go o d (yes m) = get_or-set_other q (map_of p i) (map_of p o) i 0 (λ e. ne_of_lt m (perm_inj P.perm o i e)) ∙ W.done o m
+      go o d (no n) =
+          let e : o ≡ i = omega arith in
+          rw e (get_or-set_same q (map_of p i) i 0 (rw W.size (perm_lt P.perm i l)))
 
-    pub crossed-more : {q : List ℕ} {i a v : ℕ} → i < length p → a ≡ partner (get_or p i 0) → v ≡ partner i → Crossed p q i → Crossed p (set q a v) (i + 1)
-    crossed-more {q} {i} l ea ev W = rw (ea, ev) record {
-      size = length-set q (partner (get_or p i 0)) (partner i) ∙ W.size;
-      done = λ o d. go o d (dec_lt o i);
-    }
-      where
-        other : (o : ℕ) → o < i → partner (map_of p o) ≡ partner (get_or p i 0) → ⊥
-        other o m e = ne_of_lt m (perm_inj P.perm o i (partner_inj _ _ (e ∙ ap partner (read-map p i l))))
+  -- a pair of outputs
+  pub inverted-pair : {q : List ℕ} {i a b : ℕ} → i < length p / 2 → a ≡ get_or p (2 * i) 0 → b ≡ get_or p (2 * i + 1) 0 → Inverted p q (2 * i)
+      → Inverted p (set (set q a (2 * i)) b (2 * i + 1)) (2 * (i + 1))
+  inverted-pair {q} {i} l ea eb W =
+      let e : 2 * (i + 1) ≡ 2 * i + 1 + 1 = omega arith in
+      rw (ea, eb, e) (inverted-more (omega arith) (inverted-more (omega arith) W))
 
-        go : (o : ℕ) → o < i + 1 → Dec (o < i) → get_or (set q (partner (get_or p i 0)) (partner i)) (partner (map_of p o)) 0 ≡ partner o
-        go o d (yes m) = get_or-set_other q (partner (get_or p i 0)) (partner (map_of p o)) (partner i) 0 (other o m) ∙ W.done o m
-        go o d (no n) =
-            let e : o ≡ i = omega arith in
-            rw (e, ← read-map p i l) (get_or-set_same q (partner (get_or p i 0)) (partner i) 0 (rw W.size (across_lt i l)))
-
-    pub crossed-all : {q : List ℕ} {i : ℕ} → length p ≤ i → Crossed p q i → q ≡ across_list p
-    crossed-all {q} {i} l W =
-        ext_get_or 0 q (across_list p) (W.size ∙ sym (length-list_of (length p) (across_of p))) (λ x d.
-        let b : x < length p = rw W.size at d in
-        let o = inverse_of p (partner x) in
-        ap (λ y. get_or q y 0) (sym (ap partner (P.perm.fro (partner x)) ∙ partner-partner x))
-        ∙ W.done o (omega (arith, perm_lt (flipped P.perm) (partner x) (pair_lt even x b)))
-        ∙ sym (get_or-list_of (length p) (across_of p) x 0 b))
+  pub inverted-all : {q : List ℕ} {i : ℕ} → length p ≤ i → Inverted p q i → q ≡ inverse_list p
+  inverted-all {q} {i} l W =
+      ext_get_or 0 q (inverse_list p) (W.size ∙ sym (length-list_of (length p) (inverse_of p))) (λ x d.
+      let b : x < length p = rw W.size at d in
+      ap (λ y. get_or q y 0) (sym (P.perm.fro x))
+      ∙ W.done (inverse_of p x) (omega (arith, perm_lt (flipped P.perm) x b))
+      ∙ sym (get_or-list_of (length p) (inverse_of p) x 0 b))
 
 -- ---- one level
 

@@ -2,23 +2,23 @@
 -- give every output pair and every input pair its side.
 use mathlib.Core.Path.{◌≡◌, refl, sym, ap, ◌∙◌}
 use mathlib.Core.Logic.{◌≢◌, ◌⊎◌, inl, inr}
-use mathlib.Core.List.{List, ◌++◌}
+use mathlib.Core.List.{List}
 use Prim.Native.Nat.{ℕ, zero, suc, ◌+◌, ◌-◌, ◌*◌, ◌/◌, ◌%◌, ◌≤◌, ◌<◌, zero-le, suc-le-suc}
 use native.Mathlib.Nat.{not-suc-le-zero, le_refl, le-suc_iff}
 use native.Mathlib.Numerals.{add-one}
 use native.Mathlib.Decide.{ℕ_discrete, dec_lt, dec_le}
 use native.Mathlib.Omega.{arith}
 use borrow.Author.Tests.{lt-ltb, le-ltb}
-use lib.ListN.{length, get_or, set, drop, replicate, length-set, length-replicate, get_or-replicate, get_or-append}
+use lib.ListN.{length, get_or, set, length-set}
 use lib.Seq.{get_or-set_same, get_or-set_other}
-use Rattle.lists.proofs.ListsLaws.{get_d_any, get_or-list_of}
+use Rattle.lists.proofs.ListsLaws.{get_d_any}
 use Rattle.block_networks.specs.Permutation.{Perm, partner, iterate, walk, key, lowest, side}
 use Rattle.block_networks.proofs.Orbits.{Reach, reach_one, reach_trans, once-round, Attained}
 use Rattle.block_networks.proofs.Loops.{parity, partner-partner, partner-half, partner-even, partner_lt, same-pair, key-at, key_inj, key-partner, key-last, key-other, KeyAt, in_last, elsewhere, flipped, perm_lt}
 use Rattle.block_networks.proofs.Loops.{walk_lt, walk-closes, walk_sym, walk-mirror, lowest-at, lowest-low, lowest-same, lowest-partner, side_along, side-partner}
 use Rattle.block_networks.proofs.Halves.{side_lt, output-sides}
 use Rattle.block_loops.proofs.FillingLaws.{Filled, filled-all}
-use Rattle.block_loops.specs.Mappings.{map_of, inverse_of, Paired, walk_in, side_in, inverse_list, across_of, across_list, pair_side, input_side, row_sides}
+use Rattle.block_loops.specs.Mappings.{map_of, Paired, walk_in, side_in, pair_side, input_side, row_sides}
 use Rattle.block_loops.specs.Marking.{unmarked, marked, visit_pair, loop_of, output_of, row_side, loop_in, Leads, Traced, Unmarked, Visited}
 
 -- ---- loops
@@ -170,18 +170,15 @@ module _ {p q : List ℕ} (G : Paired p q) where
   pub place_lt : (x : ℕ) → x < length p → get_or p x 0 < length p
   place_lt x l = rw (read-map p x l, ← G.even) (perm_lt G.perm x (rw G.even l))
 
-pub pair_lt : {N : ℕ} → 2 * (N / 2) ≡ N → (x : ℕ) → x < N → partner x < N
-pair_lt {N} even x l = rw (← even) (partner_lt (N / 2) x (rw even l))
+  pub pair_lt : (x : ℕ) → x < length p → partner x < length p
+  pair_lt x l = rw (← G.even) (partner_lt (length p / 2) x (rw G.even l))
 
--- the two reads of a step
-pub step_is : {p : List ℕ} → Paired p (inverse_list p) → (o : ℕ) → o < length p → get_or (across_list p) (get_or p o 0) 0 ≡ walk_in p (inverse_list p) o
-unfolding walk
-step_is {p} G o l =
-    let x = get_or p o 0 in
-    let b = pair_lt G.even x (place_lt G o l) in
-    get_or-list_of (length p) (across_of p) x 0 (place_lt G o l)
-    ∙ ap partner (sym (get_or-list_of (length p) (inverse_of p) (partner x) 0 b) ∙ read-map (inverse_list p) (partner x) (rw G.size b))
-    ∙ ap (λ y. partner (map_of (inverse_list p) (partner y))) (read-map p o l)
+  -- the four reads of a step
+  pub step_is : (o : ℕ) → o < length p → partner (get_or q (partner (get_or p o 0)) 0) ≡ walk_in p q o
+  unfolding walk
+  step_is o l =
+      let b : partner (get_or p o 0) < length q = rw G.size (pair_lt (get_or p o 0) (place_lt o l)) in
+      rw (read-map q (partner (get_or p o 0)) b, read-map p o l)
 
 -- ---- a walk round a loop
 
@@ -323,10 +320,12 @@ module _ {p q : List ℕ} (G : Paired p q) (i : ℕ) (L : Leads p q i) (m₀ : L
 
 -- ---- all loops
 
-pub marks-cleared : (h : ℕ) (m : List ℕ) → Unmarked h (replicate h unmarked ++ drop h m)
-marks-cleared h m = record {
-  each = λ i l. get_or-append (replicate h unmarked) (drop h m) 0 i (rw (length-replicate {A = ℕ} h unmarked) l) ∙ get_or-replicate h i unmarked 0 l;
-}
+pub unmarked-more : {m : List ℕ} {i : ℕ} → i < length m → Unmarked i m → Unmarked (i + 1) (set m i unmarked)
+unmarked-more {m} {i} l u = record { each = λ x d. go x d (ℕ_discrete x i) }
+  where
+    go : (x : ℕ) → x < i + 1 → Dec (x ≡ i) → get_or (set m i unmarked) x 0 ≡ unmarked
+    go x d (yes e) = rw e (get_or-set_same m i unmarked 0 l)
+    go x d (no n) = get_or-set_other m i x unmarked 0 n ∙ u.each x (omega arith)
 
 visit_lt : (h k : ℕ) → k < h → visit_pair h k < h
 unfolding visit_pair

@@ -1,10 +1,9 @@
--- The mapping of P's outputs to its inputs as the programming holds it: a list of places counted from 0. Beside it stands a list of the outputs that
--- a walk comes to.
+-- The mapping of P's outputs to its inputs as the programming holds it: a list of places counted from 0, with its inverse beside it.
 use Rattle.std.specs.Prelude.{ℕ, ◌+◌, ◌-◌, ◌*◌, ◌/◌, ◌%◌, ◌≡◌, List, ◌++◌, length, get_or, take, drop}
 use Rattle.lists.specs.Lists.{list_of}
 use Rattle.block_elements.specs.Bits.{store_bits}
 use Rattle.block_bits.specs.Stores.{low_bits}
-use Rattle.block_networks.specs.Permutation.{Perm, partner, walk, side, permutation_bits}
+use Rattle.block_networks.specs.Permutation.{Perm, walk, side, permutation_bits}
 use Rattle.block_networks.specs.Wanted.{taker_of}
 
 -- the input that output o takes; past the list nothing moves
@@ -42,14 +41,6 @@ side_in p q = side (length p / 2) (map_of p) (map_of q)
 -- the inverse as a list
 abbrev pub inverse_list : List ℕ → List ℕ
 inverse_list p = list_of (length p) (inverse_of p)
-
--- the output that a walk comes to from input x: the partner of the one that takes x's partner
-abbrev pub across_of : List ℕ → ℕ → ℕ
-across_of p x = partner (inverse_of p (partner x))
-
--- that of each input
-abbrev pub across_list : List ℕ → List ℕ
-across_list p = list_of (length p) (across_of p)
 
 -- the half of pair i's first output; its second comes through the other half
 abbrev pub pair_side : List ℕ → List ℕ → ℕ → ℕ

@@ -1,15 +1,13 @@
 -- The array that the wanted inputs are loaded into begins with their mapping. After success the program holds the bits of that mapping.
 use mathlib.Core.Path.{◌≡◌, sym, ap, ◌∙◌}
 use mathlib.Core.List.{List}
-use Prim.Native.Nat.{ℕ, ◌-◌, ◌^◌, ◌≤◌}
+use Prim.Native.Nat.{ℕ, ◌^◌}
 use lib.ListN.{length, take, drop}
 use lib.Seq.{take_at}
-use borrow.Rule.Slice.PartMut.{mid_of, put_mid}
 use Rattle.lists.specs.Lists.{list_of}
 use Rattle.lists.proofs.ListsLaws.{length-list_of}
 use Rattle.fault.specs.Buffers.{over}
-use Rattle.block_elements.specs.Bits.{bit_byte, bit_place, store_bits}
-use Rattle.block_bits.proofs.StoreLaws.{store_from_byte}
+use Rattle.block_elements.specs.Bits.{store_bits}
 use Rattle.block_networks.specs.Wanted.{Wanted, mapping, wanted_bits}
 use Rattle.block_networks.proofs.WantedLaws.{wanted-perm}
 use Rattle.block_sizes.specs.Sizes.{level_of}
@@ -31,15 +29,9 @@ module _ {N : ℕ} {wanted perm : List ℕ} (old : List ℕ) (W : Wanted N wante
   pub front-perm : IsPerm (take N perm)
   front-perm = rw front-is (perm-listed (wanted-perm W))
 
-  front-bits : (n : ℕ) → list_bits n (take N perm) ≡ wanted_bits n wanted
+  pub front-bits : (n : ℕ) → list_bits n (take N perm) ≡ wanted_bits n wanted
   unfolding wanted_bits
   front-bits n = ap (list_bits n) front-is ∙ bits-listed (wanted-perm W) n
-
-  -- its bits, stored in the part of a program from the first bit's byte on, are those of the wanted inputs
-  pub front-stored : (s : List ℕ) (p n : ℕ) {byte place level : ℕ} {part : List ℕ} → byte ≡ bit_byte p → place ≡ bit_place p → level ≡ n → bit_byte p ≤ length s
-      → part ≡ store_bits (mid_of byte (length s - byte) s) place (list_bits level (take N perm)) → put_mid byte (length s - byte) s part ≡ store_bits s p (wanted_bits n wanted)
-  front-stored s p n {byte} {place} eb ep el l e =
-      store_from_byte s p (wanted_bits n wanted) eb ep l (e ∙ ap (store_bits (mid_of byte (length s - byte) s) place) (ap (λ k. list_bits k (take N perm)) el ∙ front-bits n))
 
 pub program-stored : (N : ℕ) (wanted : List ℕ) (start : ℕ) (program : List ℕ) → program_at_fault N wanted start (length program) ≡ 0
     → (Wanted (2 ^ level_of N) wanted) × (program_at_result N wanted start program ≡ store_bits program start (wanted_bits (level_of N) wanted))

@@ -1,13 +1,12 @@
 // One level of P's programming: the bits of its own rows go into the program, and the scratch is left with the mappings of the two halves.
 ghost use Rattle.std.specs.Prelude.{◌≡◌, ◌≢◌, ◌++◌, ◌+◌, ◌*◌, ◌/◌, ◌^◌, ◌<◌, ◌≤◌, length};
 ghost use Rattle.block_elements.specs.Bits.{AreBits};
-ghost use Rattle.block_networks.specs.Permutation.{partner};
-ghost use Rattle.block_sizes.specs.Sizes.{max_size};
-ghost use Rattle.block_loops.specs.Mappings.{IsPerm, inverse_list, across_list, row_sides, rows_stored, half_list, Levelled};
+ghost use Rattle.block_loops.specs.Mappings.{IsPerm, inverse_list, row_sides, rows_stored, half_list, Levelled};
+ghost use Rattle.block_loops.specs.Marking.{Unmarked};
 ghost use Rattle.block_loops.specs.Levels.{LevelBuffers};
 
 use crate::marking::{UNMARKED, mark_sides};
-use block_bits::{fill_bytes, store_bits};
+use block_bits::store_bits;
 use block_rows::wide;
 
 // One level for the mapping `perm`, from bit `start` on, where each half has `part` rows. `scratch` and `mark` are room to work in.
@@ -30,36 +29,33 @@ pub(crate) fn program_level(
     half_maps(perm, &mark[..pairs], scratch);
 }
 
-// The sides of the output pairs, and behind them those of the input pairs. The output pairs are unmarked first, and the outputs that a walk
-// comes to are listed.
-fn find_sides(perm: &[u16], across: &mut [u16], mark: &mut [u8])
+// The sides of the output pairs, and behind them those of the input pairs, by the inverse of the mapping.
+fn find_sides(perm: &[u16], inverse: &mut [u16], mark: &mut [u8])
     requires perm { IsPerm perm.now }
-    requires level_buffers { LevelBuffers (length perm.now) (length across.old) (length mark.old) }
+    requires level_buffers { LevelBuffers (length perm.now) (length inverse.old) (length mark.old) }
     ensures { mark.new ≡ row_sides perm.now (inverse_list perm.now) }
 {
-    fill_bytes(mark, perm.len() / 2, UNMARKED);
-    list_across(perm, across);
-    mark_sides(perm, across, mark);
+    invert(perm, inverse, mark);
+    mark_sides(perm, inverse, mark);
 }
 
-// For each input the output that a walk comes to from there, output by output, so that a step of the walk is two reads.
-fn list_across(perm: &[u16], across: &mut [u16])
-    requires perm { IsPerm perm.now × (2 * (length perm.now / 2) ≡ length perm.now) }
-    requires perm_len_bound { (length perm.now ≤ max_size) × (length across.old ≡ length perm.now) }
-    ensures { across.new ≡ across_list perm.now }
+// The inverse of the mapping, pair by pair, and each output pair unmarked.
+fn invert(perm: &[u16], inverse: &mut [u16], mark: &mut [u8])
+    requires perm { IsPerm perm.now }
+    requires level_buffers { LevelBuffers (length perm.now) (length inverse.old) (length mark.old) }
+    ensures inverted { inverse.new ≡ inverse_list perm.now }
+    ensures cleared { Unmarked (length perm.now / 2) mark.new }
 {
-    let mut o: usize = 0;
-    while o < perm.len() {
-        across[partner_of(wide(perm[o]))] = partner_of(o) as u16;
-        o += 1;
+    let pairs = perm.len() / 2;
+    let mut i: usize = 0;
+    while i < pairs {
+        let first = wide(perm[2 * i]);
+        let second = wide(perm[2 * i + 1]);
+        inverse[first] = (2 * i) as u16;
+        inverse[second] = (2 * i + 1) as u16;
+        mark[i] = UNMARKED;
+        i += 1;
     }
-}
-
-// The other place of a pair.
-fn partner_of(x: usize) -> usize
-    ensures { result ≡ partner x }
-{
-    x / 2 * 2 + (1 - x % 2)
 }
 
 // The bits of a level's own rows: the input rows' from `start` on, the output rows' behind the two halves. The last pair has no output row.

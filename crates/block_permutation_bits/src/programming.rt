@@ -73,13 +73,13 @@ fn program_small(n: u32, wanted: &[u16], program: &mut [u8], start: usize)
     ensures { program.new ≡ store_bits program.old start (wanted_bits (level_of n) wanted.now) }
 {
     let mut perm = [0u16; SMALL_PLACES];
-    let mut scratch = [0u16; SMALL_PLACES];
+    let mut inverse = [0u16; SMALL_PLACES];
     let mut mark = [0u8; SMALL_PLACES];
     program_in_arrays(
         n,
         wanted,
         &mut perm,
-        &mut scratch,
+        &mut inverse,
         &mut mark,
         program,
         start,
@@ -93,13 +93,13 @@ fn program_large(n: u32, wanted: &[u16], program: &mut [u8], start: usize)
     ensures { program.new ≡ store_bits program.old start (wanted_bits (level_of n) wanted.now) }
 {
     let mut perm = [0u16; MAX_PLACES];
-    let mut scratch = [0u16; MAX_PLACES];
+    let mut inverse = [0u16; MAX_PLACES];
     let mut mark = [0u8; MAX_PLACES];
     program_in_arrays(
         n,
         wanted,
         &mut perm,
-        &mut scratch,
+        &mut inverse,
         &mut mark,
         program,
         start,
@@ -112,13 +112,13 @@ fn program_in_arrays(
     n: u32,
     wanted: &[u16],
     perm: &mut [u16],
-    scratch: &mut [u16],
+    inverse: &mut [u16],
     mark: &mut [u8],
     program: &mut [u8],
     start: usize,
 )
     requires size_is { SizeIs n × Wanted n wanted.now }
-    requires n_in_bounds { (n ≤ length perm.old) × (n ≤ length scratch.old) × (n ≤ length mark.old) }
+    requires n_in_bounds { (n ≤ length perm.old) × (n ≤ length inverse.old) × (n ≤ length mark.old) }
     requires n_bound { start + permutation_count (level_of n) ≤ bits_held (length program.old) }
     ensures { program.new ≡ store_bits program.old start (wanted_bits (level_of n) wanted.now) }
 {
@@ -127,7 +127,7 @@ fn program_in_arrays(
     let byte = bit_byte(start);
     program_block(
         &mut perm[..places],
-        &mut scratch[..places],
+        &mut inverse[..places],
         &mut mark[..places],
         &mut program[byte..],
         bit_place(start),

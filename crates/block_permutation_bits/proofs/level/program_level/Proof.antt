@@ -35,7 +35,7 @@ for_halves c κs =
         even = room.even;
         some = room.some;
         small = room.small;
-        scratch_size = c.find_sides.auto.across ∙ room.scratch_size;
+        scratch_size = c.find_sides.auto.inverse ∙ room.scratch_size;
         marks_size = omega (arith, size, room.marks_size, room.even);
       },
     )

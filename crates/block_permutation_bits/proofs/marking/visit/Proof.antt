@@ -6,7 +6,7 @@ use Rattle.block_permutation_bits.proofs.marking.visit.Tie as tie
 for_loop : tie.Need-mark_loop-requires
 for_loop c κs =
     let pre = c.requires in
-    (pre.0, (pre.1.0, (pre.1.1.0, (pre.1.1.1.0, pre.1.1.1.1.1 c.if-mark-i-eq-UNMARKED.true))))
+    (pre.0, (pre.1.0, (pre.1.1.0, pre.1.1.1.1 c.if-mark-i-eq-UNMARKED.true)))
 
 unmarked-start : tie.Need-returns-then-mark-i-eq-UNMARKED
 unmarked-start c =
