@@ -2,8 +2,8 @@
 use mathlib.Core.Path.{◌≡◌, refl, sym, ap, ◌∙◌}
 use mathlib.Core.Logic.{◌≢◌}
 use mathlib.Core.List.{List, [], ◌∷◌, ◌++◌, append-nil}
-use Prim.Native.Nat.{ℕ, suc, ◌+◌, ◌-◌, ◌≤◌, ◌<◌, min}
-use native.Mathlib.Nat.{add-zero, zero-add, add-suc, suc-add, min-eq_left}
+use Prim.Native.Nat.{ℕ, suc, ◌+◌, ◌-◌, ◌%◌, ◌≤◌, ◌<◌, min}
+use native.Mathlib.Nat.{add-zero, zero-add, add-suc, suc-add, mod-eq_of_lt, min-eq_left}
 use native.Mathlib.Decide.{ℕ_discrete}
 use native.Mathlib.Omega.{arith}
 use borrow.Rule.Slice.PartMut.{mid_of, post_of, put_mid}
@@ -34,6 +34,11 @@ store_next s p i n f =
 pub store_more : (s : List ℕ) (p i : ℕ) (f : ℕ → ℕ) → set_bit (store_bits s p (list_of i f)) (p + i) (f i) ≡ store_bits s p (list_of (i + 1) f)
 unfolding list_of store_bits
 store_more s p i f = ap (λ j. set_bit (store_bits s p (list_of i f)) (p + i) (f j)) (sym (add-zero i)) ∙ store_next s p i 1 f
+
+-- a store of b's lowest bit
+pub store_step : (s₀ : List ℕ) {s : List ℕ} (p i : ℕ) {b : ℕ} (f : ℕ → ℕ) → s ≡ store_bits s₀ p (list_of i f) → b < 2 → b ≡ f i
+    → set_bit s (p + i) (b % 2) ≡ store_bits s₀ p (list_of (i + 1) f)
+store_step s₀ p i f held small e = rw (mod-eq_of_lt small, held, e) (store_more s₀ p i f)
 
 -- past the end nothing is stored
 pub store_bits-past : (bs s : List ℕ) (p : ℕ) → bits_held (length s) ≤ p → store_bits s p bs ≡ s
