@@ -7,7 +7,7 @@ pub fn code(line: &str) -> &str {
 
 /// The words of code: names, keywords, numbers.
 pub fn words(code: &str) -> impl Iterator<Item = &str> {
-    let is_word = |c: char| c.is_alphanumeric() || "-·'′_".contains(c);
+    let is_word = |c: char| c.is_alphanumeric() || "-'_".contains(c);
     code.split(move |c| !is_word(c))
         .filter(|word| !word.is_empty())
 }
@@ -93,7 +93,7 @@ mod tests {
         let source = "\
 pub length-rows : ℕ
 abbrev pub rows : ℕ
-unfoldable pub run′ : ℕ
+unfoldable pub run' : ℕ
 pub record Rows (n : ℕ) : Type 0 where
 pub data Kind : Type 0 where
   straight : Kind
@@ -110,7 +110,7 @@ pub long
             [
                 (1, "length-rows"),
                 (2, "rows"),
-                (3, "run′"),
+                (3, "run'"),
                 (4, "Rows"),
                 (5, "Kind"),
                 (7, "Row"),
@@ -126,9 +126,9 @@ pub long
         let source = "\
 -- pub commented : ℕ
 pub mod Rows
-pub use Rattle·lists.specs.Lists.{listOf}
-unfoldable pub use Rattle·lists.specs.Lists.{listOf}
-use Rattle·lists.specs.Lists.{listOf}
+pub use Rattle.lists.specs.Lists.{list_of}
+unfoldable pub use Rattle.lists.specs.Lists.{list_of}
+use Rattle.lists.specs.Lists.{list_of}
 hidden : ℕ
 hidden = 1
 record Hidden : Type 0 where
@@ -161,7 +161,7 @@ pub last : ℕ
 
     #[test]
     fn a_word_is_whole() {
-        let all: Vec<&str> = words(code("forward (refl-x, refl′) .rw·y ap₂ x_1; -- rw")).collect();
-        assert_eq!(all, ["forward", "refl-x", "refl′", "rw·y", "ap₂", "x_1"]);
+        let all: Vec<&str> = words(code("forward (refl-x, refl').rw_y ap₂ x_1; -- rw")).collect();
+        assert_eq!(all, ["forward", "refl-x", "refl'", "rw_y", "ap₂", "x_1"]);
     }
 }

@@ -106,8 +106,8 @@ hidden : ℕ
 ";
         let wires = "\
 pub mod Rows
-pub use Rattle·rows.specs.Rows.{rows}
-unfoldable pub use Rattle·rows.specs.Rows.{rows}
+pub use Rattle.rows.specs.Rows.{rows}
+unfoldable pub use Rattle.rows.specs.Rows.{rows}
 pub record Wires : Type 0 where
   pub size : ℕ
 pub data Kind : Type 0 where

@@ -38,7 +38,7 @@ mod tests;
 const MOST: u64 = 2_560;
 
 /// The definitions that say what P's program is.
-const PROGRAMS_OF_P: [&str; 3] = ["programResult", "programAtResult", "wantedBits"];
+const PROGRAMS_OF_P: [&str; 3] = ["program_result", "program_at_result", "wanted_bits"];
 
 /// The calls that program P as a part of more: S, a plan, and the four calls in one.
 const PROGRAM_MORE: [&str; 6] = [

@@ -157,11 +157,11 @@ mod tests {
     #[test]
     fn a_contract_passes() {
         assert_eq!(
-            problems_of("pub fn f(x: u8) -> u8\n    ensures { λ r. ⌜ r ≡ x ⌝ }\n{\n    x\n}\n"),
+            problems_of("pub fn f(x: u8) -> u8\n    ensures { result ≡ x }\n{\n    x\n}\n"),
             []
         );
         assert_eq!(
-            problems_of("pub fn f(x: &mut [u8])\n    ensures written { λ _. ⌜ {} ⌝ }\n{\n}\n"),
+            problems_of("pub fn f(x: &mut [u8])\n    ensures written { x.new ≡ {} }\n{\n}\n"),
             []
         );
     }
@@ -180,7 +180,7 @@ mod tests {
 
     #[test]
     fn a_requires_is_found() {
-        let source = "pub fn f(x: u8) -> u8\n    requires { ⌜ x < 9 ⌝ }\n    ensures { λ r. ⌜ r ≡ x ⌝ }\n{\n    x\n}\n";
+        let source = "pub fn f(x: u8) -> u8\n    requires { x < 9 }\n    ensures { result ≡ x }\n{\n    x\n}\n";
         assert_eq!(problems_of(source), [(1, "has a requires")]);
     }
 
@@ -188,7 +188,7 @@ mod tests {
     fn methods_and_exports_count() {
         let method = "impl S {\n    pub fn f(self) -> u8 {\n        1\n    }\n}\n";
         assert_eq!(problems_of(method), [(2, "has no ensures")]);
-        let export = "#[no_mangle]\npub extern \"C\" fn f(x: u8) -> u8\n    requires { ⌜ x < 9 ⌝ }\n{\n    x\n}\n";
+        let export = "#[unsafe(no_mangle)]\npub extern \"C\" fn f(x: u8) -> u8\n    requires { x < 9 }\n{\n    x\n}\n";
         assert_eq!(
             problems_of(export),
             [(2, "has a requires"), (2, "has no ensures")]
@@ -197,7 +197,7 @@ mod tests {
 
     #[test]
     fn a_body_is_not_a_clause() {
-        let source = "pub fn f() -> S\n{\n    S { ensures: 1 }\n}\n\nfn g()\n    ensures { λ r. ⌜ r ≡ 1 ⌝ }\n{\n}\n";
+        let source = "pub fn f() -> S\n{\n    S { ensures: 1 }\n}\n\nfn g()\n    ensures { result ≡ 1 }\n{\n}\n";
         assert_eq!(problems_of(source), [(1, "has no ensures")]);
     }
 

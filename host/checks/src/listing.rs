@@ -1,4 +1,5 @@
-//! crates.txt: a line for each crate, `NAME: the crates it is built over`.
+//! crates.txt: a line for each crate, `NAME: the crates it is built over`; a static library's is
+//! `NAME staticlib: ..`.
 
 use std::path::Path;
 use std::{fs, io};
@@ -21,9 +22,11 @@ pub fn read(root: &Path) -> io::Result<Vec<Listed>> {
 pub fn listed(text: &str) -> Vec<Listed> {
     let of_line = |(line, text): (usize, &str)| {
         let (name, over) = text.split('#').next()?.split_once(':')?;
+        // What stands behind the name says what is built of the crate.
+        let name = name.split_whitespace().next()?;
         Some(Listed {
             line,
-            name: name.trim().to_string(),
+            name: name.to_string(),
             over: over.split_whitespace().map(str::to_string).collect(),
         })
     };
@@ -40,5 +43,8 @@ mod tests {
         let shown = |one: &Listed| format!("{} {} {}", one.line, one.name, one.over.join(","));
         let shown: Vec<String> = crates.iter().map(shown).collect();
         assert_eq!(shown, ["2 fault ", "4 plan fault,powers"]);
+        let crates = listed("capi staticlib: fault plan\nstaticlib: capi\n");
+        let shown: Vec<String> = crates.iter().map(|one| one.name.clone()).collect();
+        assert_eq!(shown, ["capi", "staticlib"]);
     }
 }

@@ -147,10 +147,10 @@ mod tests {
 -- pub commented : ℕ
 pub record Plan (n : ℕ) : Type 0 where
   pub size : n ≡ 1
-abbrev pub planFault : Plan → ℕ
-planFault p = gateFault p
-unfoldable pub planRead : ℕ
-    pub third-demand : planFault ≡ 0
+abbrev pub plan_fault : Plan → ℕ
+plan_fault p = gate_fault p
+unfoldable pub plan_read : ℕ
+    pub third_demand : plan_fault ≡ 0
 hidden : ℕ
 ";
 
@@ -159,7 +159,7 @@ pub const MOST: u8 = 3;
 pub struct Plan { pub size: u8 }
 impl Plan {
     pub fn zero() -> Self
-        ensures { λ r. ⌜ r ≡ zeroPlan ⌝ }
+        ensures { result ≡ zero_plan }
     {
         helper()
     }
@@ -175,12 +175,13 @@ fn inner(plan: Plan) -> u32 {
 }
 ";
 
-    const EXPORT: &str = "#[no_mangle]\npub extern \"C\" fn mkd_fault() -> u32 {\n    1\n}\n";
+    const EXPORT: &str =
+        "#[unsafe(no_mangle)]\npub extern \"C\" fn mkd_fault() -> u32 {\n    1\n}\n";
 
     fn read(path: &str) -> Option<String> {
         let text = match path {
             "crates/plan/specs/Faults.antt" => SPEC,
-            "crates/plan/proofs/Laws.antt" => "pub law : planFault ≡ 0\n",
+            "crates/plan/proofs/Laws.antt" => "pub law : plan_fault ≡ 0\n",
             "crates/plan/src/record.rt" => SOURCE,
             "crates/capi/src/lib.rt" => EXPORT,
             "docs/NOTES.md" => "plan_fault\n",
@@ -203,11 +204,11 @@ fn inner(plan: Plan) -> u32 {
         let page = "\
 # `plan_fault` in `crates/plan/src/record.rt`
 
-- `planFault`, `planRead` and `Plan` in `crates/plan/specs/Faults.antt`, `Plan::zero` in `crates/plan/src/record.rt`.
-- `third-demand`, `size` in `crates/plan/specs/Faults.antt`, `law` in `crates/plan/proofs/Laws.antt`: see `docs/NOTES.md`.
+- `plan_fault`, `plan_read` and `Plan` in `crates/plan/specs/Faults.antt`, `Plan::zero` in `crates/plan/src/record.rt`.
+- `third_demand`, `size` in `crates/plan/specs/Faults.antt`, `law` in `crates/plan/proofs/Laws.antt`: see `docs/NOTES.md`.
 - `MOST`, `Plan` in `crates/plan/src/record.rt`.
 
-    rt check twintest
+    rt run
 ";
         assert_eq!(problems_of(page), [""; 0]);
     }
@@ -216,14 +217,14 @@ fn inner(plan: Plan) -> u32 {
     fn a_name_that_is_not_declared_is_found() {
         let spec = "crates/plan/specs/Faults.antt";
         for name in [
-            "gateFault",
-            "planfault",
+            "gate_fault",
+            "planFault",
             "commented",
             "hidden",
             "record",
             "third",
         ] {
-            let page = format!("text\n`planRead` and `{name}` in `{spec}`\n");
+            let page = format!("text\n`plan_read` and `{name}` in `{spec}`\n");
             let problem = format!("page:2: {spec} does not declare `{name}`");
             assert_eq!(problems_of(&page), [problem]);
         }
@@ -248,7 +249,7 @@ fn inner(plan: Plan) -> u32 {
     #[test]
     fn a_wrong_path_is_found() {
         assert_eq!(
-            problems_of("`planFault` in `crates/plan/specs/Fault.antt`"),
+            problems_of("`plan_fault` in `crates/plan/specs/Fault.antt`"),
             ["page:1: `crates/plan/specs/Fault.antt` is no file"]
         );
     }
@@ -256,8 +257,8 @@ fn inner(plan: Plan) -> u32 {
     #[test]
     fn a_name_without_a_file_is_found() {
         assert_eq!(
-            problems_of("`docs/NOTES.md` and `planFault`\n`crates/plan/specs/Faults.antt`\n"),
-            ["page:1: `planFault` has no file"]
+            problems_of("`docs/NOTES.md` and `plan_fault`\n`crates/plan/specs/Faults.antt`\n"),
+            ["page:1: `plan_fault` has no file"]
         );
         assert_eq!(
             problems_of("an `open one\n"),

@@ -101,9 +101,12 @@ mod tests {
     fn items_of_every_form_are_found() {
         let source = "\
 // fn commented() {}
+#![tactic(auto)]
+ghost use Rattle.lists.specs.Lists.{list_of};
 use lists::Wire;
 pub use lists::Wire;
 mod rows;
+#[derive(Clone, Copy)]
 pub struct Plan {
     pub size: u8,
 }
@@ -115,12 +118,12 @@ type Line = [u8; MOST];
 impl Plan {
     pub const NONE: u8 = 0;
     pub fn zero() -> Self
-        ensures { λ r. ⌜ r ≡ zeroPlan ⌝ }
+        ensures { result ≡ zero_plan }
     {
         fn helper() {}
     }
 }
-#[no_mangle]
+#[unsafe(no_mangle)]
 pub extern \"C\" fn mkd_run() {}
 fn inner(
     const_count: u8,
@@ -138,15 +141,15 @@ pub const fn folded() {}
         assert_eq!(
             found,
             [
-                "5 pub Plan",
-                "8 Step",
-                "11 pub MOST",
-                "12 Line",
-                "14 pub Plan::NONE",
-                "15 pub Plan::zero()",
-                "22 pub mkd_run()",
-                "23 inner()",
-                "28 pub folded()",
+                "8 pub Plan",
+                "11 Step",
+                "14 pub MOST",
+                "15 Line",
+                "17 pub Plan::NONE",
+                "18 pub Plan::zero()",
+                "25 pub mkd_run()",
+                "26 inner()",
+                "31 pub folded()",
             ]
         );
     }

@@ -19,12 +19,17 @@ impl Parser {
         let line = self.line();
         let mut is_export = false;
         while self.symbol("#") {
+            // `#![..]` is the whole file's.
+            let of_file = self.symbol("!");
             self.expect("[")?;
-            is_export |= self.is_word("no_mangle");
             while !self.symbol("]") {
+                is_export |= self.is_word("no_mangle");
                 if self.next().is_none() {
                     return self.unread("] is expected");
                 }
+            }
+            if of_file {
+                return Ok(());
             }
         }
         if self.token(&Token::GhostUse) {

@@ -51,7 +51,7 @@ pub struct Function {
     pub name: String,
     pub line: usize,
     pub is_public: bool,
-    /// Whether it is marked `#[no_mangle]`.
+    /// Whether it is marked `#[unsafe(no_mangle)]`.
     pub is_export: bool,
     pub parameters: Vec<(String, Written)>,
     pub result: Written,

@@ -272,8 +272,8 @@ fn a_function_of_the_same_name_is_told_apart() {
     put(
         &mut files,
         DOOR,
-        "pub use programming::program_permutation;\n",
-        "pub use other::level_of as other_level;\npub use programming::program_permutation;\n",
+        "pub use programming::{program_permutation, program_permutation_at};\n",
+        "pub use other::level_of as other_level;\npub use programming::{program_permutation, program_permutation_at};\n",
     );
     put(
         &mut files,
@@ -289,8 +289,8 @@ fn comments_and_contracts_hold_nothing() {
     let comment = "    // let spare = [0u8; 512];";
     let found = beside(comment, "// const SPARE: [u8; 4] = [0; 4];\n");
     assert_eq!((bytes(&found), found.problems.len()), (2_560, 0));
-    let contract = "    requires { ⌜ Wanted (length (now wanted)) (now wanted) ⌝ }\n";
-    let more = format!("{contract}    requires named {{ ⌜ held {{ list = [0u8; 512] }} ⌝ }}\n");
+    let contract = "    requires wanted { Wanted (length wanted.now) wanted.now }\n";
+    let more = format!("{contract}    requires named {{ held {{ list = [0u8; 512] }} }}\n");
     let found = planted(&[(PROGRAMMING, contract, &more)]);
     assert_eq!((bytes(&found), found.problems.len()), (2_560, 0));
     // A brace that is none of the contract's would move its end.
@@ -306,14 +306,14 @@ fn comments_and_contracts_hold_nothing() {
         ("'}'", problem),
         ("λ «}».", name),
     ] {
-        let more = format!("{contract}    requires {{ ⌜ wide {brace} ⌝ }}\n");
+        let more = format!("{contract}    requires wide {{ wide {brace} }}\n");
         let found = planted(&[(PROGRAMMING, contract, &more)]);
         is_refused(&found, &format!("{PROGRAMMING}:{line}: {problem}"));
     }
-    let used = "ghost use lib.ListN.{length};\n";
+    let used = "ghost use Rattle.lists.specs.Lists.{list_of};\n";
     let line = line_of(PROGRAMMING, used);
     for (end, problem) in [("-- ;", problem), ("«;»", name)] {
-        let more = format!("ghost use lib.ListN.{{length, {end} type\n}};\n");
+        let more = format!("ghost use Rattle.lists.specs.Lists.{{list_of, {end} type\n}};\n");
         let found = planted(&[(PROGRAMMING, used, &more)]);
         is_refused(&found, &format!("{PROGRAMMING}:{line}: {problem}"));
     }
@@ -431,14 +431,14 @@ fn what_is_not_resolved_is_refused() {
 fn every_call_that_programs_p_is_found() {
     let call = "\
 pub fn program_more(n: u32, wanted: &[u16], program: &mut [u8]) -> Answer
-    ensures { λ r. ⌜ more ⌝ }
+    ensures { more }
 {
     let spare = [0u8; 1];
     program_permutation(n, wanted, program)
 }
 ";
     // By its contract, under whatever name; and by what it calls, where its contract is silent.
-    let found = beside("", &call.replace("more ⌝", "programResult n ⌝"));
+    let found = beside("", &call.replace("{ more }", "{ program_result n }"));
     let names: Vec<&str> = found.programming.iter().map(|one| &*one.call).collect();
     assert!(names.contains(&"program_more"), "{names:?}");
     let [problem] = found.problems.as_slice() else {
@@ -487,7 +487,7 @@ fn calls_that_are_not_found_are_missed() {
         for word in PROGRAMS_OF_P {
             file.text = file.text.replace(word, "result");
         }
-        file.text = file.text.replace("#[no_mangle]", "");
+        file.text = file.text.replace("#[unsafe(no_mangle)]", "");
     }
     let found = arrays(&crates, &files).problems;
     assert_eq!(
