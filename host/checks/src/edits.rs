@@ -6,10 +6,9 @@
 //! refused, and the fact. A line `file: PATH` holds for the pairs `old: TEXT`, `new: TEXT` below it,
 //! each applied after the ones above: the old text stands exactly once in the file then.
 //!
-//! `problems` holds for the text, before any proof: every pair can be applied, no version stands beside
+//! This holds for the text, before any proof: every pair can be applied, no version stands beside
 //! one that could be what refuses it, and the versions that docs/DECISIONS.md names as `CRATE/LABEL`
-//! are there. `unrefused` reads what the prover said: every
-//! NAME has an error of its own. rt asks only that the file as a whole is refused.
+//! are there. What the prover says of them is read in `refusals`.
 
 use std::collections::{HashMap, HashSet};
 use std::path::Path;
@@ -46,26 +45,6 @@ pub fn problems(root: &Path) -> io::Result<Report> {
     Ok(Report { problems, seen })
 }
 
-/// Every version in the repository at `root` that the prover, as its logs say, did not refuse.
-pub fn unrefused(root: &Path) -> io::Result<Report> {
-    let mut problems = Vec::new();
-    let mut seen = 0;
-    for edit in files::directly_in(root, "must-fail", "edit")? {
-        let (crate_name, file) = place(&edit.path);
-        let log = root.join(format!("target/must-fail/{crate_name}/{file}/.log"));
-        let log = fs::read_to_string(log).unwrap_or_default();
-        for version in versions(&edit.text) {
-            seen += 1;
-            if !is_refused(version.refused, &log) {
-                let Version { label, refused, .. } = version;
-                problems.push(format!("{}: {label}: {refused} is not refused", edit.path));
-            }
-        }
-    }
-    let seen = format!("{seen} versions");
-    Ok(Report { problems, seen })
-}
-
 /// What keeps the versions of one file from being refused each for itself: two of one function, or
 /// one that changes definitions or laws, on which others may rest.
 fn mixed(edit: &File) -> Vec<String> {
@@ -89,7 +68,7 @@ fn mixed(edit: &File) -> Vec<String> {
 }
 
 /// CRATE and FILE of the path of an edit.
-fn place(path: &str) -> (&str, &str) {
+pub fn place(path: &str) -> (&str, &str) {
     let inside = path.strip_prefix("crates/").unwrap_or(path);
     let (name, file) = inside.split_once("/must-fail/").unwrap_or((inside, ""));
     (name, file.strip_suffix(".edit").unwrap_or(file))
@@ -97,9 +76,9 @@ fn place(path: &str) -> (&str, &str) {
 
 /// A wrong version: its label, the name that is refused, and how many texts it changes.
 #[derive(Debug, PartialEq)]
-struct Version<'a> {
-    label: &'a str,
-    refused: &'a str,
+pub struct Version<'a> {
+    pub label: &'a str,
+    pub refused: &'a str,
     pairs: usize,
 }
 
@@ -118,7 +97,7 @@ impl Version<'_> {
 }
 
 /// The versions of an edit's text, in their order.
-fn versions(text: &str) -> Vec<Version<'_>> {
+pub fn versions(text: &str) -> Vec<Version<'_>> {
     let mut versions: Vec<Version> = Vec::new();
     for line in text.lines() {
         if let Some(refused) = line.strip_prefix("# refused: ") {
@@ -162,31 +141,6 @@ fn named(page: &str) -> Vec<(usize, String)> {
         found.extend(quoted.map(|name| (line, name.to_string())));
     }
     found
-}
-
-/// Whether a log has an error of the function or law `name` itself: one in the function's own proof,
-/// or of the law, that does not only wait for something else that was refused; or that no proof of
-/// the function is found.
-fn is_refused(name: &str, log: &str) -> bool {
-    let law = format!(": error: `{name}`: ");
-    let search = format!("::{name}: no proof: ");
-    log.lines().any(|line| {
-        let is_error = line.contains(": error: ") && !line.contains(" was not admitted (");
-        let of_law = line.contains(&law) && !line.contains("/Proof.antt:");
-        is_error && (in_proof_of(name, line) || of_law)
-            || line.contains(&search) && line.contains("; `search` does not close")
-    })
-}
-
-/// Whether a line of a log begins with the proof of the function: FUNCTION/Proof.antt, or, where
-/// functions call each other, +ONE+OTHER/Proof.antt.
-fn in_proof_of(name: &str, line: &str) -> bool {
-    let Some((folder, _)) = line.split_once("/Proof.antt:") else {
-        return false;
-    };
-    let of_cycle = |last: &str| last.starts_with('+') && last.split('+').any(|one| one == name);
-    folder.ends_with(&format!("/{}", name.replace("::", "/")))
-        || folder.rsplit('/').next().is_some_and(of_cycle)
 }
 
 /// What keeps an edit from being applied, given the files of the repository.
@@ -307,31 +261,5 @@ mod tests {
         let expected = expected.map(|(line, name)| (line, name.to_string()));
         assert_eq!(named(page), expected);
         assert_eq!(place(PATH), ("plan", "wrong"));
-    }
-
-    #[test]
-    fn only_an_error_of_its_own_refuses() {
-        let log = "\
-/t/plan/wrong/proofs/rules/one/Proof.antt:9:12: error: `within`: the two types differ
-/t/plan/wrong/proofs/rules/one/Proof.antt:9:13: error: `one-spec`: `within` was not admitted (it has holes), so this cannot be checked
-/t/plan/wrong/proofs/rules/two/Proof.antt:9:12: error: `two-spec`: `close` was not admitted (it has holes), so this cannot be checked
-/t/plan/wrong/proofs/Laws.antt:3:1: error: `a-law`: `omega`: the goal does not follow
-/t/plan/wrong/proofs/Laws.antt:4:1: error: `b-law`: `a-law` was not admitted (it has holes), so this cannot be checked
-/t/plan/wrong/proofs/record/Plan/zero/Proof.antt:1:1: error: `zeroed`: differ
-/t/plan/wrong/proofs/block/+even+odd/Proof.antt:1:1: error: `returns`: differ
-fn plan::rules::two: not proved; it calls `plan::rules::one`, which is not proved
-fn plan::record::three: no proof: expected `three-spec` in proofs/record/three/Proof.antt; `search` does not close `returns`
-fn plan::record::four: no proof: expected `four-spec` in proofs/record/four/Proof.antt; it calls `plan::rules::one`, which is not proved
-fn plan::record::five: proved
-";
-        for name in ["one", "a-law", "Plan::zero", "three", "even", "odd"] {
-            assert!(is_refused(name, log), "{name}");
-        }
-        for name in [
-            "two", "b-law", "four", "five", "zer", "wo", "hree", "returns",
-        ] {
-            assert!(!is_refused(name, log), "{name}");
-        }
-        assert!(!is_refused("one", ""));
     }
 }

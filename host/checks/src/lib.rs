@@ -3,6 +3,8 @@
 //!
 //! A check is a function of text, with tests that plant what it must refuse and what must pass, and
 //! a `problems` that reads the repository at a root. `check_repository` makes them all.
+//!
+//! Behind the proofs, `refusals` holds each wrong version to be refused for itself.
 
 use std::io;
 use std::path::Path;
@@ -13,6 +15,7 @@ pub mod contracts;
 pub mod edits;
 pub mod names;
 pub mod reading_order;
+pub mod refusals;
 pub mod specs;
 pub mod storeys;
 

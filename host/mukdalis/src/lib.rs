@@ -35,9 +35,8 @@
 //! and [`Plan::uses_of`] says how often a wire is used. [`evaluate_series`] and [`run_series`] go over
 //! a series of intervals, in which the last outputs of one are the last inputs of the next.
 //!
-//! The library itself is the archive `libcapi.a`, which `rt staticlib capi` writes. The package
-//! takes it from `target/staticlib` of the repository, or from the folder that MUKDALIS_LIB_DIR
-//! names.
+//! The library itself is the archive `libcapi.a`, which `rt lib` in `crates/capi` writes. The package
+//! takes it from `crates/capi/out` of the repository, or from the folder that MUKDALIS_LIB_DIR names.
 //!
 //! [`raw`] has the records of the header and the calls that hand one back.
 

@@ -1,9 +1,10 @@
 //! Runs the programs `twintest` and `fabricsheet` on many files and compares what they print with the
 //! reference.
 //!
-//! Usage: `check_programs [FOLDER]`, the folder that the programs are in; without it, that of the
-//! repository. Prints what it compared. Exit status 1, with the first differing case, if a program
-//! prints anything else, ends by a signal, or ends a shown plan with a status other than 0.
+//! Usage: `check_programs [ROOT]`, the repository in which the programs were built, each in
+//! crates/NAME/out; without it, the one that this program is of. Prints what it compared. Exit status
+//! 1, with the first differing case, if a program prints anything else, ends by a signal, or ends a
+//! shown plan with a status other than 0.
 
 use std::error::Error;
 use std::io::{self, Write};
@@ -35,7 +36,7 @@ fn main() -> ExitCode {
 }
 
 fn run() -> Result<(), Box<dyn Error>> {
-    let folder = env::args_os().nth(1).map_or_else(built, PathBuf::from);
+    let root = env::args_os().nth(1).map_or_else(own, PathBuf::from);
     println!("seed {SEED:#x}");
     let stored = stored()?;
     let kinds = random_files(&mut Random::new(SEED));
@@ -45,7 +46,7 @@ fn run() -> Result<(), Box<dyn Error>> {
     }
 
     for program in Program::ALL {
-        let mut check = Check::new(program, &folder)?;
+        let mut check = Check::new(program, &root)?;
         for case in &stored {
             for feed in [Feed::Whole, Feed::InPieces] {
                 check.compare(&case.name, &case.file, case.text(program), feed)?;
@@ -61,8 +62,8 @@ fn run() -> Result<(), Box<dyn Error>> {
     Ok(())
 }
 
-fn built() -> PathBuf {
-    Path::new(env!("CARGO_MANIFEST_DIR")).join("../../target/bin")
+fn own() -> PathBuf {
+    Path::new(env!("CARGO_MANIFEST_DIR")).join("../..")
 }
 
 /// How the program gets a file: one read may give all of it, or not.
@@ -80,8 +81,9 @@ struct Check {
 }
 
 impl Check {
-    fn new(program: Program, folder: &Path) -> Result<Check, Box<dyn Error>> {
-        let path = folder.join(program.name());
+    fn new(program: Program, root: &Path) -> Result<Check, Box<dyn Error>> {
+        let name = program.name();
+        let path = root.join(format!("crates/{name}/out/{name}"));
         let path =
             fs::canonicalize(&path).map_err(|error| format!("{}: {error}", path.display()))?;
         Ok(Check {
