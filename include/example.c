@@ -5,8 +5,8 @@
  * and shows how a file that was cut short is refused. Last, a plan that holds: a latch that sheds
  * until it is reset, over a series of intervals by the plan and by the fabric of its counts.
  *
- *     rt staticlib capi
- *     cc -std=c11 include/example.c target/staticlib/libcapi.a -o example
+ *     (cd crates/capi && rt lib)
+ *     cc -std=c11 include/example.c crates/capi/out/libcapi.a -o example
  *
  * It prints the counts, and a line for each row: the inputs, the plan's output, the fabric's; then
  * the length of the saved file; the uses of the inputs before and after the edit, and the refusals

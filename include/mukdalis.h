@@ -6,7 +6,7 @@
  * series.
  *
  * example.c beside this file shows the whole path, from a plan file to a run, an edit, and a plan
- * that holds. A program is linked with libcapi.a, which `rt staticlib capi` writes.
+ * that holds. A program is linked with libcapi.a, which `rt lib` in crates/capi writes.
  *
  * Every call takes all inputs and refuses bad ones. It answers a number: 0 for done, any other
  * the row of the refusal table below whose check failed first. A refusal writes through no
