@@ -318,8 +318,8 @@ impl Walk<'_> {
     }
 }
 
-/// What a call of the kit gives, and the bytes of arrays that it holds with the calls under it. The
-/// kit's `read_full` has a local of 4,096 bytes, which a call under it makes.
+/// What a call of the kit gives, and the bytes of arrays that it holds with the calls under it. Of
+/// `read_full` these are the two buffers of 4,096 bytes that an older kit's held; today's has none.
 fn of_kit(words: &[String]) -> Option<(Type, u64)> {
     let words: Vec<&str> = words.iter().map(String::as_str).collect();
     match words.as_slice() {
