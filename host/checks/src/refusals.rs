@@ -34,7 +34,7 @@ pub fn unrefused(root: &Path, told: Option<&str>) -> io::Result<Report> {
     let is_told = |edit: &File| {
         let line = told.and_then(|told| told_of(told, &edit.path));
         let is_settled = |version: &Version| {
-            line.is_some_and(|line| is_refused(&subject(&cycles, edit, version), line))
+            line.is_some_and(|line| subject(&cycles, edit, version).is_refused_in(line))
         };
         matches!(&versions(&edit.text)[..], [version] if is_settled(version))
     };
@@ -43,9 +43,10 @@ pub fn unrefused(root: &Path, told: Option<&str>) -> io::Result<Report> {
     let mut problems = Vec::new();
     for (edit, log) in open.iter().zip(&logs) {
         for version in versions(&edit.text) {
-            if !is_refused(&subject(&cycles, edit, &version), log) {
+            let subject = subject(&cycles, edit, &version);
+            if let Some(problem) = subject.not_refused(log) {
                 let Version { label, refused, .. } = version;
-                problems.push(format!("{}: {label}: {refused} is not refused", edit.path));
+                problems.push(format!("{}: {label}: {refused} {problem}", edit.path));
             }
         }
     }
@@ -73,11 +74,11 @@ pub fn quoted(root: &Path, crates: &[String]) -> io::Result<Vec<String>> {
         for version in versions(&edit.text) {
             let Version { label, refused, .. } = version;
             lines.push(format!("{}: {label}: {refused}", edit.path));
-            let said = said_of(&subject(&cycles, edit, &version), log);
-            if said.is_empty() {
-                lines.push("  not refused".to_string());
-            }
-            lines.extend(said.iter().map(|line| format!("  {}", line.trim_end())));
+            let subject = subject(&cycles, edit, &version);
+            let problem = subject.not_refused(log);
+            lines.extend(problem.map(|problem| format!("  {problem}")));
+            let said = said_of(&subject, log).into_iter();
+            lines.extend(said.map(|line| format!("  {}", line.trim_end())));
         }
     }
     Ok(lines)
@@ -162,11 +163,6 @@ fn subject<'a>(cycles: &'a Cycles, edit: &File, version: &Version<'a>) -> Subjec
     }
 }
 
-/// Whether a log has an error of the function or law itself.
-fn is_refused(subject: &Subject, log: &str) -> bool {
-    log.lines().any(|line| subject.is_refused_in(line))
-}
-
 /// The first thing that a log says of the function or law itself, with the lines that go on with it;
 /// for goals that were left to the prover, what each of them is.
 fn said_of<'a>(subject: &Subject, log: &'a str) -> Vec<&'a str> {
@@ -191,37 +187,61 @@ fn said_of<'a>(subject: &Subject, log: &'a str) -> Vec<&'a str> {
 }
 
 impl Subject<'_> {
-    /// Whether a line of a log is an error of the function's own proof, or of the law, that does not
-    /// only wait for something else that was refused; or says that its goals were not proved.
+    /// What keeps a log from showing that the function or law is refused for itself.
+    fn not_refused(&self, log: &str) -> Option<&'static str> {
+        let lines = || log.lines();
+        if lines().any(|line| self.is_refused_in(line)) {
+            return None;
+        }
+        let gone = lines().any(|line| self.is_error_in(line) && names_gone(line));
+        Some(if gone {
+            "is refused only since its proof has names that the edit takes away"
+        } else {
+            "is not refused"
+        })
+    }
+
+    /// Whether a line of a log refuses the function or law for itself: by an error of its own, or since
+    /// goals that were left to the prover were not proved.
     fn is_refused_in(&self, line: &str) -> bool {
         if let Some(rest) = line.strip_prefix("fn ") {
             let own = format!("::{}: no proof: ", self.name);
             return rest.contains(&own) && goals_left(line).is_some();
         }
+        self.is_error_in(line) && !names_gone(line)
+    }
+
+    /// Whether a line of a log is an error of the function's own proof, or of the law, that does not
+    /// only wait for something else that was refused.
+    fn is_error_in(&self, line: &str) -> bool {
         let Some((place, message)) = line.split_once(": error: ") else {
             return false;
         };
-        let waits =
-            message.contains(" was not checked: ") || message.contains(" were not checked: ");
-        if waits || NAMES_GONE.iter().any(|words| message.contains(words)) {
+        let waits = [" was not checked: ", " were not checked: "];
+        if waits.iter().any(|words| message.contains(words)) {
             return false;
         }
-        let of_law = message.starts_with(&format!("`{}`: ", self.name));
         match proof_folder(place) {
             Some(folder) => self.is_proved_in(folder),
-            None => of_law,
+            None => message.starts_with(&format!("`{}`: ", self.name)),
         }
     }
 
-    /// Whether the function's proof is in this folder.
+    /// Whether the function's proof is in this folder, or that of a cycle of calls that it is in.
     fn is_proved_in(&self, folder: &str) -> bool {
         let last = folder.rsplit('/').next().unwrap_or(folder);
-        match (last.strip_prefix('+'), self.cycle) {
-            (Some(cycle), Some(own)) => cycle == own,
-            (None, None) => folder.ends_with(&format!("/{}", self.name.replace("::", "/"))),
-            _ => false,
-        }
+        let Some(cycle) = last.strip_prefix('+') else {
+            return folder.ends_with(&format!("/{}", self.name.replace("::", "/")));
+        };
+        // One that calls itself and no other gives the cycle its name.
+        let own = self.name.rsplit("::").next().unwrap_or(self.name);
+        self.cycle.unwrap_or(own) == cycle
     }
+}
+
+/// Whether an error only says that a name is not there.
+fn names_gone(line: &str) -> bool {
+    NAMES_GONE.iter().any(|words| line.contains(words))
 }
 
 /// The folder of the function whose proof a place PATH:LINE:COLUMN is in.
@@ -258,6 +278,7 @@ mod tests {
 ./proofs/record/six/Answers.antt:1:1: error: `returns`: differ
 ./proofs/record/seven/Invariants.antt:1:1: error: `loop_b`: differ
 ./proofs/block/+parity/Proof.antt:1:1: error: `returns`: differ
+./proofs/block/+own/Proof.antt:1:1: error: `returns`: differ
 fn plan::rules::two: not proved; it calls `plan::rules::one`, which is not proved
 note: src/record.rt:3:1: it is not proved that what the function ensures holds when it returns (`returns`)
 fn plan::record::three: no proof: expected answers in ./proofs/record/three/Answers.antt; `search` did not prove `returns`, `again`; it calls `plan::rules::one`, which is not proved
@@ -274,22 +295,23 @@ note: `returns` of proofs/record/five/Answers.antt must prove: 7 ≡ 8
 
     #[test]
     fn only_an_error_of_its_own_refuses() {
-        for name in ["one", "a_law", "Plan::zero", "three", "six", "seven"] {
-            assert!(is_refused(&of(name, None), LOG), "{name}");
+        let not_refused = |name, cycle| of(name, cycle).not_refused(LOG);
+        let refused = ["one", "a_law", "Plan::zero", "three", "six", "seven", "own"];
+        for name in refused {
+            assert_eq!(not_refused(name, None), None, "{name}");
         }
+        let problem = Some("is not refused");
         for name in [
-            "two", "b_law", "four", "five", "eight", "zer", "wo", "hree", "returns", "within",
-            "parity", "+parity", "even",
+            "two", "b_law", "four", "five", "zer", "wo", "hree", "returns", "within", "even",
+            "+parity", "arity",
         ] {
-            assert!(!is_refused(&of(name, None), LOG), "{name}");
+            assert_eq!(not_refused(name, None), problem, "{name}");
         }
-        assert!(is_refused(&of("even", Some("parity")), LOG));
-        assert!(!is_refused(&of("even", Some("arity")), LOG));
-        assert!(!is_refused(
-            &of("one", Some("parity")),
-            "./proofs/one/Proof.antt:1:1: error: x"
-        ));
-        assert!(!is_refused(&of("one", None), ""));
+        assert_eq!(not_refused("even", Some("parity")), None);
+        assert_eq!(not_refused("own", Some("arity")), problem);
+        assert_eq!(of("one", None).not_refused(""), problem);
+        let problem = "is refused only since its proof has names that the edit takes away";
+        assert_eq!(not_refused("eight", None), Some(problem));
     }
 
     #[test]
@@ -297,7 +319,7 @@ note: `returns` of proofs/record/five/Answers.antt must prove: 7 ≡ 8
         let lines: Vec<&str> = LOG.lines().collect();
         assert_eq!(said_of(&of("one", None), LOG), lines[..2]);
         assert_eq!(said_of(&of("a_law", None), LOG), lines[7..8]);
-        let goals = [lines[15], lines[18], lines[19]];
+        let goals = [lines[16], lines[19], lines[20]];
         assert_eq!(said_of(&of("three", None), LOG), goals);
         assert_eq!(said_of(&of("five", None), LOG), [""; 0]);
     }
@@ -330,7 +352,7 @@ rt: must-fail plan/wrong_3.edit: NOT REFUSED: ./proofs/rules/one/Proof.antt:9:12
 ";
         let of_edit = |file: &str| told_of(told, &format!("crates/plan/must-fail/{file}.edit"));
         let line = of_edit("wrong_1");
-        assert!(line.is_some_and(|line| is_refused(&of("one", None), line)));
+        assert!(line.is_some_and(|line| of("one", None).is_refused_in(line)));
         assert_eq!(
             [of_edit("wrong_2"), of_edit("wrong_3"), of_edit("wrong")],
             [None; 3]
