@@ -15,7 +15,7 @@ use Rattle.plan.proofs.RulesLaws.{operand_bounds}
 use Rattle.plan_fields.specs.Parsing.{Parsed, got, refused, refuse, Step, ◌>>=◌, pure, followed, field, word_at, standing, in_order}
 use Rattle.plan_fields.specs.Fields.{first_place, second_place, map_bit, count_field, map_field, operand_field, gate_fields, gate_step_within}
 use Rattle.plan_reading.specs.PlanFile.{not_stub, whole_file, plan_file, drawing_file}
-use Rattle.plan_drawn.proofs.WholeFileLaws.{table_on, second_on, wires_on, body_on, outputs_on, gates_on, inputs_on}
+use Rattle.plan_drawn.proofs.WholeFileLaws.{table_on, second_on, wires_on, body_on, sources_on, gates_on, inputs_on}
 
 -- what a plan's step gives, beside what a drawing's gives: the same, or an operand is refused
 pub data Beside {A : Type 0} (plain drawn : Parsed A) : Type 0 where
@@ -79,7 +79,7 @@ unfolding whole_file
 file_beside s =
     alike_then (λ _. inputs_on false) (λ _. inputs_on true) s (not_stub s 0) λ _ o.
     alike_then (gates_on false) (gates_on true) s (count_field max_inputs Fault.Inputs s o) λ u a.
-    alike_then (outputs_on false u) (outputs_on true u) s (count_field max_gates Fault.Gates s a) λ k b.
+    alike_then (sources_on false u) (sources_on true u) s (count_field max_gates Fault.Gates s a) λ k b.
     alike_then (body_on false u k) (body_on true u k) s (count_field max_outputs Fault.Outputs s b) λ v c.
     beside_then (wires_on u k v) (wires_on u k v) s (in_order_beside _ _ s c k (λ i at l. gate_beside (gate_wire u i) (gate_wire u k) (omega arith) s at)) λ gs d.
     the_same refl

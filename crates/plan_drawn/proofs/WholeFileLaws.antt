@@ -137,11 +137,11 @@ wires_on u k v gs = output_steps u k v >>= end_on u k v gs
 abbrev pub body_on : Bool → ℕ → ℕ → ℕ → Step Plan
 body_on drawn u k v = gate_steps drawn u k k >>= wires_on u k v
 
-abbrev pub outputs_on : Bool → ℕ → ℕ → Step Plan
-outputs_on drawn u k = count_field max_outputs Fault.Outputs >>= body_on drawn u k
+abbrev pub sources_on : Bool → ℕ → ℕ → Step Plan
+sources_on drawn u k = count_field max_outputs Fault.Outputs >>= body_on drawn u k
 
 abbrev pub gates_on : Bool → ℕ → Step Plan
-gates_on drawn u = count_field max_gates Fault.Gates >>= outputs_on drawn u
+gates_on drawn u = count_field max_gates Fault.Gates >>= sources_on drawn u
 
 abbrev pub inputs_on : Bool → Step Plan
 inputs_on drawn = count_field max_inputs Fault.Inputs >>= gates_on drawn
@@ -192,7 +192,7 @@ module _ (drawn : Bool) (s : List ℕ) where
   file_as =
       gives_then (λ _. inputs_on drawn) s (start_as s) λ _ o start.
       gives_then (gates_on drawn) s (field_as 2 word_at (count_allowed max_inputs) Fault.Inputs s o (lit≤ tt, lit≤ tt)) λ u a inputs.
-      gives_then (outputs_on drawn u) s (field_as 2 word_at (count_allowed max_gates) Fault.Gates s a (lit≤ tt, lit≤ tt)) λ k b gates.
+      gives_then (sources_on drawn u) s (field_as 2 word_at (count_allowed max_gates) Fault.Gates s a (lit≤ tt, lit≤ tt)) λ k b gates.
       gives_then (body_on drawn u k) s (field_as 2 word_at (count_allowed max_outputs) Fault.Outputs s b (lit≤ tt, lit≤ tt)) λ v c outputs.
       let counts = counts_in u k v inputs.0 gates.0 outputs.0 in
       gives_then (wires_on u k v) s (in_order_as (Bounded u k) (gate_item u k) zero_gate s c k

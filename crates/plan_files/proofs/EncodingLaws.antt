@@ -23,7 +23,7 @@ use Rattle.plan_fields.proofs.ParsingLaws.{gives, refuses, gives_then}
 use Rattle.plan_fields.specs.Fields.{first_place, second_place, table_place, absent_table, table_limit, table_of_byte, table_field, map_bit, gate_fields, gate_step_within}
 use Rattle.plan_fields.proofs.FieldsLaws.{byte-table-bound}
 use Rattle.plan_reading.specs.PlanFile.{output_step, header_bytes, not_stub, at_end, whole_file, plan_file, parsed_outcome, plan_read}
-use Rattle.plan_drawn.proofs.WholeFileLaws.{table_on, second_on, end_on, wires_on, body_on, outputs_on, gates_on, inputs_on}
+use Rattle.plan_drawn.proofs.WholeFileLaws.{table_on, second_on, end_on, wires_on, body_on, sources_on, gates_on, inputs_on}
 use Rattle.plan_files.specs.Encoding.{byte, word, where_standing, table_byte, TwoLines, encode_gate, joined_bytes, encode, LeavesOutDefaults, Choice, used, OfBytes, Encoded}
 use Rattle.plan_files.specs.Encoding.{ReadsExactly, gate_bytes, output_bytes, longest_file, LongestPlan}
 use Rattle.plan_files.proofs.BytesLaws.{encode-bytes}
@@ -202,7 +202,7 @@ unfolding whole_file GateOf
 file-gives s small =
     gives_then (λ _. inputs_on false) s (start_gives s) λ _ o start.
     gives_then (gates_on false) s (field-gives word_coded s (count_allowed max_inputs) Fault.Inputs o small) λ u a inputs.
-    gives_then (outputs_on false u) s (field-gives word_coded s (count_allowed max_gates) Fault.Gates a small) λ k b gates.
+    gives_then (sources_on false u) s (field-gives word_coded s (count_allowed max_gates) Fault.Gates a small) λ k b gates.
     gives_then (body_on false u k) s (field-gives word_coded s (count_allowed max_outputs) Fault.Outputs b small) λ v c outputs.
     let own : (i : ℕ) → 2 ≤ gate_wire u i = λ i. omega (arith, (count_bounds max_inputs u).0 inputs.0) in
     gives_then (wires_on u k v) s (in_order-gives (GateOf u) encode_gate zero_gate s (λ i. gate_step_within (gate_wire u i) (gate_wire u i)) k
