@@ -118,7 +118,7 @@ fn a_fourth_array_is_counted() {
     is_above(
         &found,
         2_561,
-        "program_large has perm 1024, scratch 1024, mark 512, spare 1",
+        "program_large has perm 1024, inverse 1024, mark 512, spare 1",
     );
     // In the check for 9 there is room for it: that returns before.
     let check = "crates/block_program_checks/src/permutation.rt";
@@ -322,7 +322,7 @@ fn comments_and_contracts_hold_nothing() {
 #[test]
 fn what_is_borrowed_is_not_held() {
     let found = beside(
-        "    lent(&mut perm, &scratch[..4], b\"text\");",
+        "    lent(&mut perm, &inverse[..4], b\"text\");",
         "fn lent(a: &mut [u16; MAX_PLACES], b: &[u16], c: &[u8; 4]) {}\n",
     );
     assert_eq!((bytes(&found), found.problems.len()), (2_560, 0));
@@ -446,7 +446,7 @@ pub fn program_more(n: u32, wanted: &[u16], program: &mut [u8]) -> Answer
     };
     assert!(
         problem.ends_with(
-            "program_more has spare 1; program_large has perm 1024, scratch 1024, mark 512"
+            "program_more has spare 1; program_large has perm 1024, inverse 1024, mark 512"
         ),
         "{problem}"
     );
