@@ -5,7 +5,8 @@ usage: python3 tools/respell_pages.py OLD [--show] [PAGE..]      at the top of t
 
 OLD is a commit whose specs/ and proofs/ declare the names as the pages still have them. A name between backticks that is not declared today becomes the
 one that is, with the same letters: dashes, underscores and capitals aside, but for the first letter's. Of several the one in the same file counts, and
-of those left the one with a dash where the old name has one. With no PAGE: README.md, docs/, plans/, include/ and the comments of host/. --show writes nothing.
+of those left the one with a dash where the old name has one. With no PAGE: README.md, docs/, plans/, include/ and the comments of host/. Of a must-fail edit
+that is given the comments are read, and what they say is refused. --show writes nothing.
 """
 
 import collections
@@ -80,14 +81,19 @@ def table(old, now):
     return spelled
 
 
-def turned(text, spelled, rust):
-    """The page with the names between its backticks respelled, code blocks aside; of a Rust source the comments alone."""
+# How a comment begins, where a page has more than text.
+COMMENTS = {".rs": r"\s*//", ".edit": "# "}
+
+
+def turned(text, spelled, comment):
+    """The page with the names between its backticks respelled, code blocks aside; where a comment's beginning is given, of comments alone."""
     lines, fenced = [], False
     for line in text.split("\n"):
         fenced ^= line.startswith("```")
-        if fenced or rust and not re.match(r"\s*//", line):
+        if fenced or comment and not re.match(comment, line):
             lines.append(line)
             continue
+        line = re.sub(r"\A# refused: ([^\s,:]+)", lambda it: f"# refused: {spelled(it[1])}", line)
         parts = line.split("`")
         for at in range(1, len(parts), 2):
             # (a file's path is no name)
@@ -111,7 +117,7 @@ def main(words):
     for page in sorted(words[1:] or pages()):
         with open(page, encoding="utf-8") as it:
             text = it.read()
-        new = turned(text, spelled, page.endswith(".rs"))
+        new = turned(text, spelled, COMMENTS.get(os.path.splitext(page)[1]))
         if new == text:
             continue
         print(page)

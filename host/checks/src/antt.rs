@@ -51,6 +51,19 @@ pub fn declared(source: &str) -> Vec<Declared<'_>> {
     found
 }
 
+/// The names of what a source declares, public or not, local or not.
+pub fn named(source: &str) -> impl Iterator<Item = &str> {
+    let is_mark = |word: &&str| ["pub", "abbrev", "unfoldable", "opaque"].contains(word);
+    source.lines().filter_map(move |line| {
+        let mut words = code(line).split_whitespace().skip_while(is_mark);
+        match (words.next()?, words.next()) {
+            ("record" | "data", next) => next,
+            (name, Some(":")) => Some(name),
+            _ => None,
+        }
+    })
+}
+
 /// What the first words of a line say.
 #[derive(Default)]
 struct Head<'a> {
@@ -134,6 +147,23 @@ hidden = 1
 record Hidden : Type 0 where
 ";
         assert_eq!(names(source), []);
+    }
+
+    #[test]
+    fn what_is_not_public_has_a_name() {
+        let source = "\
+-- commented : ℕ
+pub mod Rows
+use Rattle.lists.specs.Lists.{list_of}
+hidden : ℕ
+hidden n = one : ℕ
+  where
+  abbrev pub inner' : ℕ
+record Rows (n : ℕ) : Type 0 where
+  field : ℕ
+";
+        let all: Vec<&str> = super::named(source).collect();
+        assert_eq!(all, ["hidden", "inner'", "Rows", "field"]);
     }
 
     #[test]

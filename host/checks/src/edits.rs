@@ -6,16 +6,17 @@
 //! refused, and the fact. A line `file: PATH` holds for the pairs `old: TEXT`, `new: TEXT` below it,
 //! each applied after the ones above: the old text stands exactly once in the file then.
 //!
-//! This holds for the text, before any proof: every pair can be applied, no version stands beside
-//! one that could be what refuses it, and the versions that docs/DECISIONS.md names as `CRATE/LABEL`
-//! are there. What the prover says of them is read in `refusals`.
+//! This holds for the text, before any proof: every pair can be applied, the crate has the function or
+//! law that is refused, no version stands beside one that could be what refuses it, and the versions
+//! that docs/DECISIONS.md names as `CRATE/LABEL` are there. What the prover says of them is read in
+//! `refusals`.
 
 use std::collections::{HashMap, HashSet};
 use std::path::Path;
 use std::{fs, io};
 
 use crate::files::{self, File};
-use crate::Report;
+use crate::{antt, rattle, Report};
 
 const DECISIONS: &str = "docs/DECISIONS.md";
 
@@ -24,12 +25,19 @@ pub fn problems(root: &Path) -> io::Result<Report> {
     let read = |path: &str| fs::read_to_string(root.join(path)).ok();
     let mut problems = Vec::new();
     let mut labels = HashSet::new();
+    let declared = declared(root)?;
     for edit in files::directly_in(root, "must-fail", "edit")? {
         problems.extend(unapplied(&edit, &read));
         problems.extend(mixed(&edit));
         let (crate_name, _) = place(&edit.path);
+        let of_crate = declared.get(crate_name);
         for version in versions(&edit.text) {
             problems.extend(version.lacks(&edit.path));
+            if !of_crate.is_some_and(|names| names.contains(version.refused)) {
+                let Version { label, refused, .. } = version;
+                let path = &edit.path;
+                problems.push(format!("{path}: {label}: the crate has no {refused}"));
+            }
             let label = format!("{crate_name}/{}", version.label);
             if labels.contains(&label) {
                 problems.push(format!("{}: `{label}` is there twice", edit.path));
@@ -43,6 +51,33 @@ pub fn problems(root: &Path) -> io::Result<Report> {
     }
     let seen = format!("{} versions, {} named", labels.len(), named.len());
     Ok(Report { problems, seen })
+}
+
+/// The names of each crate's functions, alone and behind their type, and of what it declares in antt.
+fn declared(root: &Path) -> io::Result<HashMap<String, HashSet<String>>> {
+    let mut found: HashMap<String, HashSet<String>> = HashMap::new();
+    let mut add = |path: &str, name: &str| {
+        let (crate_name, _) = place(path);
+        let of_crate = crate_name.split('/').next().unwrap_or_default();
+        let names = found.entry(of_crate.to_string()).or_default();
+        names.insert(name.to_string());
+    };
+    for source in files::below(root, "src", "rt")? {
+        for item in rattle::items(&source.text) {
+            add(&source.path, &item.name);
+            if let Some((_, method)) = item.name.rsplit_once("::") {
+                add(&source.path, method);
+            }
+        }
+    }
+    let mut sources = files::below(root, "specs", "antt")?;
+    sources.extend(files::directly_in(root, "proofs", "antt")?);
+    for source in sources {
+        for name in antt::named(&source.text) {
+            add(&source.path, name);
+        }
+    }
+    Ok(found)
 }
 
 /// What keeps the versions of one file from being refused each for itself: two of one function, or
