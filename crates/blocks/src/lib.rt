@@ -3,7 +3,7 @@
 // refuses by document 01's numbers in its order, and on a refusal changes no buffer.
 #![tactic(auto)]
 
-pub use block_bits::{BYTE_BITS, bytes_for, fill_bytes, read_bit, smaller, store_field};
+pub use block_bits::{BYTE_BITS, bytes_for, fill_bytes, read_bit, smaller, store_bit, store_field};
 pub use block_counts::{count_permutation, count_selection};
 pub use block_permutation_bits::{program_permutation, program_permutation_at};
 pub use block_permutation_rows::write_permutation;

@@ -8,7 +8,7 @@ pub mod RowLaws
 pub mod RunLaws
 -- where no check fails: what the calls need, and what the outputs are
 pub mod RunCallsLaws
--- the series of a well_formed_lem table, an interval more on the work buffer
+-- the series of a well-formed table, an interval more on the work buffer
 pub mod RunSeriesLaws
 -- its theorems
 pub mod RunTheoremsLaws

@@ -1,4 +1,4 @@
--- The series of a well_formed_lem table is one of contacts, and each of its rows can be run; an interval more on the work buffer.
+-- The series of a well-formed table is one of contacts, and each of its rows can be run; an interval more on the work buffer.
 use mathlib.Core.Path.{◌≡◌, ap, subst, ◌∙◌}
 use mathlib.Core.List.{List}
 use Prim.Native.Nat.{ℕ, zero, suc, ◌+◌, ◌-◌, ◌≤◌, ◌<◌}

@@ -32,7 +32,7 @@ pub record RowRoom (new : ℕ) (table : List ℕ) (at bit made : ℕ) (work : Li
   pub room : made + new ≤ length work
   pub bits : bit ≤ max_bits
 
--- a well_formed_lem table, a row of its inputs, a work buffer for its wires
+-- a well-formed table, a row of its inputs, a work buffer for its wires
 pub record Runnable (table row : List ℕ) (work : ℕ) : Type 0 where
   pub well_formed : WellFormed table
   pub contacts : length row ≡ inputs_in table

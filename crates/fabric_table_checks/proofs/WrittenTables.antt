@@ -135,7 +135,7 @@ flat-below h made_none l = record { each = λ i m. absurd (omega arith) }
 flat-below {limit} h (made_more {row = row} b m) l =
     below-append (entries_below h row (below_more limit b (omega arith))) (flat-below h m (omega arith))
 
--- rows of the family whose wires are made before them, and outputs that are made, give a well_formed_lem table
+-- rows of the family whose wires are made before them, and outputs that are made, give a well-formed table
 module _ (u v : ℕ) (rows : List Row) (outs : List ℕ) (family : Every InFamily rows) where
   pub wires_in_of : wires_in (table_of u v rows outs) ≡ suc u + total makes rows
   unfolding wires_before
