@@ -295,7 +295,6 @@ def reached(text, entry, order, places_of):
 
     # what each helper takes, and what it gives where that is a place
     takes, gives = {}, {}
-    blocks, module = [], None
     for block in re.split(r"\n(?=[^\s)])", text):
         m = re.match(rf"module _ \(({WORD}) : tie\.({WORD})[^)]*\)", block)
         if m:
@@ -374,7 +373,7 @@ def reached(text, entry, order, places_of):
             continue
         out.append(block)
     # a signature and its clause stand in blocks that follow one another
-    done, i = [], 0
+    i = 0
     while i < len(out):
         block = out[i]
         m = re.match(rf"(?:abbrev )?({WORD}) :", block)
