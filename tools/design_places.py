@@ -37,7 +37,7 @@ LINES = [
     ("1", "numbers for kinds", r"\bKIND_[XYG]: u16|\bkind: u16"),
     ("1", "a value that stands for none", r"const UNMARKED\b|// .*`count` where there is none"),
     ("2", "functions for a small size and a large one", r"\bfn \w+_(?:small|large)\("),
-    ("2", "minimum, maximum, copying, widening of one's own", r"\bfn (?:smaller|larger|within|entries_within|wide|wide_byte|wire_of|entry_number|word_of|copy_wires|copy_front|copy_part|fill_bytes)\("),
+    ("2", "minimum, maximum, copying, widening of one's own", r"\bfn (?:smaller|larger|within|entries_within|wide|wide_byte|wire_of|entry_number|word_of|copy_wires|copy_front|copy_part|copy_entries|fill_bytes)\("),
     ("3", "loops by while and loop", r"(?m)^\s*(?:while|loop)\b"),
     ("4", "functions that only convert", r"\bfn (?:number|wide|wide_byte|wire_of|word_of|entry_number|differ)\("),
     ("6", "parallel lists", r"\b(?:firsts: &(?:mut )?\[u16\],\s*seconds|operands: &(?:mut )?\[u16\],\s*tables)"),

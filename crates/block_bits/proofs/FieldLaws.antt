@@ -109,27 +109,24 @@ field-parts k n x =
     rw above (sym (ap (λ q. q * 2 ^ k + x % 2 ^ k) (split (x / 2 ^ k) n) ∙ split x k))
 
 -- a field of two bytes by shift and mask, as code makes it
-module _ (k n : ℕ) (room : n + k ≤ 16) where
-  one_shifted : 1 * 2 ^ n % 2 ^ 32 ≡ 2 ^ n
-  one_shifted = shl_exact {a = 1} 1 n 32 (omega arith) (omega arith) ∙ one-mul (2 ^ n)
+module _ (k n : ℕ) (room : n + k < 16) where
+  one_shifted : 1 * 2 ^ n % 2 ^ 16 ≡ 2 ^ n
+  one_shifted = shl_exact {a = 1} 1 n 16 (omega arith) (omega arith) ∙ one-mul (2 ^ n)
 
-  pub ones_positive : 1 ≤ 1 * 2 ^ n % 2 ^ 32
-  ones_positive = rw one_shifted (pow_pos n)
-
-  masked-shifted : (y : ℕ) → bit_and y (1 * 2 ^ n % 2 ^ 32 - 1) * 2 ^ k % 2 ^ 32 ≡ y % 2 ^ n * 2 ^ k
-  masked-shifted y = rw (one_shifted, and_mask y n) (shl_exact n k 32 (mod-lt y (pow_pos n)) (omega arith))
+  masked-shifted : (y : ℕ) → bit_and y (1 * 2 ^ n % 2 ^ 16 - 1) * 2 ^ k % 2 ^ 16 ≡ y % 2 ^ n * 2 ^ k
+  masked-shifted y = rw (one_shifted, and_mask y n) (shl_exact n k 16 (mod-lt y (pow_pos n)) (omega arith))
 
   module _ (x old : ℕ) where
-    pub field_out : bit_and (old / 2 ^ k) (1 * 2 ^ n % 2 ^ 32 - 1) * 2 ^ k % 2 ^ 32 ≤ old
+    pub field_out : bit_and (old / 2 ^ k) (1 * 2 ^ n % 2 ^ 16 - 1) * 2 ^ k % 2 ^ 16 ≤ old
     field_out = rw (masked-shifted (old / 2 ^ k)) (omega (arith, field-parts k n old))
 
-    pub field_in : old - bit_and (old / 2 ^ k) (1 * 2 ^ n % 2 ^ 32 - 1) * 2 ^ k % 2 ^ 32 + bit_and x (1 * 2 ^ n % 2 ^ 32 - 1) * 2 ^ k % 2 ^ 32
+    pub field_in : old - bit_and (old / 2 ^ k) (1 * 2 ^ n % 2 ^ 16 - 1) * 2 ^ k % 2 ^ 16 + bit_and x (1 * 2 ^ n % 2 ^ 16 - 1) * 2 ^ k % 2 ^ 16
         ≡ with_field k n (x % 2 ^ n) old
     field_in = rw (masked-shifted (old / 2 ^ k), masked-shifted x) (omega (arith, field-parts k n old))
 
     pub field-small : old < 2 ^ 16
-        → old - bit_and (old / 2 ^ k) (1 * 2 ^ n % 2 ^ 32 - 1) * 2 ^ k % 2 ^ 32 + bit_and x (1 * 2 ^ n % 2 ^ 32 - 1) * 2 ^ k % 2 ^ 32 < 2 ^ 16
-    field-small h = rw field_in (field_lt 16 k n (x % 2 ^ n) old room (mod-lt x (pow_pos n)) h)
+        → old - bit_and (old / 2 ^ k) (1 * 2 ^ n % 2 ^ 16 - 1) * 2 ^ k % 2 ^ 16 + bit_and x (1 * 2 ^ n % 2 ^ 16 - 1) * 2 ^ k % 2 ^ 16 < 2 ^ 16
+    field-small h = rw field_in (field_lt 16 k n (x % 2 ^ n) old (omega arith) (mod-lt x (pow_pos n)) h)
 
 -- ---- one bit of two bytes
 
@@ -229,20 +226,19 @@ store_byte s i {f} bytes h l =
     ap (λ p. store_bits s p (list_of 8 f)) (sym (add-zero (bits_held i))) ∙ store_word s i 0 8 bytes h l (omega arith)
     ∙ rw (e₀, e₁) (set_comm s i (i + 1) v (get_or s (i + 1) 0) (λ z. absurd (omega arith)) ∙ ap (λ t. set t i v) (set-get_or s (i + 1) 0))
 
--- the lowest bits of x from bit p on, as two bytes made those of `new`
-module _ (s : List ℕ) (p count x : ℕ) {byte place n new : ℕ} (bytes : AreBytes s) (eb : byte ≡ bit_byte p) (ep : place ≡ bit_place p)
-    (en : n ≡ min count (bits_held 1)) (l : byte < length s) where
-  pub field_stored : new ≡ with_field place n (x % 2 ^ n) (two_bytes s byte) → put_two_bytes s byte new ≡ store_bits s p (field_bits count x)
+-- the lowest bits of x from bit p on, as two bytes, which were those of `old`, made those of `new`
+module _ (s : List ℕ) (p count x : ℕ) {byte place n old new : ℕ} (bytes : AreBytes s) (eb : byte ≡ bit_byte p) (ep : place ≡ bit_place p)
+    (en : n ≡ min count (bits_held 1)) (l : byte < length s) (e : new ≡ with_field place n (x % 2 ^ n) old) where
+  pub field_stored : old ≡ two_bytes s byte → put_two_bytes s byte new ≡ store_bits s p (field_bits count x)
   unfolding field_bits
-  field_stored e =
+  field_stored was =
       let at : bits_held byte + place ≡ p = omega arith in
       let stored = store_word s byte place n bytes (λ i. mod-lt (x / 2 ^ i) (omega arith)) l (omega arith) in
-      ap (put_two_bytes s byte) (e ∙ ap (λ v. with_field place n v (two_bytes s byte)) (sym (number-bits n x))) ∙ sym stored
+      ap (put_two_bytes s byte) (e ∙ ap₂ (with_field place n) (sym (number-bits n x)) was) ∙ sym stored
       ∙ ap₂ (λ q m. store_bits s q (list_of m (λ i. bit_of i x))) at en
 
   -- where the upper byte lies past the end
-  pub field-last : length s ≤ byte + 1 → new ≡ with_field place n (x % 2 ^ n) (get_or s byte 0 + 256 * 0) → set s byte (new % 256) ≡ store_bits s p (field_bits count x)
-  field-last past e =
+  pub field-last : old ≡ get_or s byte 0 → length s ≤ byte + 1 → set s byte (new % 256) ≡ store_bits s p (field_bits count x)
+  field-last was past =
       let none : get_or s (byte + 1) 0 ≡ 0 = get_or-eq_default s 0 past in
-      sym (set_out (set s byte (new % 256)) (byte + 1) (new / 256) (rw (length-set s byte (new % 256)) past))
-      ∙ field_stored (e ∙ ap (λ y. with_field place n (x % 2 ^ n) (get_or s byte 0 + 256 * y)) (sym none))
+      sym (set_out (set s byte (new % 256)) (byte + 1) (new / 256) (rw (length-set s byte (new % 256)) past)) ∙ field_stored (omega arith)

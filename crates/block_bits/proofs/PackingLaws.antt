@@ -7,11 +7,13 @@ use native.Mathlib.Nat.{pow-suc, mul_assoc, suc-add, add-zero, zero-add, add_com
 use native.Mathlib.Omega.{arith}
 use borrow.Rule.Slice.PartMut.{mid_of, put_mid}
 use lib.ListN.{length, get_or, set, drop, length-drop}
+use lib.Dec.{eqb}
 use lib.Seq.{take_all, get_or-drop}
-use lib.Pow.{pow_mono, high}
+use lib.Pow.{high}
 use lib.Arith.{digits_div, digits_mod}
 use lib.Bits.{bit_and, and_block, and_mask}
 use Rattle.lists.specs.Lists.{list_of}
+use Rattle.lists.specs.Counting.{one_if}
 use Rattle.lists.proofs.ListsLaws.{list_of_ext, list_of-get_or}
 use Rattle.block_elements.specs.Bits.{store_bits, AreBits, bits_held}
 use Rattle.block_elements.proofs.BitsLaws.{AreBytes, bits-list_of, length-store_bits, store_bits-bytes}
@@ -26,6 +28,12 @@ low_bits-same bs h = list_of_ext (length bs) (low_bit bs) (λ i. get_or bs i 0) 
 
 pub low_lt : (l : List ℕ) (i : ℕ) → low_bit l i < 2
 low_lt l i = mod-lt (get_or l i 0) (omega arith)
+
+-- a bit is 1 where it is tested for it
+pub one_if-bit : (b : ℕ) → b < 2 → one_if (eqb b 1) ≡ b
+one_if-bit zero h = refl
+one_if-bit (suc zero) h = refl
+one_if-bit (suc (suc b)) h = absurd (omega arith)
 
 -- ---- their number
 
@@ -71,9 +79,6 @@ module _ (f : ℕ → ℕ) (i n : ℕ) {x : ℕ} (some : 0 < i) (l : i ≤ n) (e
       let same : (j : ℕ) → f (i + j) ≡ f (i - 1 + suc j) = λ j. ap f (omega arith) in
       rw (size, e, number_ext (n - i) same) (add_comm _ _ ∙ ap (λ k. f k + 2 * number_of (λ j. f (i - 1 + suc j)) (n - i)) (sym (add-zero (i - 1))))
 
-  pub number-room : ((j : ℕ) → f j < 2) → n ≤ 8 → x < 128
-  number-room h room = omega (arith, number_lt (n - i) (λ j. h (i + j)), pow_mono {i = n - i} {j = 7} (omega arith))
-
 pub few_packed : (l : List ℕ) (x : ℕ) → length l ≤ bits_held 1 → x ≡ number_of (low_bit l) (length l) → field_bits (length l) x ≡ low_bits l
 unfolding low_bits
 few_packed l x room e = rw e (field_bits-number (length l) (length l) (low_lt l) (omega arith) room)
@@ -106,18 +111,17 @@ module _ (a b c d : ℕ) (ha : a < 256) (hb : b < 256) (hc : c < 256) where
       ∙ ap (λ y. y * 256 + a % 2) (mask_step (d * 256 + c) 257 b hb
       ∙ ap (λ y. y * 256 + b % 2) (mask_step d 1 c hc ∙ ap (λ y. y * 256 + c % 2) (and_mask d 1)))
 
-  pub four-fit : bit_and (((d * 256 + c) * 256 + b) * 256 + a) 16843009 * 2113665 ≤ 2 ^ 48
-  four-fit = rw four-masked (omega arith)
-
   pub four-joined : bit_and (((d * 256 + c) * 256 + b) * 256 + a) 16843009 * 2113665 / 2097152 % 16 ≡ a % 2 + 2 * (b % 2 + 2 * (c % 2 + 2 * (d % 2)))
   four-joined = rw four-masked (four-placed (a % 2) (b % 2) (c % 2) (d % 2) (omega arith) (omega arith) (omega arith) (omega arith))
 
 -- ---- eight at a time
 
--- at most eight more, stored as their number
-pub field_step : (s₀ : List ℕ) {s : List ℕ} (p i n : ℕ) {x : ℕ} (f : ℕ → ℕ) → ((j : ℕ) → f j < 2) → n ≤ bits_held 1
-    → s ≡ store_bits s₀ p (list_of i f) → x ≡ number_of (λ k. f (i + k)) n → store_bits s (p + i) (field_bits n x) ≡ store_bits s₀ p (list_of (i + n) f)
-field_step s₀ p i n f h room held e = rw (held, e, field_bits-number n n (λ k. h (i + k)) (omega arith) room) (store_next s₀ p i n f)
+-- at most eight more, stored as their number, where i bits are those up to the count, and with n more they are k
+pub field_next : (s₀ : List ℕ) {s s₁ : List ℕ} (p i n k : ℕ) {m x : ℕ} (f : ℕ → ℕ) → ((j : ℕ) → f j < 2) → n ≤ bits_held 1
+    → s ≡ store_bits s₀ p (list_of m f) → m ≡ i → x ≡ number_of (λ j. f (i + j)) n → s₁ ≡ store_bits s (p + i) (field_bits n x) → i + n ≡ k
+    → s₁ ≡ store_bits s₀ p (list_of k f)
+field_next s₀ p i n k f h room held at made e size =
+    rw (← size) (e ∙ rw (held, at, made, field_bits-number n n (λ j. h (i + j)) (omega arith) room) (store_next s₀ p i n f))
 
 -- eight more, which are the next byte
 pub byte_step : (s₀ : List ℕ) {s : List ℕ} (l : List ℕ) (i : ℕ) {v : ℕ} → AreBytes s₀ → i < length s₀

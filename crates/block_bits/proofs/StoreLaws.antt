@@ -3,7 +3,7 @@ use mathlib.Core.Path.{◌≡◌, refl, sym, ap, ◌∙◌}
 use mathlib.Core.Logic.{◌≢◌}
 use mathlib.Core.List.{List, [], ◌∷◌, ◌++◌, append-nil}
 use Prim.Native.Nat.{ℕ, suc, ◌+◌, ◌-◌, ◌%◌, ◌≤◌, ◌<◌, min}
-use native.Mathlib.Nat.{add-zero, zero-add, add-suc, suc-add, mod-eq_of_lt, min-eq_left}
+use native.Mathlib.Nat.{add-zero, zero-add, add-suc, suc-add, min-eq_left, mod-eq_of_lt}
 use native.Mathlib.Decide.{ℕ_discrete}
 use native.Mathlib.Omega.{arith}
 use borrow.Rule.Slice.PartMut.{mid_of, post_of, put_mid}
@@ -160,6 +160,9 @@ pub store_from_byte : (s : List ℕ) (p : ℕ) (bs : List ℕ) {byte place : ℕ
 store_from_byte s p bs eb ep l e =
     let split : bits_held (bit_byte p) + bit_place p ≡ p = omega arith in
     rw (e, eb, ep) (store_part s (bit_byte p) (bit_place p) bs l ∙ ap (λ k. store_bits s k bs) split)
+
+-- stores in the part from the first bit's byte on, and past the end
+pub ruleset placed = (store_from_byte, store_bits-past)
 
 -- bits stored from bit 0 on in zeroed bytes are the packed bits, followed by what stood past them
 pub store_zeroed : (bs old : List ℕ) (n : ℕ) → bytes_for (length bs) ≡ n → store_bits (replicate n 0 ++ drop n old) 0 bs ≡ over (pack bs) old

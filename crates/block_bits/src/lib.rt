@@ -7,9 +7,11 @@ ghost use Rattle.fault.specs.Buffers.{over};
 ghost use Rattle.block_elements.specs.Bits.{bit_byte, bit_place, bytes_for, bits_held, with_bit, bit_at, set_bit};
 
 mod fields;
+mod given;
 mod packing;
 
 pub use fields::store_field;
+pub use given::store_bits_by;
 pub use packing::store_bits;
 
 // The bits of a byte.
@@ -33,22 +35,20 @@ pub fn bit_place(p: usize) -> usize
 pub fn bytes_for(bits: usize) -> usize
     ensures { result ≡ bytes_for bits }
 {
-    bits / BYTE_BITS + (bits % BYTE_BITS + BYTE_BITS - 1) / BYTE_BITS
+    bits.div_ceil(BYTE_BITS)
 }
 
 // Bit p of the program, 0 past its end.
+#[tactic(auto, using(block_elements::proofs::BitsLaws::bit_of_mask), unfolding(block_elements::specs::Bits::bit_at))]
 pub fn read_bit(program: &[u8], p: usize) -> u8
     ensures { result ≡ bit_at program.now p }
 {
-    let byte = bit_byte(p);
-    let place = bit_place(p) as u32;
-    if program.len() <= byte {
-        return 0;
-    }
-    (program[byte] >> place) & 1
+    let byte = program.get(bit_byte(p)).copied().unwrap_or(0);
+    (byte >> bit_place(p) as u32) & 1
 }
 
 // Makes bit p of the program the lowest bit of b; past the end nothing changes.
+#[tactic(auto, unfolding(block_elements::specs::Bits::set_bit))]
 pub fn store_bit(program: &mut [u8], p: usize, b: u8)
     ensures { program.new ≡ set_bit program.old p (b % 2) }
 {
@@ -67,23 +67,10 @@ fn with_bit(x: u8, place: u32, b: u8) -> u8
 }
 
 // Makes each of the first `count` bytes b, or all of them where there are fewer.
+// Kept: `fill` asks for a part that is there, and this promises what it does for every count.
 pub fn fill_bytes(bytes: &mut [u8], count: usize, b: u8)
     ensures { bytes.new ≡ over (replicate (min count (length bytes.old)) b) bytes.old }
 {
-    let end = smaller(count, bytes.len());
-    let mut i: usize = 0;
-    while i < end {
-        bytes[i] = b;
-        i += 1;
-    }
-}
-
-// The smaller of two numbers.
-pub fn smaller(a: usize, b: usize) -> usize
-    ensures { result ≡ min a b }
-{
-    if a < b {
-        return a;
-    }
-    b
+    let end = count.min(bytes.len());
+    bytes[..end].fill(b);
 }

@@ -3,10 +3,10 @@
 use mathlib.Core.Path.{◌≡◌, refl, sym, ap, ◌∙◌}
 use mathlib.Core.Logic.{◌≢◌, ◌⊎◌, inl, inr}
 use mathlib.Core.List.{List}
-use Prim.Native.Nat.{ℕ, zero, suc, ◌+◌, ◌-◌, ◌*◌, ◌/◌, ◌%◌, ◌≤◌, ◌<◌, zero-le, suc-le-suc}
+use Prim.Native.Nat.{ℕ, zero, suc, ◌+◌, ◌-◌, ◌*◌, ◌/◌, ◌%◌, ◌≤◌, ◌<◌, suc-le-suc}
 use native.Mathlib.Nat.{not-suc-le-zero, le_refl, le-suc_iff}
 use native.Mathlib.Numerals.{add-one}
-use native.Mathlib.Decide.{ℕ_discrete, dec_lt, dec_le}
+use native.Mathlib.Decide.{ℕ_discrete, dec_lt}
 use native.Mathlib.Omega.{arith}
 use borrow.Author.Tests.{lt-ltb, le-ltb}
 use lib.ListN.{length, get_or, set, length-set}
@@ -15,7 +15,7 @@ use Rattle.lists.proofs.ListsLaws.{get_d_any}
 use Rattle.block_networks.specs.Permutation.{Perm, partner, iterate, walk, key, lowest, side}
 use Rattle.block_networks.proofs.Orbits.{Reach, reach_one, reach_trans, once-round, Attained}
 use Rattle.block_networks.proofs.Loops.{parity, partner-partner, partner-half, partner-even, partner_lt, same-pair, key-at, key_inj, key-partner, key-last, key-other, KeyAt, in_last, elsewhere, flipped, perm_lt}
-use Rattle.block_networks.proofs.Loops.{walk_lt, walk-closes, walk_sym, walk-mirror, lowest-at, lowest-low, lowest-same, lowest-partner, side_along, side-partner}
+use Rattle.block_networks.proofs.Loops.{walk_lt, walk_sym, walk-mirror, lowest-at, lowest-low, lowest-same, lowest-partner, side_along, side-partner}
 use Rattle.block_networks.proofs.Halves.{side_lt, output-sides}
 use Rattle.block_loops.proofs.FillingLaws.{Filled, filled-all}
 use Rattle.block_loops.specs.Mappings.{map_of, Paired, walk_in, side_in, pair_side, input_side, row_sides}
@@ -218,16 +218,6 @@ module _ {p q : List ℕ} (G : Paired p q) (i : ℕ) (L : Leads p q i) (m₀ : L
   pub walked_below : {m : List ℕ} {o j : ℕ} → Walked p q i m₀ m o j → o < length p
   walked_below {m} {o} {j} W = rw (W.here, ← G.even) (walk_lt h G.perm j (2 * i) (omega (arith, L.below)))
 
-  -- it is back within as many steps as there are outputs
-  pub walked_short : {m : List ℕ} {o j : ℕ} → Walked p q i m₀ m o j → j ≤ length p
-  walked_short {m} {o} {j} W = go (dec_le j (length p))
-    where
-      go : Dec (j ≤ length p) → j ≤ length p
-      go (yes l) = l
-      go (no f) =
-          let c = walk-closes h G.perm (2 * i) in
-          absurd (W.away (suc c.rest) (suc-le-suc zero-le) (omega (arith, c.bound, G.even)) c.back)
-
   module _ {m : List ℕ} {o j : ℕ} (W : Walked p q i m₀ m o j) where
     -- the input that o takes
     abbrev v : ℕ
@@ -360,7 +350,7 @@ module _ {p q : List ℕ} (G : Paired p q) where
     i-key : key (length p / 2) (2 * i) ≡ 2 * k
     i-key = ap (λ x. key (length p / 2) (2 * x)) ei ∙ visit_key (length p / 2) k kh
 
-    pub visit_below : i < length p / 2
+    visit_below : i < length p / 2
     visit_below = rw ei (visit_lt (length p / 2) k kh)
 
     i-loop : loop_in p q i ≡ loop_of (length p / 2) (map_of p) (map_of q) (2 * i)

@@ -1,5 +1,5 @@
 -- What the programming's inner calls need of their buffers.
-use Rattle.std.specs.Prelude.{ℕ, ◌+◌, ◌*◌, ◌/◌, ◌^◌, ◌≤◌, ◌<◌, ◌≡◌}
+use Rattle.std.specs.Prelude.{ℕ, ◌*◌, ◌/◌, ◌^◌, ◌≤◌, ◌≡◌}
 use Rattle.block_sizes.specs.Sizes.{max_size, max_level}
 
 -- a level of N places, with scratch of as many entries and as many marks
@@ -14,13 +14,5 @@ pub record LevelBuffers (N scratch marks : ℕ) : Type 0 where
 pub record BlockBuffers (level N scratch marks : ℕ) : Type 0 where
   pub size : N ≡ 2 ^ level
   pub few : level ≤ max_level
-  pub scratch_size : scratch ≡ N
-  pub marks_size : marks ≡ N
-
--- a half of 2 ^ level places from place `at` on
-pub record HalfBuffers (level at N scratch marks : ℕ) : Type 0 where
-  pub size : N ≡ 2 * 2 ^ level
-  pub few : level < max_level
-  pub within : at + N / 2 ≤ N
   pub scratch_size : scratch ≡ N
   pub marks_size : marks ≡ N

@@ -17,8 +17,11 @@ use Rattle.block_elements.specs.Bits.{bit_of}
 use Rattle.block_bits.specs.Stores.{field_bits}
 use Rattle.block_networks.specs.Permutation.{permutation_count, partner, iterate, walk, key, least, lowest, side, pick, in_half, permutation_bits}
 use Rattle.block_networks.specs.Wanted.{taker_of}
+use Rattle.powers.proofs.PowersLaws.{ceil_log-power}
+use Rattle.block_sizes.specs.Sizes.{level_of}
 use Rattle.block_loops.specs.Mappings.{map_of, inverse_of, IsPerm, list_bits}
 use Rattle.block_loops.proofs.MappingsLaws.{entry_lt, length-list_bits}
+use Rattle.block_permutation_bits.specs.ProgramCalls.{mapping_bits}
 use Rattle.block_permutation_bits.specs.Four.{sides_word, four_word}
 
 -- its word
@@ -71,8 +74,11 @@ module _ {p : List ℕ} (ok : IsPerm p) (size : length p ≡ 4) where
       let there : count_of (returns p) 4 ≡ 4 = each-passes (returns p) 4 (λ o l. eq-eqb _ o (ok.perm.to o)) in
       eqb-true _ 5 (rw (eq-eqb _ 4 there) at is_right)
 
-  pub word-bits : field_bits 5 (word_of p) ≡ list_bits 2 p
+  listed-bits : field_bits 5 (word_of p) ≡ list_bits 2 p
   unfolding holds field_bits permutation_count
-  word-bits =
+  listed-bits =
       list_of_ext 5 (λ i. bit_of i (word_of p)) (λ i. get_or (list_bits 2 p) i 0) (λ i l. eqb-true _ _ (all_pass (holds p) 5 tested i l))
       ∙ ap (λ n. list_of n (λ i. get_or (list_bits 2 p) i 0)) (sym (length-list_bits 2 p)) ∙ list_of-get_or (list_bits 2 p) 0
+
+  pub word_bits : field_bits 5 (word_of p) ≡ mapping_bits p
+  word_bits = listed-bits ∙ ap (λ n. list_bits n p) (sym (ap level_of size ∙ ceil_log-power 2))

@@ -3,3 +3,7 @@
 pub mod ProgramLaws
 -- the table of P(4)'s words
 pub mod FourLaws
+-- the walk round a loop ends
+pub mod WalkLaws
+-- the mappings and the bits of a block's halves
+pub mod HalvesLaws

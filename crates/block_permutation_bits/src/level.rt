@@ -1,60 +1,52 @@
 // One level of P's programming: the bits of its own rows go into the program, and the scratch is left with the mappings of the two halves.
+// Kept: `program` and `start` are two parameters: each part has its own start, and the program is wanted again behind it.
 ghost use Rattle.std.specs.Prelude.{◌≡◌, ◌≢◌, ◌++◌, ◌+◌, ◌*◌, ◌/◌, ◌^◌, ◌<◌, ◌≤◌, length};
 ghost use Rattle.block_elements.specs.Bits.{AreBits};
-ghost use Rattle.block_loops.specs.Mappings.{IsPerm, inverse_list, row_sides, rows_stored, half_list, Levelled};
+ghost use Rattle.block_loops.specs.Mappings.{inverse_list, rows_stored, half_list, Levelled};
 ghost use Rattle.block_loops.specs.Marking.{Unmarked};
 ghost use Rattle.block_loops.specs.Levels.{LevelBuffers};
 
-use crate::marking::{UNMARKED, mark_sides};
+use crate::mapping::Mapping;
+use crate::marking::{Loops, UNMARKED};
 use block_bits::store_bits;
-use block_rows::wide;
 
-// One level for the mapping `perm`, from bit `start` on, where each half has `part` rows. `scratch` and `mark` are room to work in.
+// One level for a mapping, from bit `start` on, where each half has `part` rows. `scratch` and `mark` are room to work in.
 pub(crate) fn program_level(
-    perm: &[u16],
+    mapping: &Mapping,
     scratch: &mut [u16],
     mark: &mut [u8],
     program: &mut [u8],
     start: usize,
     part: usize,
 )
-    requires perm { IsPerm perm.now }
-    requires level_buffers { LevelBuffers (length perm.now) (length scratch.old) (length mark.old) }
-    requires perm_bound { start + length perm.now / 2 + part + part + length perm.now / 2 < 2 ^ 64 }
-    ensures { Levelled perm.now scratch.new start part program.old program.new }
+    requires level_buffers { LevelBuffers (length mapping.now.inputs.now) (length scratch.old) (length mark.old) }
+    requires last_bound { start + length mapping.now.inputs.now / 2 + part + part + length mapping.now.inputs.now / 2 < 2 ^ 64 }
+    ensures { Levelled mapping.now.inputs.now scratch.new start part program.old program.new }
 {
-    let pairs = mark.len() / 2;
-    find_sides(perm, scratch, mark);
+    invert(mapping, scratch, mark);
+    let loops = Loops {
+        inputs: mapping.inputs,
+        outputs: scratch,
+    };
+    loops.mark_sides(mark);
     store_rows(mark, program, start, part);
-    half_maps(perm, &mark[..pairs], scratch);
-}
-
-// The sides of the output pairs, and behind them those of the input pairs, by the inverse of the mapping.
-fn find_sides(perm: &[u16], inverse: &mut [u16], mark: &mut [u8])
-    requires perm { IsPerm perm.now }
-    requires level_buffers { LevelBuffers (length perm.now) (length inverse.old) (length mark.old) }
-    ensures { mark.new ≡ row_sides perm.now (inverse_list perm.now) }
-{
-    invert(perm, inverse, mark);
-    mark_sides(perm, inverse, mark);
+    let pairs = mapping.inputs.len() / 2;
+    half_maps(mapping.inputs, &mark[..pairs], scratch);
 }
 
 // The inverse of the mapping, pair by pair, and each output pair unmarked.
-fn invert(perm: &[u16], inverse: &mut [u16], mark: &mut [u8])
-    requires perm { IsPerm perm.now }
-    requires level_buffers { LevelBuffers (length perm.now) (length inverse.old) (length mark.old) }
-    ensures inverted { inverse.new ≡ inverse_list perm.now }
-    ensures cleared { Unmarked (length perm.now / 2) mark.new }
+fn invert(mapping: &Mapping, inverse: &mut [u16], mark: &mut [u8])
+    requires { LevelBuffers (length mapping.now.inputs.now) (length inverse.old) (length mark.old) }
+    ensures inverted { inverse.new ≡ inverse_list mapping.now.inputs.now }
+    ensures cleared { Unmarked (length mapping.now.inputs.now / 2) mark.new }
 {
-    let pairs = perm.len() / 2;
-    let mut i: usize = 0;
-    while i < pairs {
-        let first = wide(perm[2 * i]);
-        let second = wide(perm[2 * i + 1]);
+    let inputs = mapping.inputs;
+    for i in 0..inputs.len() / 2 {
+        let first = usize::from(inputs[2 * i]);
+        let second = usize::from(inputs[2 * i + 1]);
         inverse[first] = (2 * i) as u16;
         inverse[second] = (2 * i + 1) as u16;
         mark[i] = UNMARKED;
-        i += 1;
     }
 }
 
@@ -72,20 +64,17 @@ fn store_rows(mark: &[u8], program: &mut [u8], start: usize, part: usize)
 
 // The mappings that are left to the upper and the lower half, one behind the other: of each output pair the input pairs of the output that
 // comes through the upper half, and of the other.
-fn half_maps(perm: &[u16], mark: &[u8], maps: &mut [u16])
-    requires are_bits { AreBits mark.now }
-    requires level_buffers { LevelBuffers (length perm.now) (length maps.old) (2 * length mark.now) }
-    ensures { maps.new ≡ half_list 0 perm.now mark.now ++ half_list 1 perm.now mark.now }
+fn half_maps(inputs: &[u16], sides: &[u8], maps: &mut [u16])
+    requires are_bits { AreBits sides.now }
+    requires pairs { (length inputs.now ≡ 2 * length sides.now) × (length maps.old ≡ 2 * length sides.now) }
+    ensures { maps.new ≡ half_list 0 inputs.now sides.now ++ half_list 1 inputs.now sides.now }
 {
-    let pairs = mark.len();
-    let mut i: usize = 0;
-    while i < pairs {
-        let first = perm[2 * i] / 2;
-        let second = perm[2 * i + 1] / 2;
-        let side = mark[i];
-        maps[i] = of_side(side, first, second);
-        maps[pairs + i] = of_side(side, second, first);
-        i += 1;
+    let (upper, lower) = maps.split_at_mut(sides.len());
+    for (i, &side) in sides.iter().enumerate() {
+        let first = inputs[2 * i] / 2;
+        let second = inputs[2 * i + 1] / 2;
+        upper[i] = of_side(side, first, second);
+        lower[i] = of_side(side, second, first);
     }
 }
 

@@ -5,6 +5,7 @@
 mod block;
 mod four;
 mod level;
+mod mapping;
 mod marking;
 mod programming;
 

@@ -4,80 +4,73 @@ ghost use Rattle.std.specs.Prelude.{◌≡◌, ◌/◌, ◌<◌, ◌≤◌, leng
 ghost use Rattle.block_networks.specs.Permutation.{partner};
 ghost use Rattle.block_sizes.specs.Sizes.{max_size};
 ghost use Rattle.block_loops.specs.Mappings.{Paired, row_sides};
-ghost use Rattle.block_loops.specs.Marking.{unmarked, Unmarked, Leads, Traced, Visited};
-
-use block_rows::wide;
+ghost use Rattle.block_loops.specs.Marking.{Unmarked, Leads, Traced};
 
 // The mark of a pair that no walk has reached yet; 0 is the upper half, 1 the lower.
+// Kept: marks are bytes and no enum, since `store_bits` packs them as they stand; of an enum they would be copied into bytes first.
 pub(crate) const UNMARKED: u8 = 2;
 
-// Marks each output pair, and behind them each input pair, with its side: the last output pair's loop first, then upwards from the lowest
-// unmarked pair.
-pub(crate) fn mark_sides(perm: &[u16], inverse: &[u16], mark: &mut [u8])
-    requires paired { Paired perm.now inverse.now }
-    requires in_bounds { (2 ≤ length perm.now) × (length perm.now ≤ max_size) }
-    requires mark_len { length mark.old ≡ length perm.now }
-    requires unmarked { Unmarked (length perm.now / 2) mark.old }
-    ensures { mark.new ≡ row_sides perm.now inverse.now }
-{
-    let pairs = perm.len() / 2;
-    visit(perm, inverse, mark, pairs - 1);
-    let mut k: usize = 1;
-    while k < pairs {
-        visit(perm, inverse, mark, k - 1);
-        k += 1;
-    }
+// The input that each output takes, and the output that takes each input, counted from 0. They are the places of pairs, so that walks from the one
+// to the other go round in loops.
+#[derive(Clone, Copy)]
+pub(crate) struct Loops<'a> {
+    pub(crate) inputs: &'a [u16],
+    pub(crate) outputs: &'a [u16],
+    ghost paired: { Paired inputs.now outputs.now },
+    ghost some: { 2 ≤ length inputs.now },
+    ghost few: { length inputs.now ≤ max_size },
 }
 
-// Marks the loop of output pair i, unless it is marked already.
-fn visit(perm: &[u16], inverse: &[u16], mark: &mut [u8], i: usize)
-    requires paired { Paired perm.now inverse.now }
-    requires perm_len_bound { length perm.now ≤ max_size }
-    requires mark_len { length mark.old ≡ length perm.now }
-    requires i_in_bounds { i < length perm.now / 2 }
-    requires leads { get_or mark.old i 0 ≡ unmarked → Leads perm.now inverse.now i }
-    ensures { Visited perm.now inverse.now i mark.old mark.new }
-{
-    if mark[i] == UNMARKED {
-        mark_loop(perm, inverse, mark, i);
-    }
-}
-
-// Marks the loop of output pair i, where that is straight. The walk goes from output to output of the upper half, each with its input, and is
-// back within as many steps as there are outputs.
-fn mark_loop(perm: &[u16], inverse: &[u16], mark: &mut [u8], i: usize)
-    requires paired { Paired perm.now inverse.now }
-    requires perm_len_bound { length perm.now ≤ max_size }
-    requires mark_len { length mark.old ≡ length perm.now }
-    requires leads { Leads perm.now inverse.now i }
-    ensures { Traced perm.now inverse.now i mark.old mark.new }
-{
-    let pairs = perm.len() / 2;
-    let start = 2 * i;
-    let mut o = start;
-    let mut steps: usize = 0;
-    loop {
-        let input = wide(perm[o]);
-        mark[o / 2] = (o % 2) as u8;
-        mark[pairs + input / 2] = (input % 2) as u8;
-        o = step(inverse, input);
-        if o == start {
-            break;
+impl Loops<'_> {
+    // Marks each output pair, and behind them each input pair, with its side: the last output pair's loop first, then upwards from the lowest
+    // unmarked pair.
+    pub(crate) fn mark_sides(&self, mark: &mut [u8])
+        requires mark_len { length mark.old ≡ length self.now.inputs.now }
+        requires unmarked { Unmarked (length self.now.inputs.now / 2) mark.old }
+        ensures { mark.new ≡ row_sides self.now.inputs.now self.now.outputs.now }
+    {
+        let pairs = self.inputs.len() / 2;
+        self.mark_loop(mark, pairs - 1);
+        for i in 0..pairs - 1 {
+            if mark[i] == UNMARKED {
+                self.mark_loop(mark, i);
+            }
         }
-        steps += 1;
     }
-}
 
-// One step along a loop, from an output's input to the next output of its side: the input's partner, the output that takes it, its partner.
-fn step(inverse: &[u16], input: usize) -> usize
-    requires { (partner input < length inverse.now) × (length inverse.now ≤ max_size) }
-    ensures { result ≡ partner (get_or inverse.now (partner input) 0) }
-{
-    let other = partner_of(input);
-    partner_of(wide(inverse[other]))
+    // Marks the loop of output pair i, where that is straight. The walk goes from output to output of the upper half, each with its input, and is
+    // back within as many steps as there are outputs.
+    fn mark_loop(&self, mark: &mut [u8], i: usize)
+        requires mark_len { length mark.old ≡ length self.now.inputs.now }
+        requires leads { Leads self.now.inputs.now self.now.outputs.now i }
+        ensures { Traced self.now.inputs.now self.now.outputs.now i mark.old mark.new }
+    {
+        let pairs = self.inputs.len() / 2;
+        let start = 2 * i;
+        let mut o = start;
+        // Kept: a loop and no `successors`: that has no bound, and would read the input a second time.
+        loop {
+            let input = usize::from(self.inputs[o]);
+            mark[o / 2] = (o % 2) as u8;
+            mark[pairs + input / 2] = (input % 2) as u8;
+            o = self.step(input);
+            if o == start {
+                return;
+            }
+        }
+    }
+
+    // One step along a loop, from an output's input to the next output of its side: the input's partner, the output that takes it, its partner.
+    fn step(&self, input: usize) -> usize
+        requires { partner input < length self.now.outputs.now }
+        ensures { result ≡ partner (get_or self.now.outputs.now (partner input) 0) }
+    {
+        partner_of(usize::from(self.outputs[partner_of(input)]))
+    }
 }
 
 // The other place of a pair.
+#[tactic(auto, unfolding(block_networks::specs::Permutation::partner))]
 fn partner_of(x: usize) -> usize
     ensures { result ≡ partner x }
 {

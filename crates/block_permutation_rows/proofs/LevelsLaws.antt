@@ -2,15 +2,10 @@
 use mathlib.Core.Path.{◌≡◌, refl, sym, ap, ap₂, subst, ◌∙◌}
 use mathlib.Core.List.{List, ◌++◌, append_assoc}
 use Prim.Native.Nat.{ℕ, ◌+◌, ◌-◌, ◌*◌, ◌^◌, ◌≤◌}
-use native.Mathlib.Nat.{le_refl}
 use native.Mathlib.Omega.{arith}
 use lib.ListN.{length, get_or, length-append}
-use mir.Syntax.{w64}
-use mir.Val.{Fits}
-use mir.Facts.{Fits-below}
-use borrow.Rule.Slice.PartMut.{mid_len}
 use Rattle.fault.specs.Buffers.{over, part_of, with_part}
-use Rattle.fault.proofs.PartsLaws.{length_over, over-part}
+use Rattle.fault.proofs.PartsLaws.{over-part}
 use Rattle.elements.specs.Elements.{max_wires}
 use Rattle.block_elements.specs.Rows.{Row, stride, flat}
 use Rattle.block_elements.proofs.RowsLaws.{flat_append}
@@ -18,58 +13,9 @@ use Rattle.block_networks.specs.Permutation.{permutation_count, input_rows, outp
 use Rattle.block_networks.specs.Permutation.{permutation_rows, upper_outs, lower_outs}
 use Rattle.block_permutation_rows.specs.declared.level.LevelOuts.{LevelOuts}
 use Rattle.block_permutation_rows.specs.declared.level.LevelParts.{LevelParts}
-use Rattle.block_permutation_rows.specs.Levels.{rising_rows, inner_rows, inner_count, OutsAt, outs_list, join_rows, InnerRoom, SmallRoom, JoinRoom, LevelPartsAt}
+use Rattle.block_permutation_rows.specs.Levels.{rising_rows, inner_rows, inner_count, OutsAt, outs_list, join_rows, SmallRoom, LevelPartsAt}
 use Rattle.block_permutation_rows.proofs.SwitchesLaws.{length-inputs, inputs-rise, seconds-rise, length-outputs, outs-last, outputs_join}
 use Rattle.block_permutation_rows.proofs.HalvesLaws.{rows_split, length_inner, outs-made, outs_are}
-
--- the parts begin at bytes that fit: an entry has two
-pub record PlacesFit (p : LevelParts) : Type 0 where
-  pub upper : Fits w64 (p.upper * 2)
-  pub lower : Fits w64 (p.lower * 2)
-  pub lower_inner : Fits w64 (p.lower_inner * 2)
-  pub outputs : Fits w64 (p.outputs * 2)
-
-pub places-fit : {n next : ℕ} {p : LevelParts} → LevelPartsAt n next p → PlacesFit p
-places-fit w = record { upper = few (omega arith); lower = few (omega arith); lower_inner = few (omega arith); outputs = few (omega arith) }
-  where
-    few : {m : ℕ} → m ≤ 2 * (stride * max_wires) → Fits w64 m
-    few = Fits-below tt
-
--- the parts in the part R of the table, which stays as long as it was given
-module _ {n next entries : ℕ} {p : LevelParts} (at : LevelPartsAt n next p) (room : InnerRoom n next entries) (R : List ℕ) (rows : length R ≡ entries) where
-  pub upper_in : p.upper ≤ length R
-  upper_in = omega arith
-
-  pub lower_in : p.lower ≤ length R
-  lower_in = omega arith
-
-  pub lower_inner_in : p.lower_inner ≤ length R
-  lower_inner_in = omega arith
-
-  pub outputs_in_lem : p.outputs ≤ length R
-  outputs_in_lem = omega arith
-
-  pub upper-room : 2 ≤ n → InnerRoom (n - 1) p.upper_next.0 (length (part_of p.upper R))
-  upper-room some = record {
-    fit = record { small = omega arith; wires = omega arith };
-    room = rw (mid_len p.upper (length R) R (le_refl (length R))) (omega arith);
-  }
-
-  pub lower-inputs-room : stride * p.inputs ≤ length (part_of p.lower R)
-  lower-inputs-room = rw (mid_len p.lower (length R) R (le_refl (length R))) (omega arith)
-
-  pub lower-room : 2 ≤ n → InnerRoom (n - 1) p.lower_next.0 (length (part_of p.lower_inner R))
-  lower-room some = record {
-    fit = record { small = omega arith; wires = omega arith };
-    room = rw (mid_len p.lower_inner (length R) R (le_refl (length R))) (omega arith);
-  }
-
-  pub join_room : JoinRoom p.half (length (part_of p.outputs R))
-  join_room = record {
-    some = omega arith;
-    small = at.small;
-    room = rw (mid_len p.outputs (length R) R (le_refl (length R))) (omega arith);
-  }
 
 -- the table's part after each step: R₁ to R₄, with what a callee left of the part that it was lent, and the output wires of the halves
 pub record LevelSteps (n next : ℕ) (p : LevelParts) (above below : LevelOuts) (R₀ R₁ F₁ F₂ F₃ F₄ : List ℕ) : Type 0 where
@@ -88,7 +34,6 @@ pub record LevelSteps (n next : ℕ) (p : LevelParts) (above below : LevelOuts) 
 pub record InnerWritten (n next : ℕ) (R₀ R : List ℕ) (p : LevelOuts) : Type 0 where
   pub rows : R ≡ over (flat (inner_rows n next)) R₀
   pub wires : OutsAt n next p
-  pub rows_length : length R ≡ length R₀
 
 -- the rows of the parts
 split_parts : (i u j l o : List Row) → flat ((i ++ u) ++ ((j ++ l) ++ o)) ≡ (((flat i ++ flat u) ++ flat j) ++ flat l) ++ flat o
@@ -187,13 +132,7 @@ module _ (n next : ℕ) (some : 1 ≤ n) (p : LevelParts) (at : LevelPartsAt n n
       e₅ ∙ ap (λ l. over l R₀) (sym (inner_parts n next some))
 
   pub level-written : InnerWritten n next R₀ (with_part p.outputs R₄ F₄) (record { first = p.output_next; upper = above.lower; lower = below.lower })
-  level-written =
-      let long = length_inner n next in
-      record {
-        rows = rows_written;
-        wires = wires-written;
-        rows_length = ap length rows_written ∙ length_over (flat (inner_rows n next)) R₀ (omega arith);
-      }
+  level-written = record { rows = rows_written; wires = wires-written }
 
 -- ---- P(8)
 

@@ -40,9 +40,6 @@ unfolding permutation_rows inner_rows
 split_rows n ins next = sym (flat_append (input_rows (2 ^ n) ins) _)
 
 module _ {n next inputs entries places : ℕ} (room : LevelRoom n inputs next entries places) where
-  pub some-inputs : 1 ≤ inputs
-  some-inputs = omega (arith, pow_pos n)
-
   -- the output wires of P fit
   pub outs-room : (half : ℕ) (p : LevelOuts) → half ≡ 2 ^ n → OutsAt n next p → OutsRoom (2 * (half - 1)) p places
   outs-room half p e o =

@@ -44,42 +44,35 @@ pub(crate) fn write_inner(n: u32, next: FabricWire, rows: &mut [u16]) -> LevelOu
     if n < 3 {
         return write_base(n, next, rows);
     }
+    let w = next.0;
     let parts = level_parts(n, next);
-    let upper = parts.upper;
-    let lower = parts.lower;
-    let lower_inner = parts.lower_inner;
-    let outputs = parts.outputs;
-    put_rising(rows, parts.inputs, next.0, next.0 + 2, 4);
-    let above = write_inner(n - 1, parts.upper_next, &mut rows[upper..]);
-    put_rising(&mut rows[lower..], parts.inputs, next.0 + 1, next.0 + 3, 4);
-    let below = write_inner(n - 1, parts.lower_next, &mut rows[lower_inner..]);
-    join_halves(&mut rows[outputs..], parts.half, above, below);
-    let first = parts.output_next;
-    let upper_last = above.lower;
-    let lower_last = below.lower;
+    put_rising(rows, parts.inputs, w, w + 2, 4);
+    let above = write_inner(n - 1, parts.upper_next, &mut rows[parts.upper..]);
+    put_rising(&mut rows[parts.lower..], parts.inputs, w + 1, w + 3, 4);
+    let below = write_inner(n - 1, parts.lower_next, &mut rows[parts.lower_inner..]);
+    join_halves(&mut rows[parts.outputs..], parts.half, above, below);
     LevelOuts {
-        first: first,
-        upper: upper_last,
-        lower: lower_last,
+        first: parts.output_next,
+        upper: above.lower,
+        lower: below.lower,
     }
 }
 
 // The same for P(2), which has no row behind its input row, for P(4) and for P(8). Most blocks are these.
+// Kept: P(4) and P(8) written out beside the general level, which costs several times as much there.
 fn write_base(n: u32, next: FabricWire, rows: &mut [u16]) -> LevelOuts
     requires { (n ≤ 2) × InnerRoom n next.0 (length rows.old) }
     ensures rows_after { rows.new ≡ over (flat (inner_rows n next.0)) rows.old }
     ensures outs_at { OutsAt n next.0 result }
 {
-    if n == 2 {
-        return write_eight(next, rows);
-    }
-    if n == 1 {
-        return write_four(next, rows);
-    }
-    LevelOuts {
-        first: FabricWire(next.0 + 2),
-        upper: next,
-        lower: FabricWire(next.0 + 1),
+    match n {
+        0 => LevelOuts {
+            first: FabricWire(next.0 + 2),
+            upper: next,
+            lower: FabricWire(next.0 + 1),
+        },
+        1 => write_four(next, rows),
+        _ => write_eight(next, rows),
     }
 }
 
@@ -95,12 +88,10 @@ fn write_eight(next: FabricWire, rows: &mut [u16]) -> LevelOuts
     put_rising(&mut rows[5 * STRIDE..], 2, w + 1, w + 3, 4);
     let below = write_four(FabricWire(w + 18), &mut rows[7 * STRIDE..]);
     join_halves(&mut rows[10 * STRIDE..], 4, above, below);
-    let upper_last = above.lower;
-    let lower_last = below.lower;
     LevelOuts {
         first: FabricWire(w + 28),
-        upper: upper_last,
-        lower: lower_last,
+        upper: above.lower,
+        lower: below.lower,
     }
 }
 
@@ -138,8 +129,8 @@ fn level_parts(n: u32, next: FabricWire) -> LevelParts
     let half = 2 * inputs;
     let count = half * n + 1 - half;
     LevelParts {
-        half: half,
-        inputs: inputs,
+        half,
+        inputs,
         upper: row_place(inputs),
         lower: row_place(count),
         lower_inner: row_place(count + inputs),

@@ -13,7 +13,7 @@ use crate::level::{LevelOuts, size_at, write_inner};
 use block_rows::{copy_wires, put_pairs, put_wires, row_place};
 use block_write_checks::check_permutation_write;
 use elements::{FabricWire, Kind, MAX_WIRES};
-use fault::Answer;
+use fault::Fault;
 
 // P(n) on the input wires, where `next` is the next unmade wire.
 pub fn write_permutation(
@@ -22,21 +22,18 @@ pub fn write_permutation(
     next: FabricWire,
     rows: &mut [u16],
     outputs: &mut [u16],
-) -> Answer
+) -> Result<(), Fault>
     ensures answered { answer_number result ≡ write_fault n inputs.now next.0 (length rows.old) (length outputs.old) }
     ensures rows { rows.new ≡ written_rows n inputs.now next.0 rows.old outputs.old }
     ensures outputs { outputs.new ≡ written_outputs n inputs.now next.0 rows.old outputs.old }
 {
-    match check_permutation_write(n, inputs, next, rows.len(), outputs.len()) {
-        Answer::Refused(f) => Answer::Refused(f),
-        Answer::Done => {
-            write_checked_permutation(n, inputs, next, rows, outputs);
-            Answer::Done
-        }
-    }
+    check_permutation_write(n, inputs, next, rows.len(), outputs.len())?;
+    write_checked_permutation(n, inputs, next, rows, outputs);
+    Ok(())
 }
 
 // P(n) where all checks pass. P(1) is a wire.
+// Kept: the parameters of the public call, here and below; a struct of them would be made and taken apart in one step.
 fn write_checked_permutation(
     n: u32,
     inputs: &[u16],

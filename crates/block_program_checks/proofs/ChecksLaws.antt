@@ -1,17 +1,19 @@
 -- The checks pass exactly if the sizes are allowed, the list names inputs as it should, and the bits have room.
 use mathlib.Core.Path.{◌≡◌, refl, sym, ap, ◌∙◌}
 use mathlib.Core.Logic.{◌≢◌, ◌↔◌}
-use mathlib.Core.Bool.{Bool, true, false, cond, not, and-eq-true_iff}
+use mathlib.Core.Bool.{Bool, true, false, not, ◌&&◌, and-eq-true_iff}
 use mathlib.Core.List.{List}
 use Prim.Native.Nat.{ℕ, zero, suc, ◌+◌, ◌*◌, ◌^◌, ◌≤◌, ◌<◌}
 use native.Mathlib.Nat.{not-suc-le-zero}
 use native.Mathlib.Numerals.{add-one}
 use native.Mathlib.Decide.{ℕ_discrete, dec_lt}
 use native.Mathlib.Omega.{arith}
-use borrow.Author.Tests.{leb-true, eqb-false, le-leb, lt-leb, eq-eqb, ne_eqb, not-true}
-use lib.Dec.{eqb}
+use borrow.Author.Tests.{leb-true, eqb-false, le-leb, eq-eqb, ne_eqb, not-true, not-false}
+use lib.Dec.{eqb, leb}
+use Rattle.std.specs.List.{list_all}
 use lib.ListN.{length, get_or, set, replicate, length-set, get_or-replicate, length-replicate}
 use lib.Seq.{get_or-set_same, get_or-set_other}
+use Rattle.fault.proofs.EntriesLaws.{each-entry}
 use Rattle.fault.specs.declared.Fault.{Fault}
 use Rattle.fault.specs.Number.{fault_number}
 use Rattle.fault.specs.Checks.{unless, and_then}
@@ -23,7 +25,7 @@ use Rattle.block_networks.specs.Permutation.{permutation_count}
 use Rattle.block_sizes.specs.Sizes.{max_size, max_level, size_allowed, level_of, SizeIs, SelectionSizes}
 use Rattle.block_sizes.proofs.SizesLaws.{size_is, power-allowed, few-rows, selection-sizes-allowed, selection-level-small, power_small}
 use Rattle.block_program_checks.specs.Bits.{bits_at_fault}
-use Rattle.block_program_checks.specs.Checks.{first_source, selected_allowed, selected_fault, not_among, is_new, twice_fault, Marked, source_fault, wanted_fault}
+use Rattle.block_program_checks.specs.Checks.{first_source, selected_fault, not_among, is_new, twice_fault, Marked, source_fault, wanted_fault}
 use Rattle.block_program_checks.specs.Checks.{program_fault, program_at_fault, selection_wanted_fault, selection_program_fault, selection_program_at_fault}
 use Rattle.block_program_checks.specs.Checks.{SelectionPasses}
 use Rattle.block_program_checks.proofs.BitsLaws.{bits-faultless, bits-at-front}
@@ -39,16 +41,13 @@ module _ (allowed : ℕ → Bool) where
   pub source-passed : (o : ℕ) → first_source allowed o ≡ 0 → allowed o ≡ true → first_source allowed (o + 1) ≡ 0
   source-passed o z e = rw (add-one o) (next-passes (λ o. unless (allowed o) Fault.Source) o z (ap (λ t. unless t Fault.Source) e))
 
--- the tests of an entry's range
-module _ (m : ℕ) (wanted : List ℕ) (o : ℕ) where
-  pub selected-low : get_or wanted o 0 ≡ 0 → selected_allowed m wanted o ≡ false
-  selected-low e = rw e
+-- an entry that is in 1 to m
+abbrev pub in_range : ℕ → ℕ → Bool
+in_range m x = leb 1 x && leb x m
 
-  pub selected-high : 1 ≤ get_or wanted o 0 → m < get_or wanted o 0 → selected_allowed m wanted o ≡ false
-  selected-high low high = rw (le-leb 1 (get_or wanted o 0) low, lt-leb (get_or wanted o 0) m high)
-
-  pub selected-is : 1 ≤ get_or wanted o 0 → get_or wanted o 0 ≤ m → selected_allowed m wanted o ≡ true
-  selected-is low high = rw (le-leb 1 (get_or wanted o 0) low, le-leb (get_or wanted o 0) m high)
+pub selected_is : (m : ℕ) (wanted : List ℕ) → selected_fault m wanted ≡ unless (list_all (in_range m) wanted) Fault.Source
+unfolding selected_fault
+selected_is m wanted = each-entry (in_range m) Fault.Source wanted
 
 pub selected-faultless : (m : ℕ) (wanted : List ℕ) → (selected_fault m wanted ≡ 0) ↔ Selected m (length wanted) wanted
 unfolding selected_fault
@@ -56,7 +55,8 @@ selected-faultless m wanted = (
   λ e.
       let h = simp (first_of-zero, unless-zero, and-eq-true_iff) at e in
       record { size = refl; low = λ o l. leb-true 1 (get_or wanted o 0) (h o l).0; high = λ o l. leb-true (get_or wanted o 0) m (h o l).1 },
-  λ W. (first_of-zero _ (length wanted)).1 (λ o l. (unless-zero _ Fault.Source).1 (selected-is m wanted o (W.low o l) (W.high o l))),
+  λ W. (first_of-zero _ (length wanted)).1 (λ o l. (unless-zero _ Fault.Source).1
+      (rw (le-leb 1 (get_or wanted o 0) (W.low o l), le-leb (get_or wanted o 0) m (W.high o l)))),
 )
 
 -- none of the first k wanted inputs is x
@@ -97,37 +97,29 @@ selected-within l W = record { size = W.size; low = W.low; high = λ o k. omega 
 
 -- ---- the marks of the inputs that the first i outputs want
 
-pub marked-none : (wanted : List ℕ) (places : ℕ) → Marked wanted 0 (replicate places 0)
+pub marked-none : (wanted : List ℕ) (places : ℕ) → Marked wanted 0 (replicate places false)
 unfolding not_among
-marked-none wanted places = record { each = λ y l. get_or-replicate places y 0 0 (rw (length-replicate {A = ℕ} places 0) at l) }
+marked-none wanted places = record { each = λ y l. get_or-replicate places y false false (rw (length-replicate {A = Bool} places false) at l) }
 
-module _ {wanted mark : List ℕ} {i x : ℕ} (M : Marked wanted i mark) (here : suc x ≡ get_or wanted i 0) (fits : x < length mark) where
+module _ {wanted : List ℕ} {mark : List Bool} {i x : ℕ} (M : Marked wanted i mark) (here : suc x ≡ get_or wanted i 0) (fits : x < length mark) where
   -- what a mark says of the next input
-  mark_is : get_or mark x 0 ≡ cond (is_new wanted i) 0 1
+  mark_is : get_or mark x false ≡ not (is_new wanted i)
   mark_is = rw here at (M.each x fits)
 
-  pub comes_first : get_or mark x 0 ≡ 0 → is_new wanted i ≡ true
-  comes_first e = go (is_new wanted i) mark_is
-    where
-      go : (b : Bool) → get_or mark x 0 ≡ cond b 0 1 → b ≡ true
-      go true q = refl
-      go false q = absurd (omega arith)
+  pub comes_first : get_or mark x false ≡ false → is_new wanted i ≡ true
+  comes_first e = not-false (is_new wanted i) (sym mark_is ∙ e)
 
-  pub comes_again : get_or mark x 0 ≢ 0 → is_new wanted i ≡ false
-  comes_again n = go (is_new wanted i) mark_is
-    where
-      go : (b : Bool) → get_or mark x 0 ≡ cond b 0 1 → b ≡ false
-      go true q = absurd (n q)
-      go false q = refl
+  pub comes_again : get_or mark x false ≡ true → is_new wanted i ≡ false
+  comes_again e = not-true (is_new wanted i) (sym mark_is ∙ e)
 
   -- one more
-  pub marked_more : Marked wanted (i + 1) (set mark x 1)
+  pub marked_more : Marked wanted (i + 1) (set mark x true)
   unfolding not_among
   marked_more = record { each = λ y l. go y (simp length-set at l) (ℕ_discrete y x) }
     where
-      go : (y : ℕ) → y < length mark → Dec (y ≡ x) → get_or (set mark x 1) y 0 ≡ cond (not_among wanted (suc y) (i + 1)) 0 1
-      go y l (yes e) = rw (add-one i, eq-eqb (get_or wanted i 0) (suc y) (omega arith), e) (get_or-set_same mark x 1 0 fits)
-      go y l (no n) = rw (add-one i, ne_eqb (get_or wanted i 0) (suc y) (λ q. n (omega arith))) (get_or-set_other mark x y 1 0 n ∙ M.each y l)
+      go : (y : ℕ) → y < length mark → Dec (y ≡ x) → get_or (set mark x true) y false ≡ not (not_among wanted (suc y) (i + 1))
+      go y l (yes e) = rw (add-one i, eq-eqb (get_or wanted i 0) (suc y) (omega arith), e) (get_or-set_same mark x true false fits)
+      go y l (no n) = rw (add-one i, ne_eqb (get_or wanted i 0) (suc y) (λ q. n (omega arith))) (get_or-set_other mark x y true false n ∙ M.each y l)
 
 -- ---- P(N)
 
@@ -230,3 +222,14 @@ unfolding selection_count whole_count
 few-selection-bits {m} {n} s =
     let level : ℕ = selection_level m n in
     omega (arith, few-rows level (selection-level-small s), power_small level (selection-level-small s))
+
+-- ---- where the checks that ask for no room pass: what the next check needs
+
+pub selected_of : (m : ℕ) (wanted : List ℕ) → selected_fault m wanted ≡ 0 → Selected m (length wanted) wanted
+selected_of m wanted = (selected-faultless m wanted).0
+
+pub bits_of_wanted : (N : ℕ) (wanted : List ℕ) → wanted_fault N wanted ≡ 0 → permutation_count (level_of N) ≤ max_level * max_size
+bits_of_wanted N wanted e = few_bits_lem (size_is N ((wanted-faultless N wanted).0 e).0)
+
+pub bits_of_selection_wanted : (m n : ℕ) (wanted : List ℕ) → selection_wanted_fault m n wanted ≡ 0 → selection_count m n ≤ 2 * (max_level * max_size) + max_size
+bits_of_selection_wanted m n wanted e = few-selection-bits ((selection-wanted-faultless m n wanted).0 e).0

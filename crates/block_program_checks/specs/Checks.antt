@@ -1,6 +1,6 @@
 -- Document 01, block library, programming: "Checks: 2 if P's N is not a power of two from 1 to 512, or S's m not 1 to 512; 4 if n is not 1 to
 -- 512; 12 if the list has another length; 9 if a wanted input is not in 1 to m (or N) or, in P, comes twice; 11."
-use Rattle.std.specs.Prelude.{ℕ, zero, suc, ◌+◌, ◌≤◌, ◌<◌, ◌≡◌, Bool, true, cond, ◌&&◌, not, List, leb, eqb, length, get_or}
+use Rattle.std.specs.Prelude.{ℕ, zero, suc, ◌+◌, ◌≤◌, ◌<◌, ◌≡◌, Bool, true, false, ◌&&◌, not, List, leb, eqb, length, get_or}
 use Rattle.fault.specs.declared.Fault.{Fault}
 use Rattle.fault.specs.Checks.{unless, and_then, first_of, list_fault}
 use Rattle.block_elements.specs.Bits.{bits_held}
@@ -37,8 +37,8 @@ unfoldable pub twice_fault : List ℕ → ℕ
 twice_fault wanted = first_source (is_new wanted) (length wanted)
 
 -- the marks of the inputs that the first i outputs want: input x has its mark at place x - 1
-pub record Marked (wanted : List ℕ) (i : ℕ) (mark : List ℕ) : Type 0 where
-  pub each : (y : ℕ) → y < length mark → get_or mark y 0 ≡ cond (not_among wanted (suc y) i) 0 1
+pub record Marked (wanted : List ℕ) (i : ℕ) (mark : List Bool) : Type 0 where
+  pub each : (y : ℕ) → y < length mark → get_or mark y false ≡ not (not_among wanted (suc y) i)
 
 -- ---- P(N)
 

@@ -1,12 +1,11 @@
 -- A part of a list from a place on, and up to a place, where the place is clamped to the list's length: past the end it is the end.
-use mathlib.Core.Path.{◌≡◌, sym, ap, ◌∙◌}
+use mathlib.Core.Path.{◌≡◌, ap, ◌∙◌}
 use mathlib.Core.List.{List, [], ◌++◌, append-nil}
 use Prim.Native.Nat.{ℕ, ◌-◌, min}
-use native.Mathlib.Nat.{min-eq_left}
-use native.Mathlib.Decide.{dec_le}
 use native.Mathlib.Omega.{arith}
 use lib.ListN.{length, take, drop, length-drop, drop_of_length-le}
 use lib.Seq.{take_all}
+use Rattle.std.proofs.lemmas.List.{take_min, drop_min}
 use Rattle.fault.specs.Buffers.{part_of, with_part}
 
 -- the part from p on, and the list once that part came back
@@ -21,20 +20,11 @@ with_is p L F =
 -- the place clamped
 module _ {A : Type 0} (n : ℕ) (L : List A) where
   pub take_within : take (min n (length L)) L ≡ take n L
-  take_within = elim (dec_le n (length L)) [
-    | yes l ↦ ap (λ k. take k L) (min-eq_left l)
-    | no g ↦ take_all (min n (length L)) L (omega arith) ∙ sym (take_all n L (omega arith))
-  ]
-
-  drop-within : drop (min n (length L)) L ≡ drop n L
-  drop-within = elim (dec_le n (length L)) [
-    | yes l ↦ ap (λ k. drop k L) (min-eq_left l)
-    | no g ↦ drop_of_length-le L {i = min n (length L)} (omega arith) ∙ sym (drop_of_length-le L {i = n} (omega arith))
-  ]
+  take_within = take_min n L
 
   module _ {m : ℕ} (at : m ≡ min n (length L)) where
     pub part-within : part_of m L ≡ drop n L
-    part-within = part-is m L ∙ ap (λ k. drop k L) at ∙ drop-within
+    part-within = part-is m L ∙ ap (λ k. drop k L) at ∙ drop_min n L
 
     pub with_within : (F : List A) → with_part m L F ≡ take n L ++ F
-    with_within F = with_is m L F ∙ ap (λ (l : List A). l ++ F) (ap (λ k. take k L) at ∙ take_within)
+    with_within F = with_is m L F ∙ ap (λ (l : List A). l ++ F) (ap (λ k. take k L) at ∙ take_min n L)

@@ -1,11 +1,10 @@
 -- Rows on wires of the fabric, where there is room, are stored as `flat` has them.
-use mathlib.Core.Path.{◌≡◌, refl, sym, ap, ap₂, ◌∙◌}
+use mathlib.Core.Path.{◌≡◌, refl, sym, ap, ◌∙◌}
 use mathlib.Core.List.{List, [], ◌∷◌, append-nil}
 use Prim.Native.Nat.{ℕ, ◌+◌, ◌*◌, ◌<◌, ◌≤◌}
-use native.Mathlib.Nat.{mod-eq_of_lt}
 use native.Mathlib.Numerals.{add-one}
 use native.Mathlib.Omega.{arith}
-use borrow.Author.Tests.{le-leb}
+use borrow.Author.Tests.{le-leb, lt-leb}
 use lib.ListN.{length, get_or, set}
 use Rattle.lists.specs.Lists.{list_of, every-none, every_more}
 use Rattle.lists.proofs.ListsLaws.{length-list_of, every-list_of}
@@ -13,10 +12,10 @@ use Rattle.fault.specs.Buffers.{over, part_of, with_part}
 use Rattle.fault.proofs.PartsLaws.{over-part}
 use Rattle.elements.specs.declared.Kind.{Kind}
 use Rattle.elements.specs.declared.Kind.TheVariants.{X, Y, G}
-use Rattle.elements.specs.Elements.{max_wires, kind_number}
+use Rattle.elements.specs.Elements.{kind_number}
 use Rattle.block_elements.specs.Rows.{Row, stride, inputs_of, entries, flat, row_of, InFamily}
 use Rattle.block_elements.proofs.RowsLaws.{flat_append, length-flat}
-use Rattle.block_rows.specs.Rows.{row_put, pair_rows, rows_put}
+use Rattle.block_rows.specs.Rows.{pair_rows, rows_put}
 
 -- the entries of a row of a kind
 pub kind-entries : (kind : Kind) (l r : ℕ) → entries (row_of (kind_number kind) l r) ≡ kind_number kind ∷ l ∷ r ∷ []
@@ -26,19 +25,6 @@ kind-entries = elim [ X ↦ λ l r. refl | Y ↦ λ l r. refl | G ↦ λ l r. re
 kind-family : (kind : Kind) (l r : ℕ) → InFamily (row_of (kind_number kind) l r)
 unfolding row_of inputs_of
 kind-family = elim [ X ↦ λ l r. refl | Y ↦ λ l r. refl | G ↦ λ l r. refl ]
-
-pub row_put_lem : (kind : Kind) (left right : ℕ) (old : List ℕ) → stride ≤ length old → left < max_wires → right < max_wires
-    → row_put (kind_number kind) left right old ≡ over (entries (row_of (kind_number kind) left right)) old
-unfolding row_put
-row_put_lem kind left right old room l r =
-    rw (le-leb stride (length old) room, mod-eq_of_lt l, mod-eq_of_lt r, kind-entries kind left right)
-
--- a row on the wires a and b
-pub row_on : (kind : Kind) (left right a b : ℕ) (old F : List ℕ) → F ≡ row_put (kind_number kind) left right old → stride ≤ length old
-    → (left ≡ a) × (left < max_wires) → (right ≡ b) × (right < max_wires) → F ≡ over (entries (row_of (kind_number kind) a b)) old
-row_on kind left right a b old F e room l r =
-    e ∙ row_put_lem kind left right old room l.1 r.1
-    ∙ ap₂ (λ x y. over (entries (row_of (kind_number kind) x y)) old) l.0 r.0
 
 pub length-pair_rows : (kind : Kind) (count : ℕ) (lefts rights : List ℕ) (step : ℕ) → length (pair_rows kind count lefts rights step) ≡ count
 unfolding pair_rows
@@ -63,12 +49,13 @@ pub length-flat-pairs : (kind : Kind) (count : ℕ) (lefts rights : List ℕ) (s
 unfolding pair_rows
 length-flat-pairs kind count lefts rights step = length-flat-list _ (λ i. kind-family kind _ _) count
 
-pub pairs-more : (kind : Kind) (lefts rights : List ℕ) (step i n : ℕ) (L P F : List ℕ) → n ≡ stride * i → stride * (i + 1) ≤ length L
-    → P ≡ over (flat (pair_rows kind i lefts rights step)) L
-    → F ≡ over (entries (row_of (kind_number kind) (get_or lefts (step * i) 0) (get_or rights (step * i) 0))) (part_of n P)
-    → with_part n P F ≡ over (flat (pair_rows kind (i + 1) lefts rights step)) L
-unfolding pair_rows
-pairs-more kind lefts rights step = list-more _ (λ i. kind-family kind _ _)
+-- one row more of a kind, of which the entries are given by equations
+pub row-more : (kind : Kind) (left right : ℕ → ℕ) (i : ℕ) {n l r : ℕ} (L P : List ℕ) {F : List ℕ} → n ≡ stride * i → stride * (i + 1) ≤ length L
+    → P ≡ over (flat (list_of i (λ j. row_of (kind_number kind) (left j) (right j)))) L → l ≡ left i → r ≡ right i
+    → F ≡ over (kind_number kind ∷ l ∷ r ∷ []) (part_of n P) → with_part n P F ≡ over (flat (list_of (i + 1) (λ j. row_of (kind_number kind) (left j) (right j)))) L
+row-more kind left right i {n} L P {F} at room before el er stored =
+    list-more (λ j. row_of (kind_number kind) (left j) (right j)) (λ j. kind-family kind (left j) (right j)) i n L P F at room before
+    (rw (kind-entries kind (left i) (right i), ← el, ← er) stored)
 
 -- three entries are stored at the front
 pub row-stored : (l : List ℕ) (k a b : ℕ) → stride ≤ length l → set (set (set l 0 k) 1 a) 2 b ≡ over (k ∷ a ∷ b ∷ []) l
@@ -81,3 +68,19 @@ row-stored (x ∷ y ∷ z ∷ l) k a b h = refl
 pub rows-put : (rows : List Row) (old : List ℕ) → stride * length rows ≤ length old → rows_put rows old ≡ over (flat rows) old
 unfolding rows_put
 rows-put rows old h = rw (le-leb (stride * length rows) (length old) h)
+
+-- rows that have none
+rows-kept : (rows : List Row) (old : List ℕ) → length old < stride * length rows → old ≡ rows_put rows old
+unfolding rows_put
+rows-kept rows old h = rw (lt-leb (stride * length rows) (length old) h)
+
+module _ (kind : Kind) (count : ℕ) (lefts rights : List ℕ) (step : ℕ) (old : List ℕ) where
+  pub pairs_put : {new : List ℕ} → stride * count ≤ length old
+      → new ≡ over (flat (list_of count (λ i. row_of (kind_number kind) (get_or lefts (step * i) 0) (get_or rights (step * i) 0)))) old
+      → new ≡ rows_put (pair_rows kind count lefts rights step) old
+  unfolding pair_rows
+  pairs_put room put =
+      put ∙ sym (rows-put (pair_rows kind count lefts rights step) old (rw (length-pair_rows kind count lefts rights step) room))
+
+  pub pairs-kept : length old < stride * count → old ≡ rows_put (pair_rows kind count lefts rights step) old
+  pairs-kept h = rows-kept (pair_rows kind count lefts rights step) old (rw (length-pair_rows kind count lefts rights step) h)

@@ -5,4 +5,4 @@ mod rows;
 mod wires;
 
 pub use rows::{KIND_PLACE, LEFT_PLACE, RIGHT_PLACE, STRIDE, put_pairs, put_row, row_place};
-pub use wires::{copy_wires, put_wires, wide, wire_at};
+pub use wires::{copy_wires, put_wires, wire_at};

@@ -1,7 +1,7 @@
 -- The positions of the outputs: each input's place holds the position of its next copy.
 use mathlib.Core.Path.{◌≡◌, sym, ap, ◌∙◌}
 use mathlib.Core.List.{List}
-use Prim.Native.Nat.{ℕ, ◌+◌, ◌≤◌, ◌<◌}
+use Prim.Native.Nat.{ℕ, ◌+◌, ◌<◌}
 use native.Mathlib.Nat.{add-zero, add_assoc}
 use native.Mathlib.Decide.{ℕ_discrete}
 use native.Mathlib.Omega.{arith}
@@ -23,38 +23,33 @@ pub copies-none : (wanted : List ℕ) {heads : List ℕ}
 unfolding wanting count_of
 copies-none wanted h = record { each = λ l x m. h x m ∙ sym (add-zero _) }
 
-module _ {wanted heads : List ℕ} {o : ℕ} (W : Demand (length heads) wanted) (C : NextCopies wanted o heads) where
-  -- past the wanted outputs nothing is given
-  pub copies-past : length wanted ≤ o → NextCopies wanted (o + 1) heads
-  copies-past past = record { each = λ l x m. absurd (omega arith) }
+-- at the place j of the input that output o wants
+module _ {N o j : ℕ} {wanted heads : List ℕ} (W : Demand N wanted) (size : length heads ≡ N) (C : NextCopies wanted o heads) (l : o < length wanted)
+    (e : mapping wanted o ≡ j) where
+  pub copy_is : get_or heads j 0 ≡ copy_of (mapping wanted) (length wanted) o
+  copy_is = rw (← e) (C.each (omega arith) o l ∙ sym (copy-early (mapping wanted) (length wanted) o l))
 
-  module _ (l : o < length wanted) where
-    abbrev j : ℕ
-    j = mapping wanted o
+  pub next-copy_lt : get_or heads j 0 < max_size
+  next-copy_lt = rw copy_is (omega (arith, copy-below (mapping wanted) (length wanted) o l, W.few, W.most))
 
-    pub copy_is : get_or heads (mapping wanted o) 0 ≡ copy_of (mapping wanted) (length wanted) o
-    copy_is = C.each (omega arith) o l ∙ sym (copy-early (mapping wanted) (length wanted) o l)
+  pub copies-more : NextCopies wanted (o + 1) (set heads j (get_or heads j 0 + 1))
+  copies-more = record { each = λ m x k. go x k (ℕ_discrete (mapping wanted x) (mapping wanted o)) }
+    where
+      want : ℕ → ℕ
+      want = mapping wanted
 
-    pub next-copy_lt : get_or heads (mapping wanted o) 0 < max_size
-    next-copy_lt = rw copy_is (omega (arith, copy-below (mapping wanted) (length wanted) o l, W.few, W.most))
+      head : ℕ → ℕ
+      head = head_of want (length wanted)
 
-    pub copies-more : NextCopies wanted (o + 1) (set heads (mapping wanted o) (get_or heads (mapping wanted o) 0 + 1))
-    copies-more = record { each = λ m x k. go x k (ℕ_discrete (mapping wanted x) j) }
-      where
-        want : ℕ → ℕ
-        want = mapping wanted
+      new : List ℕ
+      new = set heads j (get_or heads j 0 + 1)
 
-        head : ℕ → ℕ
-        head = head_of want (length wanted)
+      within : j < length heads
+      within = omega (arith, selected_lt W.inputs o l)
 
-        new : List ℕ
-        new = set heads j (get_or heads j 0 + 1)
-
-        within : j < length heads
-        within = selected_lt W.inputs o l
-
-        go : (x : ℕ) → x < length wanted → Dec (mapping wanted x ≡ j) → get_or new (want x) 0 ≡ head (want x) + wanting want (o + 1) (want x)
-        go x k (yes e) =
-            rw (e, get_or-set_same heads j (get_or heads j 0 + 1) 0 within, C.each (omega arith) o l, wanting-own want o)
-            (add_assoc (head j) (wanting want o j) 1)
-        go x k (no d) = get_or-set_other heads j (want x) _ 0 d ∙ C.each (omega arith) x k ∙ ap (λ c. head (want x) + c) (sym (wanting-other want o (want x) d))
+      go : (x : ℕ) → x < length wanted → Dec (mapping wanted x ≡ mapping wanted o) → get_or new (want x) 0 ≡ head (want x) + wanting want (o + 1) (want x)
+      go x k (yes f) =
+          let here = ap (λ i. get_or new i 0) (f ∙ e) ∙ get_or-set_same heads j (get_or heads j 0 + 1) 0 within in
+          here ∙ rw (f, wanting-own want o, ← e, C.each (omega arith) o l) (add_assoc (head (want o)) (wanting want o (want o)) 1)
+      go x k (no d) =
+          get_or-set_other heads j (want x) _ 0 (λ f. d (f ∙ sym e)) ∙ C.each (omega arith) x k ∙ ap (λ c. head (want x) + c) (sym (wanting-other want o (want x) d))

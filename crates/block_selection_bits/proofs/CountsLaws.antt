@@ -2,7 +2,7 @@
 use mathlib.Core.Path.{◌≡◌, refl, sym, ap, ◌∙◌}
 use mathlib.Core.Logic.{◌≢◌}
 use mathlib.Core.List.{List}
-use Prim.Native.Nat.{ℕ, ◌+◌, ◌≤◌, ◌<◌}
+use Prim.Native.Nat.{ℕ, suc, ◌+◌, ◌-◌, ◌≤◌, ◌<◌}
 use native.Mathlib.Nat.{add-zero}
 use native.Mathlib.Numerals.{add-one}
 use borrow.Author.Tests.{eq-eqb, ne_eqb}
@@ -10,9 +10,16 @@ use lib.Dec.{eqb}
 use lib.ListN.{length, get_or, set}
 use Rattle.lists.specs.Counting.{count_of}
 use Rattle.lists.proofs.CountingLaws.{count_le}
+use Rattle.lists.proofs.ListsLaws.{get_d_any}
+use Rattle.block_networks.specs.Wanted.{mapping}
 use Rattle.block_networks.specs.Selection.{wanting}
 use Rattle.block_selection_bits.specs.Arrays.{PlacesHold, Blank}
 use Rattle.block_selection_bits.proofs.ArraysLaws.{holds-set}
+
+-- the input that an output wants, which its list counts from 1
+pub input-wanted : (wanted : List ℕ) (o : ℕ) → o < length wanted → mapping wanted o ≡ get_or wanted o 0 - 1
+unfolding mapping
+input-wanted wanted o l = ap (λ x. x - 1) (get_d_any wanted o (suc o) 0 l)
 
 pub wanting_le : (want : ℕ → ℕ) (k j : ℕ) → wanting want k j ≤ k
 unfolding wanting

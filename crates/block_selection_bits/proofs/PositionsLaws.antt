@@ -11,8 +11,10 @@ use native.Mathlib.Decide.{ℕ_discrete}
 use native.Mathlib.Omega.{arith}
 use borrow.Author.Tests.{eq-eqb, ne_eqb, le-ltb, ltb-true, ltb-false}
 use lib.Dec.{eqb}
-use lib.ListN.{length, get_or, set}
-use lib.Seq.{set-get_or}
+use lib.ListN.{length, get_or, set, take, drop, length-drop}
+use lib.Seq.{set-get_or, get_or-take, get_or-drop, length-take-le}
+use Rattle.std.proofs.Common.{Option, Some, None, MatchOption}
+use Rattle.std.specs.List.{AllWithin, HoldsAt}
 use Rattle.lists.specs.Lists.{list_of}
 use Rattle.lists.proofs.CountingLaws.{passed, both_ways}
 use Rattle.fault.specs.Buffers.{over}
@@ -87,14 +89,39 @@ head-found counts (suc k) p = go (passed (is_counted counts k)) (ℕ_discrete (h
 
 -- ---- idle inputs
 
-pub idle-within : {counts : List ℕ} {x : ℕ} → IdleFrom counts x → x < length counts
-idle-within t = omega (arith, t.behind, t.within)
+-- the first 0 of the counts from `from` on is that of the next idle input; there is one
+module _ (counts : List ℕ) (from : ℕ) where
+  abbrev rest : List ℕ
+  rest = take (length counts - from) (drop from counts)
 
--- past an input that is not idle
-pub idle_later : {counts : List ℕ} {x : ℕ} → IdleFrom counts x → get_or counts x 0 ≢ 0 → IdleFrom counts (x + 1)
-idle_later {counts} {x} t n =
-    let other : t.input ≢ x = λ e. n (ap (λ y. get_or counts y 0) (sym e) ∙ t.idle) in
-    record { input = t.input; behind = omega (arith, t.behind); within = t.within; idle = t.idle }
+  rest-at : (i : ℕ) → from + i < length counts → get_or (take (length counts - from) (drop from counts)) i 0 ≡ get_or counts (from + i) 0
+  rest-at i l = get_or-take (length counts - from) (drop from counts) i 0 (omega arith) ∙ get_or-drop from counts i 0
+
+  length-rest : length (take (length counts - from) (drop from counts)) ≡ length counts - from
+  length-rest = length-take-le (length counts - from) (drop from counts) (omega (arith, length-drop from counts))
+
+  pub next-found : IdleFrom counts from → (r : Option ℕ)
+      → let rest : List ℕ = take (length counts - from) (drop from counts) in
+      MatchOption r (AllWithin (λ x. x ≢ 0) rest 0 (length rest)) (λ i. (i < length rest) × HoldsAt (λ x. x ≡ 0) rest i × AllWithin (λ x. x ≢ 0) rest 0 i)
+      → (x : ℕ) × (r ≡ Some x) × NextIdle counts from (from + x)
+  next-found t None none =
+      let k = t.input - from in
+      let e : from + k ≡ t.input = omega (arith, t.behind) in
+      let l : from + k < length counts = omega (arith, t.within) in
+      absurd (none k 0 (omega arith) (omega (arith, length-rest)) (rest-at k l ∙ ap (λ y. get_or counts y 0) e ∙ t.idle))
+  next-found t (Some i) (l, here, before) =
+      let within : from + i < length counts = omega (arith, length-rest) in (
+        i,
+        refl,
+        record {
+          behind = omega arith;
+          within = within;
+          idle = sym (rest-at i within) ∙ here 0;
+          first = λ y a b z.
+              let e : from + (y - from) ≡ y = omega arith in
+              before (y - from) 0 (omega arith) (omega arith) (rest-at (y - from) (omega arith) ∙ ap (λ x. get_or counts x 0) e ∙ z);
+        },
+      )
 
 -- the idle inputs before `from` have their positions before p, and the others from p on
 pub record Cursor (counts : List ℕ) (N p from : ℕ) : Type 0 where

@@ -1,7 +1,7 @@
 -- What the checks say of the whole program holds in the part from the first bit's byte on. After success the program holds the defined bits.
-use mathlib.Core.Path.{◌≡◌, ap, ◌∙◌}
+use mathlib.Core.Path.{◌≡◌, sym, ap, ◌∙◌}
 use mathlib.Core.List.{List}
-use Prim.Native.Nat.{ℕ, ◌+◌, ◌-◌}
+use Prim.Native.Nat.{ℕ, ◌+◌, ◌-◌, ◌≤◌}
 use native.Mathlib.Omega.{arith}
 use borrow.Rule.Slice.PartMut.{mid_of}
 use lib.ListN.{length, get_or, take, drop, length-drop}
@@ -13,10 +13,18 @@ use Rattle.block_elements.proofs.BitsLaws.{length-pack, store_bits-at}
 use Rattle.block_networks.specs.Selection.{selection_count, selection_bits}
 use Rattle.block_networks.proofs.SelectionRouting.{length-selection_bits, selection_bits-bits}
 use Rattle.block_program_checks.specs.Checks.{selection_program_fault, selection_program_at_fault}
-use Rattle.block_program_checks.proofs.ChecksLaws.{selection-program-passes}
+use Rattle.block_program_checks.proofs.ChecksLaws.{selection-program-passes, selection-fault-at}
 pub use Rattle.block_program_checks.specs.Checks.{SelectionPasses}
 pub use Rattle.block_program_checks.proofs.ChecksLaws.{selection-program-at_succeeds}
 use Rattle.block_selection_bits.specs.ProgramCalls.{selection_program_result, selection_program_at_result}
+
+-- where the program is stored from its front on, the checks are those of the call that begins there
+pub selection_fault_at_front : (m n : ℕ) (wanted : List ℕ) (room : ℕ) → selection_program_at_fault m n wanted 0 room ≡ selection_program_fault m n wanted room
+selection_fault_at_front = selection-fault-at
+
+-- where no check fails the first bit's byte is in the program, or right behind it
+pub begins_within : (m n : ℕ) (wanted : List ℕ) (start room : ℕ) → 0 ≡ selection_program_at_fault m n wanted start room → bit_byte start ≤ room
+begins_within m n wanted start room e = let fits = (selection-program-passes {m = m} {n = n} {wanted = wanted} (sym e)).fits in omega arith
 
 -- in the part of the program that begins with the first bit's byte
 pub passes_in_part : {m n : ℕ} {wanted : List ℕ} (program : List ℕ) {start byte place : ℕ} → SelectionPasses m n wanted start (length program)

@@ -1,13 +1,13 @@
 -- What the programming's inner calls find and leave in their arrays. Inputs, outputs and positions count from 0; the wanted inputs of a list
 -- count from 1, so that 0 marks a place where none stands yet.
-use Rattle.std.specs.Prelude.{ℕ, zero, suc, ◌+◌, ◌-◌, ◌≤◌, ◌<◌, ◌≡◌, ◌≢◌, Bool, cond, ◌&&◌, List, ◌++◌, eqb, ltb, length, get_or, set, take}
+use Rattle.std.specs.Prelude.{ℕ, zero, suc, ◌+◌, ◌-◌, ◌≤◌, ◌<◌, ◌≡◌, ◌≢◌, Bool, cond, ◌&&◌, List, eqb, ltb, length, get_or, set}
 use Rattle.lists.specs.Lists.{list_of}
 use Rattle.lists.specs.Counting.{one_if}
 use Rattle.block_elements.specs.Bits.{bits_held}
 use Rattle.block_networks.specs.Permutation.{permutation_count, Perm}
-use Rattle.block_networks.specs.Wanted.{Wanted, mapping, taker_of, wanted_bits, wanted_of}
+use Rattle.block_networks.specs.Wanted.{Wanted, mapping, taker_of, wanted_bits}
 use Rattle.block_networks.specs.Completion.{completed, RisingCompletion}
-use Rattle.block_networks.specs.Selection.{Selected, wanting, copies, head_of, position_of, copy_of}
+use Rattle.block_networks.specs.Selection.{Selected, wanting, head_of}
 use Rattle.block_sizes.specs.Sizes.{max_size, level_of, SizeIs}
 
 -- the wanted inputs of a block of N positions
@@ -16,11 +16,6 @@ pub record Demand (N : ℕ) (wanted : List ℕ) : Type 0 where
   pub few : length wanted ≤ N
   pub most : N ≤ max_size
 
--- the places of an array: one for each of N positions, and no more than the largest block has
-pub record PlacesFor (N places : ℕ) : Type 0 where
-  pub enough : N ≤ places
-  pub most : places ≤ max_size
-
 -- place i of the array holds f i, which is 0 past the end
 pub record PlacesHold (f : ℕ → ℕ) (array : List ℕ) : Type 0 where
   pub each : (i : ℕ) → get_or array i 0 ≡ f i
@@ -28,14 +23,6 @@ pub record PlacesHold (f : ℕ → ℕ) (array : List ℕ) : Type 0 where
 -- none of its places is used yet
 abbrev pub Blank : List ℕ → Type 0
 Blank array = PlacesHold (λ i. 0) array
-
--- the arrays of a block of N positions, before anything is found
-pub record ArraysFor (N : ℕ) (counts heads list : List ℕ) : Type 0 where
-  pub count_places : PlacesFor N (length counts)
-  pub head_places : PlacesFor N (length heads)
-  pub list_places : PlacesFor N (length list)
-  pub none_counted : Blank counts
-  pub none_listed : Blank list
 
 -- ---- positions, by counts: `counts` tells for each input how many outputs want it
 
@@ -106,29 +93,9 @@ chain_bit_by counts list i = one_if (is_counted counts (get_or list (i + 1) 0 - 
 abbrev pub chain_bits_by : List ℕ → List ℕ → List ℕ
 chain_bits_by counts list = list_of (length list - 1) (chain_bit_by counts list)
 
--- the bits of the first network and the chain, for the list of the inputs of the positions
-abbrev pub first_bits : List ℕ → List ℕ → List ℕ
-first_bits counts list = network_bits list ++ chain_bits_by counts list
-
--- how many those are, for N positions
-abbrev pub first_count : ℕ → ℕ
-first_count N = permutation_count (level_of N) + (N - 1)
-
--- the bits of the second network of N positions
-abbrev pub second_network_bits : ℕ → List ℕ → List ℕ
-second_network_bits N wanted = wanted_bits (level_of N) (wanted_of N (copy_of (mapping wanted) (length wanted)))
-
 -- ---- copies
 
 -- after the first o outputs, the position of the next copy of an input stands at the input's place; here of the input that output x wants
 pub record NextCopies (wanted : List ℕ) (o : ℕ) (heads : List ℕ) : Type 0 where
   pub each : o ≤ length wanted → (x : ℕ) → x < length wanted → let j : ℕ = mapping wanted x in
       get_or heads j 0 ≡ head_of (mapping wanted) (length wanted) j + wanting (mapping wanted) o j
-
--- ---- all that is found before a bit is stored
-
--- how many outputs want each input, the heads of the inputs, and the inputs of the first network's N positions
-pub record PositionsFound (N : ℕ) (wanted counts heads list : List ℕ) : Type 0 where
-  pub counted : PlacesHold (copies (mapping wanted) (length wanted)) counts
-  pub headed : NextCopies wanted 0 heads
-  pub listed : take N list ≡ wanted_of N (taker_of N (position_of (mapping wanted) (length wanted) N))

@@ -1,6 +1,6 @@
 // S(m, n) as a block of N inputs and N outputs: the first P, the chain, the second P, each in its own stretch of the table. Two lists of
-// wires carry it through: `from` holds what feeds the next P, `to` what the last P gave.
-ghost use Rattle.std.specs.Prelude.{◌≡◌, ◌-◌, length, take};
+// N wires carry it through: `from` holds what feeds the next P, `to` what the last P gave.
+ghost use Rattle.std.specs.Prelude.{◌≡◌, ◌-◌, length};
 ghost use Rattle.fault.specs.Buffers.{over};
 ghost use Rattle.block_elements.specs.Rows.{flat};
 ghost use Rattle.block_networks.specs.Permutation.{permutation_rows, permutation_outs};
@@ -23,27 +23,25 @@ struct SelectionParts {
     second_next: FabricWire,
 }
 
-// The block of `size` positions on the first wires of `from`: its rows to the front of the table's part, its output wires to the front of `to`.
-pub(crate) fn write_block(
-    size: u32,
-    next: FabricWire,
-    rows: &mut [u16],
-    from: &mut [u16],
-    to: &mut [u16],
-)
-    requires { BlockRoom size from.old next.0 (length rows.old) (length to.old) }
-    ensures rows_after { rows.new ≡ over (flat (whole_rows (level_of size) from.old next.0)) rows.old }
-    ensures to_after { to.new ≡ over (whole_outs (level_of size) from.old next.0) to.old }
+// The block on the wires of `from`: its rows to the front of the table's part, its output wires to `to`.
+pub(crate) fn write_block(next: FabricWire, rows: &mut [u16], from: &mut [u16], to: &mut [u16])
+    requires { BlockRoom from.old next.0 (length rows.old) (length to.old) }
+    ensures rows_after { rows.new ≡ over (flat (whole_rows (level_of (length from.old)) from.old next.0)) rows.old }
+    ensures to_after { to.new ≡ whole_outs (level_of (length from.old)) from.old next.0 }
 {
-    let parts = selection_parts(size, next);
-    let chain = parts.chain;
-    let second = parts.second;
-    write_network(size, next, rows, from, to);
-    write_chain(size, parts.chain_next, &mut rows[chain..], from, to);
-    write_network(size, parts.second_next, &mut rows[second..], from, to);
+    let SelectionParts {
+        chain,
+        second,
+        chain_next,
+        second_next,
+    } = selection_parts(from.len() as u32, next);
+    write_network(next, rows, from, to);
+    write_chain(chain_next, &mut rows[chain..], from, to);
+    write_network(second_next, &mut rows[second..], from, to);
 }
 
 // A row of P makes two wires, a row of the chain one.
+#[tactic(auto, using(crate::proofs::BlockLaws::few_of_one))]
 fn selection_parts(size: u32, next: FabricWire) -> SelectionParts
     requires { BlockWires size next.0 }
     ensures { SelectionPartsAt (level_of size) next.0 result }
@@ -58,31 +56,32 @@ fn selection_parts(size: u32, next: FabricWire) -> SelectionParts
     }
 }
 
-// P on the first wires of `from`: its rows to the front of the table's part, its output wires to the front of `to`.
-fn write_network(size: u32, next: FabricWire, rows: &mut [u16], from: &[u16], to: &mut [u16])
-    requires { WritePasses size (take size from.now) next.0 (length rows.old) (length to.old) }
-    ensures rows_after { rows.new ≡ over (flat (permutation_rows (level_of size) (take size from.now) next.0)) rows.old }
-    ensures to_after { to.new ≡ over (permutation_outs (level_of size) (take size from.now) next.0) to.old }
+// P on the wires of `from`: its rows to the front of the table's part, its output wires to `to`. P's call has nothing to refuse.
+fn write_network(next: FabricWire, rows: &mut [u16], from: &[u16], to: &mut [u16])
+    requires passes { WritePasses (length from.now) from.now next.0 (length rows.old) (length to.old) }
+    requires places { length to.old ≡ length from.now }
+    ensures rows_after { rows.new ≡ over (flat (permutation_rows (level_of (length from.now)) from.now next.0)) rows.old }
+    ensures to_after { to.new ≡ permutation_outs (level_of (length from.now)) from.now next.0 }
 {
-    let end = size as usize;
-    write_permutation(size, &from[..end], next, rows, to);
+    write_permutation(from.len() as u32, from, next, rows, to).unwrap();
 }
 
-// The chain over the wires of `to`: its rows to the front of the table's part, its wires to the front of `from`.
-fn write_chain(size: u32, next: FabricWire, rows: &mut [u16], from: &mut [u16], to: &[u16])
-    requires { ChainRoom size next.0 (length rows.old) (length from.old) (length to.now) }
-    ensures rows_after { rows.new ≡ over (flat (chain_rows (size - 1) to.now next.0)) rows.old }
-    ensures from_after { from.new ≡ over (chain_outs size to.now next.0) from.old }
+// The chain over the wires of `to`: its rows to the front of the table's part, its wires to `from`.
+fn write_chain(next: FabricWire, rows: &mut [u16], from: &mut [u16], to: &[u16])
+    requires { ChainRoom (length to.now) next.0 (length rows.old) (length from.old) }
+    ensures rows_after { rows.new ≡ over (flat (chain_rows (length to.now - 1) to.now next.0)) rows.old }
+    ensures from_after { from.new ≡ chain_outs (length to.now) to.now next.0 }
 {
-    link_wires(size, next, from, to);
-    put_pairs(rows, Kind::Y, size - 1, from, &to[1..], 1);
+    link_wires(next, from, to);
+    put_pairs(rows, Kind::Y, to.len() as u32 - 1, from, &to[1..], 1);
 }
 
 // The chain's wires: the first of `to`, then those that its rows make.
-fn link_wires(size: u32, next: FabricWire, from: &mut [u16], to: &[u16])
-    requires { LinkRoom size next.0 (length from.old) (length to.now) }
-    ensures { from.new ≡ over (chain_outs size to.now next.0) from.old }
+fn link_wires(next: FabricWire, from: &mut [u16], to: &[u16])
+    requires { LinkRoom (length to.now) next.0 (length from.old) }
+    ensures { from.new ≡ chain_outs (length to.now) to.now next.0 }
 {
     from[0] = to[0];
-    put_wires(&mut from[1..], size as usize - 1, next, 1);
+    let links = from.len() - 1;
+    put_wires(&mut from[1..], links, next, 1);
 }

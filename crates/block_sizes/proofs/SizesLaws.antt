@@ -1,13 +1,17 @@
 -- A size that is allowed is two to the power of its level, which is at most 9, and so is the level of S(m, n). The counts are small then.
-use mathlib.Core.Path.{◌≡◌, refl, ap, ◌∙◌}
+use mathlib.Core.Path.{◌≡◌, refl, sym, ap, ◌∙◌}
 use mathlib.Core.Logic.{◌↔◌}
 use mathlib.Core.Bool.{true, ◌&&◌, and-eq-true_iff}
-use Prim.Native.Nat.{ℕ, ◌+◌, ◌-◌, ◌*◌, ◌^◌, ◌≤◌, max}
-use native.Mathlib.Nat.{mul-le-mul, mul_comm}
+use Prim.Native.Nat.{ℕ, zero, suc, ◌+◌, ◌*◌, ◌/◌, ◌%◌, ◌^◌, ◌<◌, ◌≤◌}
+use native.Mathlib.Nat.{mul-le-mul, mul_comm, pow-suc}
 use native.Mathlib.Omega.{arith}
-use borrow.Author.Tests.{leb-true, eqb-true, le-leb, eq-eqb}
+use native.Mathlib.Decide.{ℕ_discrete, dec_le}
+use borrow.Author.Tests.{leb-true, eqb-true, le-leb, lt-leb, eq-eqb, ne_eqb}
+use lib.Count.{ones_step}
 use lib.Dec.{leb, eqb}
 use lib.Pow.{pow_mono, pow_pos}
+use Rattle.std.specs.Int.RustNames.{count_ones}
+use Rattle.std.proofs.lemmas.Nat.{zero_from_ones, ones_le_self}
 use Rattle.fault.proofs.ChecksLaws.{unless-zero, and_then-zero}
 use Rattle.powers.specs.Powers.{ceil_log, ceil_power}
 use Rattle.powers.proofs.PowersLaws.{ceil_log-least, ceil_log-power, below_power}
@@ -35,6 +39,41 @@ power-allowed n h =
 pub power_small : (n : ℕ) → n ≤ max_level → 2 ^ n ≤ max_size
 power_small n h = pow_mono h
 
+-- ---- one bit of a number is set exactly if the number is a power of two, which is what `ceil_power` leaves as it is
+
+ones_of_power : (k : ℕ) → count_ones (2 ^ k) ≡ 1
+ones_of_power zero = let s = ones_step 1 in omega (arith, ones_le_self 0)
+ones_of_power (suc k) =
+    let half : 2 ^ suc k / 2 ≡ 2 ^ k = omega (arith, pow-suc 2 k) in
+    omega (arith, ones_step (2 ^ suc k), pow-suc 2 k, ones_of_power k, ap count_ones half)
+
+power_of_ones : (d n : ℕ) → n ≤ d → count_ones n ≡ 1 → (k : ℕ) × (n ≡ 2 ^ k)
+power_of_ones zero n h e = absurd (omega (arith, ones_le_self n))
+power_of_ones (suc d) n h e =
+    let s = ones_step n in
+    let some = ones_le_self n in
+    elim (ℕ_discrete (n % 2) 0) [
+      | yes even ↦
+          let w = power_of_ones d (n / 2) (omega arith) (omega arith) in
+          (suc w.0, omega (arith, pow-suc 2 w.0, w.1))
+      | no odd ↦ let z = zero_from_ones (n / 2) (omega arith) in (0, omega arith)
+    ]
+
+pub power_test : (n : ℕ) → eqb (count_ones n) 1 ≡ (leb 1 n && eqb (ceil_power n) n)
+unfolding ceil_power
+power_test n = elim (ℕ_discrete (count_ones n) 1) [
+  | yes e ↦
+      let w = power_of_ones n n (omega arith) e in
+      let same : 2 ^ ceil_log n ≡ n = rw w.1 (rw (ceil_log-power w.0)) in
+      rw (eq-eqb (count_ones n) 1 e, le-leb 1 n (omega (arith, ones_le_self n)), eq-eqb (2 ^ ceil_log n) n same)
+  | no d ↦
+      rw (ne_eqb (count_ones n) 1 d)
+      (elim (dec_le 1 n) [
+        | yes y ↦ rw (le-leb 1 n y, ne_eqb (2 ^ ceil_log n) n (λ e. d (ap count_ones (sym e) ∙ ones_of_power (ceil_log n))))
+        | no z ↦ rw (lt-leb 1 n (omega arith))
+      ])
+]
+
 -- ---- the sizes of S
 
 pub selection-sizes-allowed : (m n : ℕ) → (selection_sizes_fault m n ≡ 0) ↔ SelectionSizes m n
@@ -57,15 +96,11 @@ selection-level-small {m} {n} s = level-least m n max_level s.inputs s.outputs
 -- ---- counts
 
 -- n log n - n + 1 for n = 2 ^ level
-pub record RowCount (n level : ℕ) : Type 0 where
-  pub enough : n ≤ n * level + 1
-  pub count : n * level + 1 - n ≡ permutation_count level
+pub row_count : (level : ℕ) → permutation_count level + 2 ^ level ≡ 2 ^ level * level + 1
+row_count level = permutation_count_lem level ∙ ap (λ k. k + 1) (mul_comm level (2 ^ level))
 
-pub row_count : {n level : ℕ} → n ≡ 2 ^ level → RowCount n level
-row_count {n} {level} e =
-    let some : 1 ≤ n = rw e (pow_pos level) in
-    let c : permutation_count level + n ≡ n * level + 1 = rw e (permutation_count_lem level ∙ ap (λ k. k + 1) (mul_comm level (2 ^ level))) in
-    record { enough = omega arith; count = omega arith }
+pub positions_fit : (level : ℕ) → 2 ^ level ≤ 2 ^ level * level + 1
+positions_fit level = omega (arith, row_count level)
 
 -- the rows of P at a level are no more than its positions times the level
 pub count_most : (level top : ℕ) → level ≤ top → permutation_count level ≤ top * 2 ^ top
@@ -94,29 +129,33 @@ few-wires m n s =
     let level : ℕ = selection_level m n in
     omega (arith, few-rows level (selection-level-small s), power_small level (selection-level-small s))
 
--- the counts of S(m, n) from those of one of its networks, for any m and n of 32 bits
-pub record SelectionCounts (m n one size : ℕ) : Type 0 where
-  pub some : 1 ≤ size
-  pub sizes : size ≤ 2 ^ 32
-  pub few : one ≤ 32 * 2 ^ 32
-  pub count : one + (size - 1 + one) ≡ selection_count m n
-  pub wires : 2 * one + (size - 1 + 2 * one) ≡ selection_wires m n
-
-pub selection-counts : (m n one size : ℕ) → m ≤ 2 ^ 32 → n ≤ 2 ^ 32 → one ≡ permutation_count (level_of (max m n)) → size ≡ 2 ^ selection_level m n
-    → SelectionCounts m n one size
-unfolding selection_count selection_wires whole_count whole_wires selection_level
-selection-counts m n one size lm ln e f =
-    let level : ℕ = selection_level m n in
-    let few : level ≤ 32 = level-least m n 32 lm ln in
-    record {
-      some = rw f (pow_pos level);
-      sizes = rw f (pow_mono few);
-      few = rw e (count_most level 32 few);
-      count = rw (e, f);
-      wires = rw (e, f);
-    }
-
 -- a row makes a wire or two
 pub rows_make : (m n : ℕ) → selection_count m n ≤ selection_wires m n
 unfolding selection_count selection_wires whole_count whole_wires
 rows_make m n = omega arith
+
+-- ---- numbers of 32 bits: nothing that is counted is lost
+
+pub log_small : (n : ℕ) → n < 2 ^ 32 → ceil_log n ≤ 32
+log_small n h = ceil_log-least n 32 (omega arith)
+
+pub product_small : (n : ℕ) → n < 2 ^ 32 → 2 ^ ceil_log n * ceil_log n ≤ 2 ^ 32 * 32
+product_small n h = mul-le-mul (pow_mono (log_small n h)) (log_small n h)
+
+pub rows_small : (n : ℕ) → n < 2 ^ 32 → permutation_count (level_of n) ≤ 32 * 2 ^ 32
+rows_small n h = count_most (level_of n) 32 (log_small n h)
+
+pub positions_small : (m n : ℕ) → m < 2 ^ 32 → n < 2 ^ 32 → 2 ^ selection_level m n ≤ 2 ^ 32
+unfolding selection_level
+positions_small m n lm ln = pow_mono (level-least m n 32 (omega arith) (omega arith))
+
+-- ---- allowed sizes: what is counted is small
+
+pub most_of_allowed : (N : ℕ) → size_allowed N ≡ true → N ≤ max_size
+most_of_allowed N e = (size_is N e).most
+
+pub rows_of_allowed : (N : ℕ) → size_allowed N ≡ true → permutation_count (level_of N) ≤ max_level * max_size
+rows_of_allowed N e = few-rows (level_of N) (size_is N e).level
+
+pub wires_of_allowed : (m n : ℕ) → selection_sizes_fault m n ≡ 0 → selection_wires m n ≤ 4 * (max_level * max_size) + max_size
+wires_of_allowed m n e = few-wires m n ((selection-sizes-allowed m n).0 e)

@@ -6,27 +6,26 @@ ghost use Rattle.block_write_checks.specs.WriteChecks.{write_fault};
 use crate::wires::{check_room, check_wires};
 use block_sizes::{permutation_count, size_allowed};
 use elements::FabricWire;
-use fault::{Answer, Fault};
+use fault::Fault;
 
 // The checks of writing P: 2, 12, 13, 11.
+#[tactic(auto, using(block_sizes::proofs::SizesLaws::rows_of_allowed), unfolding(crate::specs::WriteChecks::write_fault, fault::specs::Checks::list_fault))]
 pub fn check_permutation_write(
     n: u32,
     inputs: &[u16],
     next: FabricWire,
     rows: usize,
     outputs: usize,
-) -> Answer
+) -> Result<(), Fault>
     ensures { answer_number result ≡ write_fault n inputs.now next.0 rows outputs }
 {
     if !size_allowed(n) {
-        return Answer::Refused(Fault::Inputs);
+        return Err(Fault::Inputs);
     }
     if inputs.len() != n as usize {
-        return Answer::Refused(Fault::Contact);
+        return Err(Fault::Contact);
     }
     let count = permutation_count(n) as u32;
-    match check_wires(inputs, next, 2 * count) {
-        Answer::Refused(f) => Answer::Refused(f),
-        Answer::Done => check_room(count, n, rows, outputs),
-    }
+    check_wires(inputs, next, 2 * count)?;
+    check_room(count, n, rows, outputs)
 }

@@ -3,13 +3,14 @@
 // refuses by document 01's numbers in its order, and on a refusal changes no buffer.
 #![tactic(auto)]
 
-pub use block_bits::{BYTE_BITS, bytes_for, fill_bytes, read_bit, smaller, store_bit, store_field};
+pub use block_bits::{
+    BYTE_BITS, bytes_for, fill_bytes, read_bit, store_bit, store_bits_by, store_field,
+};
 pub use block_counts::{count_permutation, count_selection};
 pub use block_permutation_bits::{program_permutation, program_permutation_at};
 pub use block_permutation_rows::write_permutation;
 pub use block_rows::{
-    LEFT_PLACE, RIGHT_PLACE, STRIDE, copy_wires, put_pairs, put_row, put_wires, row_place, wide,
-    wire_at,
+    LEFT_PLACE, RIGHT_PLACE, STRIDE, copy_wires, put_pairs, put_row, put_wires, row_place, wire_at,
 };
 pub use block_selection_bits::{program_selection, program_selection_at};
 pub use block_selection_rows::write_selection;

@@ -2,10 +2,11 @@
 // 0 where it was done. A slice is a pointer and a length there. A refusal writes through no pointer.
 #![tactic(auto)]
 
-ghost use Rattle.std.specs.Prelude.{◌≡◌, length};
+ghost use Rattle.std.specs.Prelude.{◌≡◌, [], length};
 ghost use Rattle.elements.specs.Elements.{count_outcome};
 ghost use Rattle.blocks.specs.Calls.{write_fault, selection_write_fault, written_rows, written_outputs, selection_written_rows, selection_written_outputs};
 ghost use Rattle.blocks.specs.Calls.{permutation_counting, selection_counting, program_fault, selection_program_fault, program_result, selection_program_result};
+ghost use Rattle.plan.specs.Record.{max_gates, places};
 ghost use Rattle.plan.specs.Faults.{plan_fault};
 ghost use Rattle.plan_evaluation_checks.specs.EvaluationChecks.{evaluate_fault};
 ghost use Rattle.plan_series_checks.specs.SeriesChecks.{plan_series_fault};
@@ -20,11 +21,10 @@ ghost use Rattle.fabric.specs.Fabrics.{counting, kind_counting, fabric_result, f
 ghost use Rattle.fabric.specs.Fabrics.{run_series_fault, run_series_work, run_series_results, run_series_end};
 ghost use Rattle.capi.specs.Exports.{export_outcome, export_drawn, export_edit, export_saved, counts_of, export_sheet};
 
-use elements::{CountAnswer, FabricWire, KindCounts, SheetAnswer};
+use elements::{Counts, FabricWire, KindCounts};
+use fault::{Fault, answer_number};
 use plan::{Gate, Plan, PlanWire};
-use plan_edits::Edited;
-use plan_reading::ReadAnswer;
-use plan_saving::SaveAnswer;
+use plan_series_checks::Series;
 
 // The header's struct mkd_read: number and offset 0 where a plan was read, the plan all zero where not.
 #[repr(C)]
@@ -40,21 +40,18 @@ pub struct Read {
 pub extern "C" fn mkd_plan_read(file: &[u8]) -> Read
     ensures { export_outcome result ≡ plan_read file.now }
 {
-    let read = plan_reading::read_plan(file);
-    let answer = read.answer;
-    let record = read.plan;
-    match answer {
-        ReadAnswer::Accepted => Read {
+    match plan_reading::read_plan(file) {
+        Ok(read) => Read {
             number: 0,
             at: 0,
-            plan: record,
+            plan: read,
         },
-        ReadAnswer::Refused(x) => {
-            let fault = x.fault;
+        Err(refusal) => {
+            let unread = Plan::zero();
             Read {
-                number: fault.number(),
-                at: x.at as u64,
-                plan: record,
+                number: u32::from(refusal.fault),
+                at: refusal.at as u64,
+                plan: unread,
             }
         }
     }
@@ -75,27 +72,34 @@ pub struct Drawn {
 pub extern "C" fn mkd_plan_read_drawn(file: &[u8]) -> Drawn
     ensures { export_drawn result ≡ drawn_read file.now }
 {
-    let read = plan_drawn::read_drawn(file);
-    let answer = read.answer;
-    let ordered = read.plan;
-    let numbers = read.drawn;
-    match answer {
-        ReadAnswer::Accepted => Drawn {
-            number: 0,
-            at: 0,
-            plan: ordered,
-            drawn: numbers,
-        },
-        ReadAnswer::Refused(y) => {
-            let fault = y.fault;
+    match plan_drawn::read_drawn(file) {
+        Ok(read) => {
+            let ordered = read.plan;
+            let numbers = read.drawn;
             Drawn {
-                number: fault.number(),
-                at: y.at as u64,
+                number: 0,
+                at: 0,
                 plan: ordered,
                 drawn: numbers,
             }
         }
+        Err(refused) => {
+            let none = no_numbers();
+            Drawn {
+                number: u32::from(refused.fault),
+                at: refused.at as u64,
+                plan: Plan::zero(),
+                drawn: none,
+            }
+        }
     }
+}
+
+// The drawn numbers of no gate.
+fn no_numbers() -> [u16; Plan::MAX_GATES]
+    ensures { result ≡ places max_gates 0 [] }
+{
+    [0; Plan::MAX_GATES]
 }
 
 // The first fault of a plan in memory.
@@ -103,7 +107,7 @@ pub extern "C" fn mkd_plan_read_drawn(file: &[u8]) -> Drawn
 pub extern "C" fn mkd_plan_fault(plan: Plan) -> u32
     ensures { result ≡ plan_fault plan }
 {
-    plan::plan_fault(plan).number()
+    answer_number(plan::plan_fault(plan))
 }
 
 // The header's struct mkd_edit: number 0 with the edited plan, or a refusal with the plan as it went in.
@@ -114,15 +118,19 @@ pub struct Edit {
     pub plan: Plan,
 }
 
-// The answer of an edit as the header's struct.
-fn export_edit(edited: Edited) -> Edit
-    ensures { export_edit result ≡ edited_outcome edited }
+// The answer of an edit of a plan as the header's struct.
+fn export_edit(plan: Plan, answer: Result<Plan, Fault>) -> Edit
+    ensures { export_edit result ≡ edited_outcome plan answer }
 {
-    let answer = edited.answer;
-    let record = edited.plan;
-    Edit {
-        number: answer.number(),
-        plan: record,
+    match answer {
+        Ok(edited) => Edit {
+            number: 0,
+            plan: edited,
+        },
+        Err(refused) => Edit {
+            number: u32::from(refused),
+            plan: plan,
+        },
     }
 }
 
@@ -131,7 +139,7 @@ fn export_edit(edited: Edited) -> Edit
 pub extern "C" fn mkd_plan_replace_gate(plan: Plan, gate: u32, new_gate: Gate) -> Edit
     ensures { export_edit result ≡ gate_replaced plan gate new_gate }
 {
-    export_edit(plan_edits::replace_gate(plan, gate, new_gate))
+    export_edit(plan, plan_edits::replace_gate(plan, gate, new_gate))
 }
 
 // Appends a gate to a plan.
@@ -139,7 +147,7 @@ pub extern "C" fn mkd_plan_replace_gate(plan: Plan, gate: u32, new_gate: Gate) -
 pub extern "C" fn mkd_plan_append_gate(plan: Plan, new_gate: Gate) -> Edit
     ensures { export_edit result ≡ gate_appended plan new_gate }
 {
-    export_edit(plan_edits::append_gate(plan, new_gate))
+    export_edit(plan, plan_edits::append_gate(plan, new_gate))
 }
 
 // Replaces an output of a plan.
@@ -147,7 +155,10 @@ pub extern "C" fn mkd_plan_append_gate(plan: Plan, new_gate: Gate) -> Edit
 pub extern "C" fn mkd_plan_replace_output(plan: Plan, output: u32, wire: u16) -> Edit
     ensures { export_edit result ≡ output_replaced plan output (record { 0 = wire }) }
 {
-    export_edit(plan_edits::replace_output(plan, output, PlanWire(wire)))
+    export_edit(
+        plan,
+        plan_edits::replace_output(plan, output, PlanWire(wire)),
+    )
 }
 
 // The plan's outputs on a row of inputs.
@@ -156,7 +167,7 @@ pub extern "C" fn mkd_plan_evaluate(plan: Plan, row: &[u8], res: &mut [u8]) -> u
     ensures answered { result ≡ evaluate_fault plan row.now (length res.old) }
     ensures written { res.new ≡ evaluate_result plan row.now res.old }
 {
-    plan_evaluation::evaluate(plan, row, res).number()
+    answer_number(plan_evaluation::evaluate(plan, row, res))
 }
 
 // The plan's outputs on a series of rows, whose last entries are the last outputs of the row before.
@@ -174,7 +185,13 @@ pub extern "C" fn mkd_plan_series(
     ensures written { results.new ≡ plan_series_results plan hold intervals fresh.now start.now results.old end.old }
     ensures ended { end.new ≡ plan_series_end plan hold intervals fresh.now start.now results.old end.old }
 {
-    plan_evaluation::evaluate_series(plan, hold, intervals, fresh, start, results, end).number()
+    let series = Series {
+        hold,
+        intervals,
+        fresh,
+        start,
+    };
+    answer_number(plan_evaluation::evaluate_series(plan, series, results, end))
 }
 
 // The header's struct mkd_saved: number 0 with the length of the file that was written, length 0 where none was.
@@ -192,12 +209,12 @@ pub extern "C" fn mkd_plan_save(plan: Plan, file: &mut [u8]) -> Saved
     ensures written { file.new ≡ save_result plan file.old }
 {
     match plan_saving::save_plan(plan, file) {
-        SaveAnswer::Saved(length) => Saved {
+        Ok(length) => Saved {
             number: 0,
             length: length as u64,
         },
-        SaveAnswer::Refused(f) => Saved {
-            number: f.number(),
+        Err(fault) => Saved {
+            number: u32::from(fault),
             length: 0,
         },
     }
@@ -214,18 +231,18 @@ pub struct Counted {
 }
 
 // The answer of counting as the header's struct.
-fn export_counts(answer: CountAnswer) -> Counted
+fn export_counts(answer: Result<Counts, Fault>) -> Counted
     ensures { counts_of result ≡ count_outcome answer }
 {
     match answer {
-        CountAnswer::Counted(c) => Counted {
+        Ok(counts) => Counted {
             number: 0,
-            rows: c.rows,
-            wires: c.wires,
-            bits: c.bits,
+            rows: counts.rows,
+            wires: counts.wires,
+            bits: counts.bits,
         },
-        CountAnswer::Refused(f) => Counted {
-            number: f.number(),
+        Err(fault) => Counted {
+            number: u32::from(fault),
             rows: 0,
             wires: 0,
             bits: 0,
@@ -262,7 +279,7 @@ pub extern "C" fn mkd_permutation_write(
     ensures rows { rows.new ≡ written_rows n inputs.now next rows.old outputs.old }
     ensures outputs { outputs.new ≡ written_outputs n inputs.now next rows.old outputs.old }
 {
-    blocks::write_permutation(n, inputs, FabricWire(next), rows, outputs).number()
+    answer_number(blocks::write_permutation(n, inputs, FabricWire(next), rows, outputs))
 }
 
 // Programs P(n) for the wanted inputs.
@@ -271,7 +288,7 @@ pub extern "C" fn mkd_permutation_program(n: u32, wanted: &[u16], program: &mut 
     ensures answered { result ≡ program_fault n wanted.now (length program.old) }
     ensures written { program.new ≡ program_result n wanted.now program.old }
 {
-    blocks::program_permutation(n, wanted, program).number()
+    answer_number(blocks::program_permutation(n, wanted, program))
 }
 
 // Writes the selection network S(m, n): its rows and its output wires.
@@ -288,7 +305,7 @@ pub extern "C" fn mkd_selection_write(
     ensures rows { rows.new ≡ selection_written_rows m n inputs.now next rows.old outputs.old }
     ensures outputs { outputs.new ≡ selection_written_outputs m n inputs.now next rows.old outputs.old }
 {
-    blocks::write_selection(m, n, inputs, FabricWire(next), rows, outputs).number()
+    answer_number(blocks::write_selection(m, n, inputs, FabricWire(next), rows, outputs))
 }
 
 // Programs S(m, n) for the wanted inputs.
@@ -297,7 +314,7 @@ pub extern "C" fn mkd_selection_program(m: u32, n: u32, wanted: &[u16], program:
     ensures answered { result ≡ selection_program_fault m n wanted.now (length program.old) }
     ensures written { program.new ≡ selection_program_result m n wanted.now program.old }
 {
-    blocks::program_selection(m, n, wanted, program).number()
+    answer_number(blocks::program_selection(m, n, wanted, program))
 }
 
 // The rows, wires and program bits of the fabric of u inputs, k gates and v outputs.
@@ -325,20 +342,14 @@ pub extern "C" fn mkd_fabric_sheet(u: u32, k: u32, v: u32) -> FabricSheet
     ensures { export_sheet result ≡ kind_counting u k v }
 {
     match fabric::count_kinds(u, k, v) {
-        SheetAnswer::Counted(s) => {
-            let input = s.input;
-            let block = s.block;
-            let output = s.output;
-            let sum = s.sum;
-            FabricSheet {
-                number: 0,
-                input,
-                block,
-                output,
-                sum,
-            }
-        }
-        SheetAnswer::Refused(f) => {
+        Ok(sheet) => FabricSheet {
+            number: 0,
+            input: sheet.input,
+            block: sheet.block,
+            output: sheet.output,
+            sum: sheet.sum,
+        },
+        Err(fault) => {
             let none = KindCounts {
                 x: 0,
                 y: 0,
@@ -346,7 +357,7 @@ pub extern "C" fn mkd_fabric_sheet(u: u32, k: u32, v: u32) -> FabricSheet
                 total: 0,
             };
             FabricSheet {
-                number: f.number(),
+                number: u32::from(fault),
                 input: none,
                 block: none,
                 output: none,
@@ -362,7 +373,7 @@ pub extern "C" fn mkd_fabric(u: u32, k: u32, v: u32, table: &mut [u16]) -> u32
     ensures answered { result ≡ fabric_fault u k v (length table.old) }
     ensures written { table.new ≡ fabric_result u k v table.old }
 {
-    fabric::write_fabric(u, k, v, table).number()
+    answer_number(fabric::write_fabric(u, k, v, table))
 }
 
 // The program bits of a plan.
@@ -371,7 +382,7 @@ pub extern "C" fn mkd_program(plan: Plan, program: &mut [u8]) -> u32
     ensures answered { result ≡ plan_program_fault plan (length program.old) }
     ensures written { program.new ≡ plan_program_result plan program.old }
 {
-    fabric::program_plan(plan, program).number()
+    answer_number(fabric::program_plan(plan, program))
 }
 
 // The run of a table with a program on a row of input contacts.
@@ -387,7 +398,7 @@ pub extern "C" fn mkd_run(
     ensures worked { work.new ≡ run_work table.now program.now row.now work.old res.old }
     ensures written { res.new ≡ run_result table.now program.now row.now work.old res.old }
 {
-    fabric::run(table, program, row, work, res).number()
+    answer_number(fabric::run(table, program, row, work, res))
 }
 
 // The run of a table with a program on a series of rows, whose last entries are the last outputs of the row before.
@@ -408,8 +419,11 @@ pub extern "C" fn mkd_run_series(
     ensures written { results.new ≡ run_series_results table.now program.now hold intervals fresh.now start.now work.old results.old end.old }
     ensures ended { end.new ≡ run_series_end table.now program.now hold intervals fresh.now start.now work.old results.old end.old }
 {
-    fabric::run_series(
-        table, program, hold, intervals, fresh, start, work, results, end,
-    )
-    .number()
+    let series = Series {
+        hold,
+        intervals,
+        fresh,
+        start,
+    };
+    answer_number(fabric::run_series(table, program, series, work, results, end))
 }

@@ -6,7 +6,7 @@ ghost use Rattle.console.specs.Plans.{small_plan_read};
 
 use fault::{Fault, Refusal};
 use plan::Plan;
-use plan_reading::{PlanRead, ReadAnswer, read_plan};
+use plan_reading::read_plan;
 
 // A program refuses a plan with more gates, as document 01 says of `twintest`.
 const MOST_GATES: u16 = 64;
@@ -19,25 +19,15 @@ pub fn read_input(file: &mut [u8]) -> usize
 }
 
 // The plan that a file holds, if it has at most 64 gates.
-pub fn read_small_plan(file: &[u8]) -> PlanRead
+pub fn read_small_plan(file: &[u8]) -> Result<Plan, Refusal>
     ensures { read_outcome result ≡ small_plan_read file.now }
 {
-    let read = read_plan(file);
-    let answer = read.answer;
-    let plan = read.plan;
-    match answer {
-        ReadAnswer::Refused(_) => read,
-        ReadAnswer::Accepted => {
-            if plan.gate_count > MOST_GATES {
-                return PlanRead {
-                    answer: ReadAnswer::Refused(Refusal {
-                        fault: Fault::Short,
-                        at: 0,
-                    }),
-                    plan: Plan::zero(),
-                };
-            }
-            read
-        }
+    let plan = read_plan(file)?;
+    if plan.gate_count > MOST_GATES {
+        return Err(Refusal {
+            fault: Fault::Short,
+            at: 0,
+        });
     }
+    Ok(plan)
 }

@@ -1,5 +1,7 @@
 // Text in a lent buffer. Each function puts something behind the first `at` bytes, as far as there is room, and answers the length of the text.
-ghost use Rattle.std.specs.Prelude.{◌≡◌, [], ◌∷◌, min};
+// Kept: an array of bytes with the text's length beside it, and no String: nothing is allocated; `ArrayString` takes a piece whole or not at all, and
+// here what has room is put.
+ghost use Rattle.std.specs.Prelude.{[], ◌∷◌};
 ghost use Rattle.fault.specs.Number.{fault_number};
 ghost use Rattle.console.specs.Text.{decimal, named, Puts};
 ghost use Rattle.console.specs.Plans.{refusal_line};
@@ -24,20 +26,11 @@ pub fn put_byte(text: &mut [u8], at: usize, byte: u8) -> usize
 pub fn put_word(text: &mut [u8], at: usize, word: &[u8]) -> usize
     ensures { Puts text.old at word.now text.new result }
 {
-    let mut next = within(at, text.len());
-    let mut i: usize = 0;
-    while i < word.len() {
-        next = put_byte(text, next, word[i]);
-        i += 1;
+    let mut next = at.min(text.len());
+    for &byte in word {
+        next = put_byte(text, next, byte);
     }
     next
-}
-
-// A place of a text, at most its length.
-fn within(at: usize, length: usize) -> usize
-    ensures { result ≡ min at length }
-{
-    if at < length { at } else { length }
 }
 
 // A number in decimal digits.
@@ -61,7 +54,7 @@ pub fn put_named(text: &mut [u8], at: usize, name: &[u8], number: u64) -> usize
 pub fn put_refusal(text: &mut [u8], at: usize, fault: Fault, place: u64) -> usize
     ensures { Puts text.old at (refusal_line (fault_number fault) place) text.new result }
 {
-    let mut next = put_named(text, at, b"refused ", fault.number() as u64);
+    let mut next = put_named(text, at, b"refused ", u64::from(u32::from(fault)));
     next = put_named(text, next, b" at ", place);
     put_byte(text, next, b'\n')
 }

@@ -1,14 +1,13 @@
 -- Document 01, "Elements and their table": the limit of wires and the numbers of the kinds; what counting says; and, document 02, W3, what
 -- counting by kind says.
-use Rattle.std.specs.Prelude.{◌≡◌, ℕ, zero, suc}
+use Rattle.std.specs.Prelude.{◌≡◌, ℕ, zero, suc, ◌<◌, ◌⊎◌, Result, Ok, Err}
+use Rattle.fault.specs.declared.Fault.{Fault}
 use Rattle.fault.specs.Number.{fault_number}
 use Rattle.elements.specs.declared.Kind.{Kind}
 use Rattle.elements.specs.declared.Kind.TheVariants.{X, Y, G}
 use Rattle.elements.specs.declared.Counts.{Counts}
-use Rattle.elements.specs.declared.CountAnswer.{CountAnswer}
 use Rattle.elements.specs.declared.KindCounts.{KindCounts}
 use Rattle.elements.specs.declared.Sheet.{Sheet}
-use Rattle.elements.specs.declared.SheetAnswer.{SheetAnswer}
 
 -- the most wires of a fabric: 0 to 65,535
 abbrev pub max_wires : ℕ
@@ -20,6 +19,11 @@ kind_number X = 1
 kind_number Y = 2
 kind_number G = 3
 
+-- the kind that a number names; 13 where it is none of theirs
+abbrev pub NamesKind : ℕ → Result Kind Fault → Type 0
+NamesKind n (Ok kind) = kind_number kind ≡ n
+NamesKind n (Err f) = (f ≡ Fault.Fabric) × ((n ≡ 0) ⊎ (3 < n))
+
 -- what counting says: the number of the refusal, 0 for none; rows, wires and program bits, all 0 on a refusal
 pub record CountOutcome : Type 0 where
   pub number : ℕ
@@ -28,9 +32,9 @@ pub record CountOutcome : Type 0 where
   pub bits : ℕ
 
 -- what each case of counting's answer says
-abbrev pub count_outcome : CountAnswer → CountOutcome
-count_outcome (CountAnswer.Counted c) = record { number = 0; rows = c.rows; wires = c.wires; bits = c.bits }
-count_outcome (CountAnswer.Refused f) = record { number = fault_number f; rows = 0; wires = 0; bits = 0 }
+abbrev pub count_outcome : Result Counts Fault → CountOutcome
+count_outcome (Ok c) = record { number = 0; rows = c.rows; wires = c.wires; bits = c.bits }
+count_outcome (Err f) = record { number = fault_number f; rows = 0; wires = 0; bits = 0 }
 
 -- these counts where the checks gave 0
 abbrev pub counts_unless : ℕ → ℕ → ℕ → ℕ → CountOutcome
@@ -56,9 +60,9 @@ abbrev pub zero_sheet : Sheet
 zero_sheet = record { input = no_rows; block = no_rows; output = no_rows; sum = no_rows }
 
 -- what each case of its answer says
-abbrev pub sheet_outcome : SheetAnswer → SheetOutcome
-sheet_outcome (SheetAnswer.Counted s) = record { number = 0; sheet = s }
-sheet_outcome (SheetAnswer.Refused f) = record { number = fault_number f; sheet = zero_sheet }
+abbrev pub sheet_outcome : Result Sheet Fault → SheetOutcome
+sheet_outcome (Ok s) = record { number = 0; sheet = s }
+sheet_outcome (Err f) = record { number = fault_number f; sheet = zero_sheet }
 
 -- this sheet where the checks gave 0
 abbrev pub sheet_unless : ℕ → Sheet → SheetOutcome

@@ -3,19 +3,12 @@
 #![tactic(auto)]
 
 ghost use Rattle.std.specs.Prelude.{◌≡◌, ◌+◌, ◌%◌, ◌^◌};
-ghost use Rattle.elements.specs.Elements.{kind_number};
+ghost use Rattle.elements.specs.Elements.{kind_number, NamesKind};
 
 use fault::Fault;
 
 // The wires of the largest fabric: 0 to 65,535.
 pub const MAX_WIRES: usize = 65_536;
-
-// Document 01's numbers of the kinds.
-pub const KIND_X: u16 = 1;
-
-pub const KIND_Y: u16 = 2;
-
-pub const KIND_G: u16 = 3;
 
 // The program bits of a gate: its table.
 pub const GATE_BITS: u32 = 4;
@@ -25,7 +18,7 @@ pub const GATE_BITS: u32 = 4;
 pub struct FabricWire(pub u32);
 
 // The kinds of elements.
-#[derive(Clone, Copy)]
+#[derive(Clone, Copy, PartialEq, Eq)]
 pub enum Kind {
     X,
     Y,
@@ -38,13 +31,6 @@ pub struct Counts {
     pub rows: u32,
     pub wires: u32,
     pub bits: u32,
-}
-
-// The answer of counting.
-#[derive(Clone, Copy)]
-pub enum CountAnswer {
-    Counted(Counts),
-    Refused(Fault),
 }
 
 // The rows of each kind, and their total.
@@ -66,31 +52,49 @@ pub struct Sheet {
     pub sum: KindCounts,
 }
 
-// The answer of counting by kind.
-#[derive(Clone, Copy)]
-pub enum SheetAnswer {
-    Counted(Sheet),
-    Refused(Fault),
-}
-
 impl FabricWire {
     // The wire that comes `count` wires later, in 32 bits.
     pub fn plus(self, count: u32) -> FabricWire
         ensures { result.0 ≡ (self.0 + count) % 2 ^ 32 }
     {
-        FabricWire(std::num::wrapping_add_u32(self.0, count))
+        FabricWire(self.0.wrapping_add(count))
     }
 }
 
-impl Kind {
-    // The number of a kind.
-    pub fn number(self) -> u16
-        ensures { result ≡ kind_number self }
-    {
-        match self {
-            Kind::X => KIND_X,
-            Kind::Y => KIND_Y,
-            Kind::G => KIND_G,
+// An entry of a table or of a list, as a wire.
+impl From<u16> for FabricWire {
+    ghost from_gives = { λ entry wire. wire.0 ≡ entry };
+
+    fn from(entry: u16) -> FabricWire {
+        FabricWire(u32::from(entry))
+    }
+}
+
+// The number of a kind.
+impl From<Kind> for u16 {
+    ghost from_gives = { λ kind number. number ≡ kind_number kind };
+
+    fn from(kind: Kind) -> u16 {
+        match kind {
+            Kind::X => 1,
+            Kind::Y => 2,
+            Kind::G => 3,
+        }
+    }
+}
+
+// The kind that a number names: 13, a malformed table, where it names none.
+impl TryFrom<u16> for Kind {
+    type Error = Fault;
+
+    ghost try_from_gives = { NamesKind };
+
+    fn try_from(number: u16) -> Result<Kind, Fault> {
+        match number {
+            1 => Ok(Kind::X),
+            2 => Ok(Kind::Y),
+            3 => Ok(Kind::G),
+            _ => Err(Fault::Fabric),
         }
     }
 }

@@ -1,13 +1,13 @@
 -- Where the checks pass: when they do, what holds then, and that the two results are then equal.
-use mathlib.Core.Path.{◌≡◌, refl, sym, ap₂, ◌∙◌}
+use mathlib.Core.Path.{◌≡◌, sym, ap₂, ◌∙◌}
 use mathlib.Core.List.{List}
 use Prim.Native.Nat.{ℕ, ◌<◌}
 use native.Mathlib.Omega.{arith}
 use borrow.Author.Tests.{leb-true, le-leb}
 use lib.ListN.{length, get_or, take, drop, get_or-append}
 use Rattle.fault.specs.Number.{fault_number}
-use Rattle.fault.specs.Buffers.{over, filled}
-use Rattle.fault.proofs.BuffersLaws.{filled-refused, filled-done}
+use Rattle.fault.specs.Buffers.{over}
+use Rattle.fault.proofs.BuffersLaws.{filled-done}
 use Rattle.fault.specs.Checks.{room_fault}
 use Rattle.fault.specs.declared.Fault.{Fault}
 use Rattle.fault.proofs.ChecksLaws.{unless-zero, and_then-zero, number-positive}
@@ -68,10 +68,7 @@ both-same p row evaluated ran accepted contact j l =
     let n : j < length outs = rw (length-plan_outputs p row) l in
     rw e (get_or-append outs (drop (length outs) evaluated) 0 j n ∙ sym (get_or-append outs (drop (length outs) ran) 0 j n))
 
--- a refusal changes no buffer, and is none where its number is 0
-pub kept : (f : Fault) (new old : List ℕ) → old ≡ filled (fault_number f) new old
-kept f new old = filled-refused f (fault_number f) new old refl
-
+-- a refusal has no number 0
 pub refused-same : (f : Fault) → fault_number f ≡ 0 → ⊥
 refused-same f z = absurd (omega (arith, number-positive f))
 
@@ -87,29 +84,32 @@ module _ (p : Plan) (row table program work evaluated ran : List ℕ)
   abbrev v : ℕ
   v = p.output_count
 
-  demand : ThirdDemand p row table program work evaluated ran
-  demand = third_demand p row table program work evaluated ran passes.accepted (contact-row u row passes.contact) passes.rooms
+  pub made-demand : ThirdDemand p row table program work evaluated ran
+  made-demand = third_demand p row table program work evaluated ran passes.accepted (contact-row u row passes.contact) passes.rooms
 
   pub made_table : {T : List ℕ} → T ≡ fabric_result u k v table → T ≡ over (plan_table p) table
-  made_table e = e ∙ sym (filled-done _ (plan_table p) table (sym demand.fabricates))
+  made_table e = e ∙ sym (filled-done _ (plan_table p) table (sym made-demand.fabricates))
 
   pub made-program : {P : List ℕ} → P ≡ plan_program_result p program → P ≡ over (plan_program p) program
-  made-program e = e ∙ sym (filled-done _ (plan_program p) program (sym demand.programs))
+  made-program e = e ∙ sym (filled-done _ (plan_program p) program (sym made-demand.programs))
 
   pub made_evaluated : {E : List ℕ} → E ≡ evaluate_result p row evaluated → E ≡ over (plan_outputs 0 gate_bit p row) evaluated
-  made_evaluated e = e ∙ sym (filled-done _ (plan_outputs 0 gate_bit p row) evaluated (sym demand.evaluates))
+  made_evaluated e = e ∙ sym (filled-done _ (plan_outputs 0 gate_bit p row) evaluated (sym made-demand.evaluates))
 
   -- the run of exactly what the first two wrote
   module _ {T P : List ℕ} {entries bytes : ℕ} (at : entries ≡ plan_table_length p) (to : bytes ≡ program_length p) (wrote : T ≡ fabric_result u k v table)
       (programmed : P ≡ plan_program_result p program) where
     entries-read : take entries T ≡ plan_table p
-    entries-read = ap₂ take at wrote ∙ fabric_written_read u k v table demand.fabricates
+    entries-read = ap₂ take at wrote ∙ fabric_written_read u k v table made-demand.fabricates
 
     bytes_read : take bytes P ≡ plan_program p
-    bytes_read = ap₂ take to programmed ∙ plan_programmed_read p program demand.programs
+    bytes_read = ap₂ take to programmed ∙ plan_programmed_read p program made-demand.programs
 
     unrefused : run_fault (plan_table p) (plan_program p) row (length work) (length ran) ≡ 0
     unrefused = run-unrefused p row table program work evaluated ran passes.accepted (contact-row u row passes.contact) passes.rooms
+
+    pub made_unrefused : run_fault (take entries T) (take bytes P) row (length work) (length ran) ≡ 0
+    made_unrefused = ap₂ (λ t b. run_fault t b row (length work) (length ran)) entries-read bytes_read ∙ unrefused
 
     pub made-work : {W : List ℕ} → W ≡ run_work (take entries T) (take bytes P) row work ran → W ≡ over (run_wires (plan_table p) (plan_program p) row) work
     made-work e =

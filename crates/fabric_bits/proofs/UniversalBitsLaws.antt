@@ -1,34 +1,36 @@
--- U's bits by its halves: how many they are, that what the halves and the part between them store is U's, and that they depend on the operands and
--- tables of U's own gates alone.
-use mathlib.Core.Path.{◌≡◌, refl, sym, ap, ap₂, ◌∙◌}
+-- U's bits by its halves: how many they are, that what the halves and the part between them store is U's, and that they depend on the gates of U
+-- alone, wherever these stand in a list.
+use mathlib.Core.Path.{◌≡◌, sym, ap, ap₂, ◌∙◌}
 use mathlib.Core.List.{List, ◌++◌, append_assoc}
-use Prim.Native.Nat.{ℕ, zero, suc, ◌+◌, ◌*◌, ◌^◌, ◌≤◌, ◌<◌}
+use Prim.Native.Nat.{ℕ, zero, suc, ◌+◌, ◌*◌, ◌/◌, ◌%◌, ◌^◌, ◌≤◌, ◌<◌}
 use native.Mathlib.Omega.{arith}
-use lib.ListN.{length, take, length-append}
+use lib.ListN.{length, get_or, take, drop, length-append, length-drop, length-take}
+use lib.Pow.{pow_pos}
+use lib.Seq.{get_or-drop, get_or-take}
 use Rattle.lists.proofs.ListsLaws.{list_of_ext}
 use Rattle.lists.specs.Counting.{one_if}
-use Rattle.blocks.specs.Elements.{operands, gate_bits, store_bits}
+use Rattle.blocks.specs.Elements.{operands, gate_bits, choose, store_bits}
 use Rattle.blocks.proofs.ElementsLaws.{store_bits-append}
 use Rattle.blocks.specs.Networks.{selection_count, selection_bits}
 use Rattle.blocks.proofs.NetworksLaws.{length-selection_bits}
 use Rattle.blocks.specs.Calls.{selection_program_at_result, SelectionPasses}
 use Rattle.blocks.proofs.CallsLaws.{selection-program-at_succeeds, stored-done}
-use Rattle.plan.specs.Record.{max_gates}
+use Rattle.plan.specs.declared.record.Gate.{Gate}
+use Rattle.plan.specs.Record.{zero_gate}
 use Rattle.fabric_universal.specs.Selector.{pin_count, selection}
 use Rattle.fabric_universal.proofs.SelectorLaws.{double, selection-shape}
 use Rattle.fabric_universal.specs.Universal.{Gates, universal_takes, table_program, is_of, wanted_gate, wanted_gates, mix_bits, universal_bits}
 use Rattle.fabric_universal.proofs.UniversalLaws.{length-universal_bits}
 use Rattle.fabric_universal.proofs.UniversalProgram.{wanted-selected, length-mix_bits}
-use Rattle.fabric_universal.specs.Fabric.{gate_level}
-use Rattle.fabric_lists.specs.WantedLists.{listed_gates, listed_operands, is_among, wanted_among}
-use Rattle.fabric_lists.proofs.WantedListsLaws.{among_gates, wanted_among_lem}
-use Rattle.fabric_sizes.proofs.PartsLaws.{one-gate, Halved}
+use Rattle.fabric_universal.specs.Fabric.{gate_level, gates_of}
+use Rattle.fabric_lists.specs.GateLists.{listed_gates}
+use Rattle.fabric_sizes.proofs.PartsLaws.{one-gate, Halved, halved}
 use Rattle.fabric_bits.specs.ProgramParts.{between_bits, BetweenRoom, UniversalProgramRoom}
 
 -- ---- U by its halves
 
 -- what its parts are lent
-module _ {gates base tables wanted start room half : ℕ} (R : UniversalProgramRoom gates base tables wanted start room) (H : Halved gates half) where
+module _ {before gates wanted start room half : ℕ} (R : UniversalProgramRoom before gates wanted start room) (H : Halved gates half) where
   abbrev n : ℕ
   n = gate_level half
 
@@ -39,44 +41,42 @@ module _ {gates base tables wanted start room half : ℕ} (R : UniversalProgramR
       rw H.level
       (ap (λ h. universal_takes selection n + (selection_count h (operands * h) + (operands * h + universal_takes selection n))) (sym H.power))
 
-  all-gates : base + (half + half) ≤ max_gates
-  all-gates = omega (arith, H.twice, R.all)
-
-  pub upper-program-room : UniversalProgramRoom half base tables wanted start room
-  upper-program-room = record {
+  pub upper-program-room : {b g : ℕ} → b ≡ before → g ≡ half → UniversalProgramRoom b g wanted start room
+  upper-program-room eb eg = rw (eb, eg) (record {
     power = H.power;
-    all = omega (arith, all-gates);
-    table_room = R.table_room;
-    wanted_room = R.wanted_room;
+    all = omega (arith, H.twice, R.all);
+    wires = omega (arith, H.twice, R.wires);
+    wanted_room = omega (arith, H.twice, R.wanted_room);
     few = omega (arith, takes-half, R.few);
     fits = omega (arith, takes-half, R.fits);
-  }
+  })
 
   pub between_room : {between w r : ℕ} → between ≡ start + universal_takes selection n → w ≡ wanted → r ≡ room → BetweenRoom half w between r
   between_room eb ew er = record {
     some = H.some;
-    gates = omega (arith, all-gates);
-    wanted_room = omega (arith, all-gates, R.wanted_room);
+    gates = omega (arith, H.twice, R.all);
+    wanted_room = omega (arith, H.twice, R.wanted_room);
     few = omega (arith, takes-half, R.few);
     fits = omega (arith, takes-half, R.fits);
   }
 
-  pub lower-program-room : {lower w r : ℕ} → lower ≡ start + universal_takes selection n + (selection_count half (operands * half) + operands * half)
-      → w ≡ wanted → r ≡ room → UniversalProgramRoom half (base + half) tables w lower r
-  lower-program-room el ew er = record {
+  pub lower-program-room : {b g lower w r : ℕ} → b ≡ before + half → g ≡ half
+      → lower ≡ start + universal_takes selection n + (selection_count half (operands * half) + operands * half) → w ≡ wanted → r ≡ room
+      → UniversalProgramRoom b g w lower r
+  lower-program-room eb eg el ew er = rw (eb, eg) (record {
     power = H.power;
-    all = omega (arith, all-gates);
-    table_room = R.table_room;
-    wanted_room = ew ∙ R.wanted_room;
+    all = omega (arith, H.twice, R.all);
+    wires = omega (arith, H.twice, R.wires);
+    wanted_room = omega (arith, H.twice, R.wanted_room);
     few = omega (arith, takes-half, R.few);
     fits = omega (arith, takes-half, R.fits);
-  }
+  })
 
 -- ---- S's call, where it has nothing to refuse
 
-pub selection-stored : {m n start : ℕ} {wanted : List ℕ} (program : List ℕ) → SelectionPasses m n wanted start (length program)
+pub selection_stored : {m n start : ℕ} {wanted : List ℕ} (program : List ℕ) → SelectionPasses m n wanted start (length program)
     → selection_program_at_result m n wanted start program ≡ store_bits program start (selection_bits m n wanted)
-selection-stored {m} {n} {start} {wanted} program P =
+selection_stored {m} {n} {start} {wanted} program P =
     let s = P.sizes in
     let none = selection-program-at_succeeds m n start (length program) s.some_inputs s.inputs s.some_outputs s.outputs P.selected P.fits in
     sym (stored-done _ start (selection_bits m n wanted) program (sym none))
@@ -107,13 +107,101 @@ between_stored G base h start s₀ {choices} {wanted} {s₁} {s₂} ew e₁ ec e
     let at : choices ≡ start + length S = ec ∙ ap (λ n. start + n) (sym (length-selection_bits h (2 * h) (wanted_gates G base h))) in
     e₂ ∙ ap₂ (λ s p. store_bits s p (mix_bits G base h)) first at ∙ sym (store_bits-append s₀ start S (mix_bits G base h))
 
--- the tables do not matter there
-pub between_listed : (before : ℕ) (operandList tables : List ℕ) (base h : ℕ)
-    → between_bits (listed_operands before operandList) base h ≡ between_bits (listed_gates before operandList tables) base h
-unfolding between_bits wanted_gates wanted_gate mix_bits is_of
-between_listed before operandList tables base h = refl
+-- ---- the same gates from another place on: those of f are those of g from `from` on, below a limit
+
+module _ (u from limit : ℕ) (f g : ℕ → Gate) (same : (i : ℕ) → i < limit → f i ≡ g (from + i)) where
+  abbrev F : Gates
+  F = gates_of (u + from) f
+
+  abbrev G : Gates
+  G = gates_of u g
+
+  shifted-operand : (q : ℕ) → q < operands * limit → F.operand q ≡ G.operand (operands * from + q)
+  unfolding choose
+  shifted-operand q l =
+      let m : (operands * from + q) % operands ≡ q % operands = omega arith in
+      let d : (operands * from + q) / operands ≡ from + q / operands = omega arith in
+      rw (m, d) (ap (λ x. choose (q % operands) x.first.0 x.second.0) (same (q / operands) (omega arith)))
+
+  shifted-pin : (base h j : ℕ) → base + (h + h) ≤ limit → j < operands * h
+      → F.operand (operands * (base + h) + j) ≡ G.operand (operands * (from + base + h) + j)
+  shifted-pin base h j l m =
+      let e : operands * from + (operands * (base + h) + j) ≡ operands * (from + base + h) + j = omega arith in
+      shifted-operand (operands * (base + h) + j) (omega arith) ∙ ap G.operand e
+
+  shifted-is : (base h w : ℕ) → is_of F base h w ≡ is_of G (from + base) h w
+  unfolding is_of
+  shifted-is base h w = let e : u + from + base ≡ u + (from + base) = omega arith in rw e
+
+  shifted-wants : (base h w : ℕ) → wanted_gate F base h w ≡ wanted_gate G (from + base) h w
+  unfolding wanted_gate is_of
+  shifted-wants base h w = let e : u + from + base ≡ u + (from + base) = omega arith in rw e
+
+  shifted-wanted : (base h : ℕ) → base + (h + h) ≤ limit → wanted_gates F base h ≡ wanted_gates G (from + base) h
+  unfolding wanted_gates
+  shifted-wanted base h l =
+      list_of_ext (operands * h) _ _ (λ j m. ap (wanted_gate F base h) (shifted-pin base h j l m) ∙ shifted-wants base h _)
+
+  shifted-mix : (base h : ℕ) → base + (h + h) ≤ limit → mix_bits F base h ≡ mix_bits G (from + base) h
+  unfolding mix_bits
+  shifted-mix base h l =
+      list_of_ext (operands * h) _ _ (λ j m. ap one_if (ap (is_of F base h) (shifted-pin base h j l m) ∙ shifted-is base h _))
+
+  shifted-bits : (n base : ℕ) → base + 2 ^ n ≤ limit → universal_bits selection F n base ≡ universal_bits selection G n (from + base)
+  unfolding universal_bits
+  shifted-bits zero base l = ap (λ x. table_program x.table) (same base (omega arith))
+  shifted-bits (suc n) base l =
+      let half : base + (2 ^ n + 2 ^ n) ≤ limit = omega (arith, double n) in
+      let behind : from + (base + 2 ^ n) ≡ from + base + 2 ^ n = omega arith in
+      rw (
+        shifted-bits n base (omega arith),
+        shifted-bits n (base + 2 ^ n) (omega arith),
+        shifted-wanted base (2 ^ n) half,
+        shifted-mix base (2 ^ n) half,
+        behind,
+      )
+
+  -- a whole U
+  pub moved-bits : (n : ℕ) {b base : ℕ} → b ≡ u + from → base ≡ from → 2 ^ n ≤ limit
+      → universal_bits selection (gates_of b f) n 0 ≡ universal_bits selection G n base
+  moved-bits n eb ebase l =
+      let at : from + 0 ≡ from = omega arith in
+      rw (eb, ebase) (shifted-bits n 0 (omega arith) ∙ ap (universal_bits selection G n) at)
+
+-- h gates of a list from one on
+part-bits : (before from h : ℕ) (list part : List Gate) {b : ℕ} → b ≡ before + from → length part ≡ h → h ≡ 2 ^ gate_level h
+    → ((i : ℕ) → i < h → get_or part i zero_gate ≡ get_or list (from + i) zero_gate)
+    → universal_bits selection (listed_gates b part) (gate_level (length part)) 0 ≡ universal_bits selection (listed_gates before list) (gate_level h) (0 + from)
+part-bits before from h list part {b} eb size power same =
+    rw size
+    (moved-bits before from h (λ i. get_or part i zero_gate) (λ i. get_or list i zero_gate) same (gate_level h) eb (omega arith) (omega arith))
+
+-- the first half of the gates, and the other
+pub length-upper : (list : List Gate) {part : List Gate} {h : ℕ} → Halved (length list) h → part ≡ take h list → length part ≡ h
+length-upper list {h = h} H ep = ap length ep ∙ length-take h list ∙ omega (arith, H.twice)
+
+pub length-lower : (list : List Gate) {part : List Gate} {h : ℕ} → Halved (length list) h → part ≡ drop h list → length part ≡ h
+length-lower list {h = h} H ep = ap length ep ∙ length-drop h list ∙ omega (arith, H.twice)
+
+module _ (before : ℕ) (list : List Gate) {part : List Gate} {b h : ℕ} (H : Halved (length list) h) where
+  pub upper-bits : b ≡ before → part ≡ take h list
+      → universal_bits selection (listed_gates b part) (gate_level (length part)) 0 ≡ universal_bits selection (listed_gates before list) (gate_level h) 0
+  upper-bits eb ep =
+      part-bits before 0 h list part (omega arith) (length-upper list H ep) H.power (λ i l.
+      let same : i ≡ 0 + i = omega arith in
+      ap (λ p. get_or p i zero_gate) ep ∙ get_or-take h list i zero_gate l ∙ ap (λ k. get_or list k zero_gate) same)
+
+  pub lower-bits : b ≡ before + h → part ≡ drop h list
+      → universal_bits selection (listed_gates b part) (gate_level (length part)) 0 ≡ universal_bits selection (listed_gates before list) (gate_level h) (0 + h)
+  lower-bits eb ep =
+      part-bits before h h list part eb (length-lower list H ep) H.power (λ i l.
+      ap (λ p. get_or p i zero_gate) ep ∙ get_or-drop h list i zero_gate)
 
 -- ---- the whole
+
+-- more gates than one
+pub more-gates : {gates : ℕ} → gates ≡ 2 ^ gate_level gates → (gates ≡ 1 → ⊥) → Halved gates (gates / 2)
+more-gates {gates} power more = halved power (omega (arith, pow_pos (gate_level gates)))
 
 -- U(1)
 pub gate-takes : {gates : ℕ} → gates ≤ 1 → universal_takes selection (gate_level gates) ≡ gate_bits
@@ -154,38 +242,3 @@ pub halves_stored : (G : Gates) (gates base start : ℕ) (s₀ : List ℕ) {h be
 halves_stored G gates base start s₀ {h} H e₁ eb e₂ el e₃ =
     halves_at G (gate_level h) base start s₀ H.power e₁ eb e₂ el e₃
     ∙ ap (λ n. store_bits s₀ start (universal_bits selection G n base)) (sym H.level)
-
--- ---- gates past U's own never matter
-
--- gates that agree on all operands and tables below a limit
-pub record SameGates (limit : ℕ) (G H : Gates) : Type 0 where
-  pub before : G.before ≡ H.before
-  pub operand : (q : ℕ) → q < operands * limit → G.operand q ≡ H.operand q
-  pub table : (g : ℕ) → g < limit → G.table g ≡ H.table g
-
-module _ (limit : ℕ) (G H : Gates) (same : SameGates limit G H) where
-  wanted-same : (base h : ℕ) → base + (h + h) ≤ limit → wanted_gates G base h ≡ wanted_gates H base h
-  unfolding wanted_gates
-  wanted-same base h l = list_of_ext (operands * h) _ _ (λ j m.
-      sym (wanted_among_lem G base h _)
-      ∙ ap₂ (λ b w. wanted_among (b + base) h w) same.before (same.operand (operands * (base + h) + j) (omega arith))
-      ∙ wanted_among_lem H base h _)
-
-  mix_same : (base h : ℕ) → base + (h + h) ≤ limit → mix_bits G base h ≡ mix_bits H base h
-  unfolding mix_bits
-  mix_same base h l = list_of_ext (operands * h) _ _ (λ j m. ap one_if (
-      sym (among_gates G base h _)
-      ∙ ap₂ (λ b w. is_among (b + base) h w) same.before (same.operand (operands * (base + h) + j) (omega arith))
-      ∙ among_gates H base h _))
-
-  pub universal_same : (n base : ℕ) → base + 2 ^ n ≤ limit → universal_bits selection G n base ≡ universal_bits selection H n base
-  unfolding universal_bits
-  universal_same zero base l = ap table_program (same.table base (omega arith))
-  universal_same (suc n) base l =
-      let half : base + (2 ^ n + 2 ^ n) ≤ limit = omega (arith, double n) in
-      rw (
-        universal_same n base (omega arith),
-        universal_same n (base + 2 ^ n) (omega arith),
-        wanted-same base (2 ^ n) half,
-        mix_same base (2 ^ n) half,
-      )

@@ -1,14 +1,15 @@
 -- The parts of a plan's program: what they store, and what they are lent.
-use Rattle.std.specs.Prelude.{ℕ, ◌+◌, ◌*◌, ◌^◌, ◌≤◌, ◌≡◌, List, ◌++◌, length}
+use Rattle.std.specs.Prelude.{ℕ, ◌+◌, ◌*◌, ◌^◌, ◌<◌, ◌≤◌, ◌≡◌, List, ◌++◌, length}
 use Rattle.blocks.specs.Elements.{operands}
 use Rattle.blocks.specs.Networks.{selection_count, selection_bits}
 use Rattle.blocks.specs.Calls.{SelectionPasses}
+use Rattle.plan.specs.declared.record.Gate.{Gate}
 use Rattle.plan.specs.Record.{max_gates}
 use Rattle.fabric_universal.specs.Selector.{selection}
 use Rattle.fabric_universal.specs.Universal.{Gates, universal_takes, wanted_gates, mix_bits, universal_bits}
 use Rattle.fabric_universal.specs.Fabric.{gate_level}
-use Rattle.fabric_lists.specs.WantedLists.{listed_gates, inputs_wanted}
-use Rattle.fabric_sizes.specs.Parts.{max_pins}
+use Rattle.fabric_lists.specs.GateLists.{listed_gates}
+use Rattle.fabric_lists.specs.WantedLists.{inputs_wanted}
 
 -- above the program bits of every plan: the fabric of 64, 256, 64 takes 32,257
 abbrev pub bit_limit : ℕ
@@ -20,11 +21,11 @@ bit_limit = 65536
 unfoldable pub between_bits : Gates → ℕ → ℕ → List ℕ
 between_bits G base h = selection_bits h (operands * h) (wanted_gates G base h) ++ mix_bits G base h
 
--- S(u, 2K) and U(K), K `places`
-unfoldable pub gates_program : ℕ → ℕ → List ℕ → List ℕ → List ℕ
-gates_program u places operandList tables =
-    selection_bits u (operands * places) (inputs_wanted u operandList (operands * places))
-    ++ universal_bits selection (listed_gates u operandList tables) (gate_level places) 0
+-- S(u, 2K) and U(K) for K gates behind u inputs
+unfoldable pub gates_program : ℕ → List Gate → List ℕ
+gates_program u gates =
+    selection_bits u (operands * length gates) (inputs_wanted u gates)
+    ++ universal_bits selection (listed_gates u gates) (gate_level (length gates)) 0
 
 -- ---- what fits
 
@@ -36,17 +37,16 @@ pub record BetweenRoom (h wanted start room : ℕ) : Type 0 where
   pub few : start + selection_count h (operands * h) + operands * h ≤ bit_limit
   pub fits : start + selection_count h (operands * h) + operands * h ≤ 8 * room
 
--- the bits of U for `gates` gates, a power of two, from gate `base` on, whose tables stand in a list of `tables` entries; `wanted`, `start` and
--- `room` as above
-pub record UniversalProgramRoom (gates base tables wanted start room : ℕ) : Type 0 where
+-- the bits of U for `gates` gates, a power of two, whose wires follow `before` others; `wanted`, `start` and `room` as above
+pub record UniversalProgramRoom (before gates wanted start room : ℕ) : Type 0 where
   pub power : gates ≡ 2 ^ gate_level gates
-  pub all : base + gates ≤ max_gates
-  pub table_room : tables ≡ max_gates
-  pub wanted_room : wanted ≡ max_pins
+  pub all : gates ≤ max_gates
+  pub wires : before + gates < 2 ^ 32
+  pub wanted_room : 2 * gates ≤ wanted
   pub few : start + universal_takes selection (gate_level gates) ≤ bit_limit
   pub fits : start + universal_takes selection (gate_level gates) ≤ 8 * room
 
--- S(u, 2K) and U(K) for the gates that lists give
-pub record GatesRoom (u places : ℕ) (operandList tables : List ℕ) (wanted room : ℕ) : Type 0 where
-  pub inputs : SelectionPasses u (operands * places) (inputs_wanted u operandList (operands * places)) 0 room
-  pub gates : UniversalProgramRoom places 0 (length tables) wanted (selection_count u (operands * places)) room
+-- S(u, 2K) and U(K) for the gates of a list
+pub record GatesRoom (u : ℕ) (list : List Gate) (wanted room : ℕ) : Type 0 where
+  pub inputs : SelectionPasses u (operands * length list) (inputs_wanted u list) 0 room
+  pub gates : UniversalProgramRoom u (length list) wanted (selection_count u (operands * length list)) room

@@ -1,49 +1,40 @@
--- The plan's gates, loaded one after another.
-use mathlib.Core.Path.{◌≡◌, sym, ap, ◌∙◌}
-use mathlib.Core.List.{List}
-use Prim.Native.Nat.{ℕ, suc, ◌+◌, ◌*◌, ◌-◌, ◌/◌, ◌%◌, ◌^◌, ◌≤◌, ◌<◌}
+-- The plan's gates, loaded to the front of a list.
+use mathlib.Core.Path.{◌≡◌, refl, sym, ap, ◌∙◌}
+use mathlib.Core.List.{List, ◌++◌}
+use Prim.Native.Nat.{ℕ, suc, ◌+◌, ◌-◌, ◌/◌, ◌%◌, ◌^◌, ◌≤◌, ◌<◌}
 use native.Mathlib.Nat.{mod-lt}
 use native.Mathlib.Numerals.{add-one}
 use native.Mathlib.Omega.{arith}
-use lib.ListN.{length, set}
+use lib.ListN.{length, get_or, take, drop, length-take}
+use lib.Seq.{ext_get_or, get_or-take}
 use lib.Pow.{high, pow_pos, mod-pow-add, mod-mod-pow}
 use Rattle.lists.specs.Lists.{list_of}
-use Rattle.lists.proofs.ListsLaws.{list_of_ext}
-use Rattle.fault.specs.Buffers.{over}
-use Rattle.fault.proofs.BuffersLaws.{list-step}
-use Rattle.blocks.specs.Elements.{operands, bit_of, field_bits, gate_bits}
+use Rattle.lists.proofs.ListsLaws.{length-list_of, get_or-list_of, list_of_ext}
+use Rattle.blocks.specs.Elements.{bit_of, field_bits, gate_bits}
+use Rattle.plan.specs.declared.record.Gate.{Gate}
 use Rattle.plan.specs.declared.record.Plan.{Plan}
-use Rattle.plan.specs.Record.{max_gates, gate_at}
+use Rattle.plan.specs.Record.{max_gates, zero_gate, gate_at}
 use Rattle.fabric_universal.specs.Universal.{table_program}
-use Rattle.fabric_universal.specs.Fabric.{plan_gates}
-use Rattle.fabric_universal.proofs.PlanValues.{padded-own, first-operand, second-operand}
-use Rattle.fabric_lists.specs.GateLists.{loaded_gates}
+use Rattle.fabric_lists.specs.GateLists.{loaded_gates, loaded_list}
 
 -- where there are places for all, all are loaded
-pub all-loaded : (k operandPlaces tablePlaces : ℕ) → k ≤ max_gates → operands * k ≤ operandPlaces → k ≤ tablePlaces
-    → loaded_gates k operandPlaces tablePlaces ≡ k
+pub all-loaded : (k listPlaces : ℕ) → k ≤ max_gates → k ≤ listPlaces → loaded_gates k listPlaces ≡ k
 unfolding loaded_gates
-all-loaded k operandPlaces tablePlaces few operand_room table_room = omega arith
+all-loaded k listPlaces few room = omega arith
 
-module _ (p : Plan) where
-  -- a gate's operands on its two pins
-  pub gate-step : (old : List ℕ) {l : List ℕ} (i : ℕ) → i < p.gate_count → operands * i + 1 < length old
-      → l ≡ over (list_of (operands * i) (plan_gates p).operand) old
-      → set (set l (operands * i) (gate_at p i).first.0) (operands * i + 1) (gate_at p i).second.0
-      ≡ over (list_of (operands * (i + 1)) (plan_gates p).operand) old
-  gate-step old {l} i h room held =
-      let f = (plan_gates p).operand in
-      let own = padded-own p i h in
-      let first = sym (first-operand p i ∙ ap (λ g. g.first.0) own) in
-      let second = sym (second-operand p i ∙ ap (λ g. g.second.0) own) in
-      let e : operands * i + 1 + 1 ≡ operands * (i + 1) = omega arith in
-      list-step old (operands * i + 1) f (list-step old (operands * i) f held first (omega arith)) second (omega arith)
-      ∙ ap (λ n. over (list_of n f) old) e
+-- the front of a list, place by place
+pub front_is_list_of : {A : Type 0} (l : List A) (d : A) (n : ℕ) → n ≤ length l → take n l ≡ list_of n (λ i. get_or l i d)
+front_is_list_of l d n h =
+    let size : length (take n l) ≡ n = simp length-take (omega arith) in
+    ext_get_or d _ _ (size ∙ sym (length-list_of n _)) (λ i s.
+    let m : i < n = rw size at s in
+    get_or-take n l i d m ∙ sym (get_or-list_of n _ i d m))
 
-  pub table_step : (old : List ℕ) {l : List ℕ} (i : ℕ) → i < p.gate_count → i < length old
-      → l ≡ over (list_of i (plan_gates p).table) old
-      → set l i (gate_at p i).table ≡ over (list_of (i + 1) (plan_gates p).table) old
-  table_step old i h room held = list-step old i (plan_gates p).table held (ap (λ g. g.table) (sym (padded-own p i h))) (omega arith)
+-- the plan's gates at the front of a list
+pub front-loaded : (p : Plan) (old : List Gate) {n : ℕ} {front : List Gate} → n ≡ loaded_gates p.gate_count (length old) → n ≤ length p.gates
+    → front ≡ take n p.gates → front ++ drop n old ≡ loaded_list p old
+front-loaded p old {n} is room e =
+    rw (← is, e, front_is_list_of p.gates zero_gate n room, length-list_of n (gate_at p)) refl
 
 -- the bits of a number's lowest bits
 low_bit_lem : (q d t : ℕ) → bit_of q (t % 2 ^ (suc d + q)) ≡ bit_of q t

@@ -1,38 +1,39 @@
-// The plan's gates as a list of operands, pin by pin, and a list of tables; and the bits of a table. Gates and pins count from 0.
-ghost use Rattle.std.specs.Prelude.{◌≡◌};
+// The plan's gates as a list, and the bits of a table. Gates and pins count from 0.
+// Kept: `program` and `start` are two parameters: each part has its own start, and the program is wanted again behind it.
+ghost use Rattle.std.specs.Prelude.{◌≡◌, ◌*◌, ◌<◌, length};
 ghost use Rattle.blocks.specs.Elements.{store_bits};
 ghost use Rattle.fabric_universal.specs.Universal.{table_program};
-ghost use Rattle.fabric_lists.specs.GateLists.{LoadedCount, loaded_operands, loaded_tables};
+ghost use Rattle.fabric_lists.specs.GateLists.{loaded_list, listed_gates};
 
-use blocks::{smaller, store_field};
+use blocks::store_field;
 use elements::GATE_BITS;
-use plan::Plan;
+use plan::{Gate, Plan, PlanWire};
 
-// The operands of the plan's gates to the front of `operands`, their tables to the front of `tables`, as far as the record and the lists have
-// places. What stands behind them stays.
-pub fn load_gates(plan: Plan, operands: &mut [u16], tables: &mut [u16])
-    ensures operands { operands.new ≡ loaded_operands plan operands.old tables.old }
-    ensures tables { tables.new ≡ loaded_tables plan operands.old tables.old }
-{
-    let count = loaded_gates(plan.gate_count, operands.len(), tables.len());
-    let mut i: usize = 0;
-    while i < count {
-        let gate = plan.gates[i];
-        operands[2 * i] = gate.first.0;
-        operands[2 * i + 1] = gate.second.0;
-        tables[i] = gate.table;
-        i += 1;
-    }
+// Gates whose wires follow `before` others: pins 2g and 2g + 1 are the operands of gate g.
+#[derive(Clone, Copy)]
+pub struct GateList<'a> {
+    pub before: u32,
+    pub gates: &'a [Gate],
 }
 
-// How many of the gates the record, a list with `operand_places` places and one with `table_places` have places for.
-fn loaded_gates(gates: u16, operand_places: usize, table_places: usize) -> usize
-    ensures { LoadedCount gates operand_places table_places result }
+// The operand of pin q of the gates.
+#[tactic(auto, unfolding(blocks::specs::Elements::choose))]
+pub(crate) fn operand(gates: &[Gate], q: usize) -> PlanWire
+    requires { q < 2 * length gates.now }
+    ensures { result.0 ≡ (listed_gates 0 gates.now).operand q }
 {
-    smaller(
-        gates as usize,
-        smaller(Plan::MAX_GATES, smaller(operand_places / 2, table_places)),
-    )
+    let gate = gates[q / 2];
+    if q % 2 == 0 { gate.first } else { gate.second }
+}
+
+// The plan's gates to the front of `gates`, as far as the record and the list have places. What stands behind them stays.
+pub fn load_gates(plan: Plan, gates: &mut [Gate])
+    ensures { gates.new ≡ loaded_list plan gates.old }
+{
+    let count = usize::from(plan.gate_count)
+        .min(Plan::MAX_GATES)
+        .min(gates.len());
+    gates[..count].copy_from_slice(&plan.gates[..count]);
 }
 
 // A gate's table, the lowest bit first, stored from bit `start` on as far as the program goes.

@@ -1,154 +1,115 @@
 // What the pins and the outputs want of a selection block. Gates, pins and outputs count from 0, wanted inputs from 1. Every call takes all
-// inputs: an operand past the end of the list is wire 0, and what the record or a list has no place for is not stored.
-ghost use Rattle.std.specs.Prelude.{◌≡◌, ◌+◌, ◌-◌, ◌^◌, ◌<◌, ◌≤◌, min, length, get_or, take};
-ghost use Rattle.lists.specs.Counting.{one_if};
+// inputs: what the record or a list has no place for is not stored.
+// Kept: `program` and `start` are two parameters: each part has its own start, and the program is wanted again behind it.
+ghost use Rattle.std.specs.Prelude.{◌≡◌, ℕ, ◌+◌, ◌-◌, ◌/◌, ◌<◌, min, length, take};
+ghost use Rattle.lists.specs.Lists.{list_of, Gives};
 ghost use Rattle.fault.specs.Buffers.{over};
-ghost use Rattle.blocks.specs.Elements.{bits_held, number_of, store_bits};
+ghost use Rattle.blocks.specs.Elements.{store_bits};
 ghost use Rattle.plan.specs.Record.{max_outputs};
 ghost use Rattle.fabric_universal.specs.Universal.{wanted_gates, mix_bits};
 ghost use Rattle.fabric_universal.specs.Fabric.{wanted_input, wanted_outputs};
-ghost use Rattle.fabric_lists.specs.WantedLists.{listed_operands, is_among, choice_at, wanted_among, inputs_wanted};
+ghost use Rattle.fabric_lists.specs.GateLists.{listed_gates};
+ghost use Rattle.fabric_lists.specs.WantedLists.{is_among, wanted_among, inputs_wanted};
 
-use blocks::{BYTE_BITS, smaller, store_field};
+use crate::gates::{GateList, operand};
+use blocks::store_bits_by;
 use plan::{Plan, PlanWire};
 
-// The inputs that the first `count` pins, which have these operands, want, at the front of `wanted`, as far as it has places.
-pub fn list_inputs(inputs: u16, count: u32, operands: &[u16], wanted: &mut [u16])
-    ensures { wanted.new ≡ over (take (length wanted.old) (inputs_wanted inputs operands.now count)) wanted.old }
+// The inputs that the pins of the gates want, at the front of `wanted`, as far as it has places. The wires before the gates are the inputs.
+pub fn list_inputs(list: GateList, wanted: &mut [u16])
+    ensures { wanted.new ≡ over (take (length wanted.old) (inputs_wanted list.entry.before list.entry.gates.now)) wanted.old }
 {
-    let end = smaller(count as usize, wanted.len());
-    let mut q: usize = 0;
-    while q < end {
-        wanted[q] = wanted_input(inputs, operand_at(operands, q));
-        q += 1;
-    }
+    let pins = 2 * list.gates.len();
+    list_by(
+        wanted,
+        pins,
+        |q| wanted_input(list.before, operand(list.gates, q)),
+    );
 }
 
 // The operand if it is an input, otherwise input 1.
-fn wanted_input(inputs: u16, operand: PlanWire) -> u16
+#[tactic(auto, unfolding(fabric_universal::specs::Fabric::wanted_input))]
+fn wanted_input(inputs: u32, operand: PlanWire) -> u16
     ensures { result ≡ wanted_input inputs operand.0 }
 {
-    if operand.0 <= inputs { operand.0 } else { 1 }
+    if u32::from(operand.0) <= inputs {
+        operand.0
+    } else {
+        1
+    }
 }
 
 // The gates that the outputs name, counted from 1, at the front of `wanted`, as far as the record and the list have places.
 pub fn list_outputs(plan: Plan, wanted: &mut [u16])
     ensures { wanted.new ≡ over (take (min max_outputs (length wanted.old)) (wanted_outputs plan)) wanted.old }
 {
-    let outputs = plan.outputs;
-    let places = smaller(Plan::MAX_OUTPUTS, wanted.len());
-    let end = smaller(plan.output_count as usize, places);
-    let mut j: usize = 0;
-    while j < end {
-        wanted[j] = gate_number(plan.inputs, outputs[j]);
-        j += 1;
-    }
+    let count = usize::from(plan.output_count).min(Plan::MAX_OUTPUTS);
+    list_by(wanted, count, |j| gate_number(plan.inputs, plan.outputs[j]));
 }
 
 // Which gate behind `inputs` inputs has the wire, counted from 1; 0 for an input.
 fn gate_number(inputs: u16, wire: PlanWire) -> u16
     ensures { result ≡ wire.0 - inputs }
 {
-    if wire.0 <= inputs {
-        return 0;
-    }
-    wire.0 - inputs
+    wire.0.saturating_sub(inputs)
 }
 
-// The gates of an upper half that the pins of its lower half want, at the front of `wanted`, as far as it has places. The upper half has `half`
-// gates from `base` on, whose wires follow `before` others.
-pub fn list_gates(before: u32, base: u32, half: u32, operands: &[u16], wanted: &mut [u16])
-    ensures { wanted.new ≡ over (take (length wanted.old) (wanted_gates (listed_operands before operands.now) base half)) wanted.old }
+// The gates of an upper half that the pins of its lower half want, at the front of `wanted`, as far as it has places. The list has the gates of
+// both halves.
+pub fn list_gates(list: GateList, wanted: &mut [u16])
+    ensures { wanted.new ≡ over (take (length wanted.old) (wanted_gates (listed_gates list.entry.before list.entry.gates.now) 0 (length list.entry.gates.now / 2))) wanted.old }
 {
-    let first = before as usize + base as usize;
-    let half = half as usize;
-    let place = 2 * (base as usize + half);
-    let end = smaller(2 * half, wanted.len());
-    let mut j: usize = 0;
-    while j < end {
-        wanted[j] = wanted_gate(first, half, operand_at(operands, place + j));
-        j += 1;
-    }
+    let before = list.before as usize;
+    let half = list.gates.len() / 2;
+    let lower = &list.gates[half..];
+    list_by(
+        wanted,
+        2 * half,
+        |j| wanted_gate(before, half, operand(lower, j)),
+    );
+}
+
+// The bits of the Y rows before the lower half, stored from bit `start` on as far as the program goes: 1 if the operand of the row's pin is a
+// gate of the upper half. The list has the gates of both halves.
+pub fn store_choices(list: GateList, program: &mut [u8], start: u32)
+    ensures { program.new ≡ store_bits program.old start (mix_bits (listed_gates list.entry.before list.entry.gates.now) 0 (length list.entry.gates.now / 2)) }
+{
+    let before = list.before as usize;
+    let half = list.gates.len() / 2;
+    let lower = &list.gates[half..];
+    store_bits_by(program, start as usize, 2 * half, |j| {
+        is_among(before, half, operand(lower, j))
+    });
 }
 
 // Of the `half` gates behind `before` wires the operand, counted from 1, if it is one of them, otherwise the first.
+#[tactic(auto, unfolding(crate::specs::WantedLists::wanted_among, crate::specs::WantedLists::is_among))]
 fn wanted_gate(before: usize, half: usize, operand: PlanWire) -> u16
     ensures { result ≡ wanted_among before half operand.0 }
 {
     if is_among(before, half, operand) {
-        return (operand.0 as usize - before) as u16;
+        (usize::from(operand.0) - before) as u16
+    } else {
+        1
     }
-    1
-}
-
-// The bits of the Y rows before the lower half, stored from bit `start` on as far as the program goes.
-pub fn store_choices(
-    before: u32,
-    base: u32,
-    half: u32,
-    operands: &[u16],
-    program: &mut [u8],
-    start: u32,
-)
-    ensures { program.new ≡ store_bits program.old start (mix_bits (listed_operands before operands.now) base half) }
-{
-    let first = before as usize + base as usize;
-    let half = half as usize;
-    let place = 2 * (base as usize + half);
-    let rows = 2 * half;
-    let mut j: usize = 0;
-    while j < rows {
-        let n = smaller(rows - j, BYTE_BITS);
-        let byte = choices_byte(first, half, operands, place + j, n);
-        store_field(program, start as usize + j, byte, n as u32);
-        j += n;
-    }
-}
-
-// The bits of the Y rows of n pins from pin `at` on as one number, the first lowest.
-fn choices_byte(before: usize, half: usize, operands: &[u16], at: usize, n: usize) -> u8
-    requires { (n ≤ bits_held 1) × (at + n < 2 ^ 64) }
-    ensures { result ≡ number_of (λ k. choice_at before half operands.now (at + k)) n }
-{
-    let mut x: u8 = 0;
-    let mut k = n;
-    while 0 < k {
-        k -= 1;
-        x = 2 * x + choice_bit(before, half, operand_at(operands, at + k));
-    }
-    x
-}
-
-// The bit of a Y row: 1 if the operand is one of the `half` gates behind `before` wires.
-fn choice_bit(before: usize, half: usize, operand: PlanWire) -> u8
-    ensures { result ≡ one_if (is_among before half operand.0) }
-{
-    if is_among(before, half, operand) {
-        return 1;
-    }
-    0
 }
 
 // Whether the operand is one of the `half` gates behind `before` wires.
+#[tactic(auto, unfolding(crate::specs::WantedLists::is_among))]
 fn is_among(before: usize, half: usize, operand: PlanWire) -> bool
     ensures { result ≡ is_among before half operand.0 }
 {
-    let wire = operand.0 as usize;
-    if wire <= before {
-        return false;
-    }
-    if half < wire - before {
-        return false;
-    }
-    true
+    let wire = usize::from(operand.0);
+    before < wire && wire - before <= half
 }
 
-// The operand of pin q, wire 0 past the end of the list.
-fn operand_at(operands: &[u16], q: usize) -> PlanWire
-    ensures { result.0 ≡ get_or operands.now q 0 }
+// What `input` gives for each of the first `count` places, at the front of `wanted`, as far as it has places.
+fn list_by<F: Fn(usize) -> u16>(wanted: &mut [u16], count: usize, input: F)
+    requires { (q : ℕ) → q < count → F.pre input q }
+    ensures { (f : ℕ → ℕ) → Gives (F.post input) count f → wanted.new ≡ over (take (length wanted.old) (list_of count f)) wanted.old }
 {
-    if q < operands.len() {
-        return PlanWire(operands[q]);
+    let end = count.min(wanted.len());
+    for (q, place) in wanted[..end].iter_mut().enumerate() {
+        *place = input(q);
     }
-    PlanWire(0)
 }

@@ -1,4 +1,4 @@
--- G's row and the Y rows
+-- the Y rows
 pub mod ElementLaws
--- what the calls for the selection blocks store
+-- what a done call copies
 pub mod PutLaws

@@ -1,3 +1,5 @@
+-- lists whose stretches are written in turn
+pub mod StretchesLaws
 -- the rows and wires that the parts of U write
 pub mod BlockLaws
 -- writing U, in the code's order

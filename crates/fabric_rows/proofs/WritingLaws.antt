@@ -1,13 +1,12 @@
--- Writing the fabric's table, in the code's order: the header, the rows of S(u, 2K), of U(K), of S(K, v), and the output wires follow each other,
--- and what each part gives feeds the next.
-use mathlib.Core.Path.{◌≡◌, refl, sym, ap, ap₂, ◌∙◌}
+-- Writing the fabric's table: the header, the rows of S(u, 2K), of U(K), of S(K, v), and the output wires follow each other, and what each part
+-- gives feeds the next.
+use mathlib.Core.Path.{◌≡◌, sym, ap, ◌∙◌}
 use mathlib.Core.List.{List, [], ◌∷◌, ◌++◌, append_assoc}
 use Prim.Native.Nat.{ℕ, suc, ◌+◌, ◌-◌, ◌*◌, ◌^◌, ◌≤◌}
 use native.Mathlib.Numerals.{add-one}
 use native.Mathlib.Omega.{arith}
-use borrow.Rule.Slice.PartMut.{mid_len}
-use lib.ListN.{length, set, take, drop, length-append, length-drop}
-use lib.Seq.{take_at, take_all}
+use lib.ListN.{length, take, drop, length-append, length-drop}
+use lib.Seq.{take_at, drop_at, take_all, drop-drop}
 use Rattle.lists.specs.Lists.{list_of}
 use Rattle.lists.proofs.ListsLaws.{list_of_ext}
 use Rattle.fault.specs.Buffers.{over, part_of, with_part}
@@ -15,47 +14,36 @@ use Rattle.fault.proofs.PartsLaws.{length_over, over-part}
 use Rattle.elements.specs.declared.Counts.{Counts}
 use Rattle.blocks.specs.Elements.{stride, flat, wires_put}
 use Rattle.blocks.proofs.ElementsLaws.{flat_append, wires-put}
-use Rattle.blocks.specs.Networks.{selection_rows, selection_outs, selection_count, selection_wires}
+use Rattle.blocks.specs.Networks.{selection_rows, selection_outs}
 use Rattle.blocks.proofs.NetworksLaws.{length-selection_outs}
 use Rattle.blocks.specs.Calls.{selection_written_rows, selection_written_outputs, SelectionWritePasses}
-use Rattle.plan.specs.Record.{max_inputs, max_gates, max_outputs}
+use Rattle.plan.specs.Record.{max_inputs, max_outputs}
 use Rattle.plan.specs.Faults.{CountsWithin}
 use Rattle.fabric_universal.specs.Selector.{pin_count, selection}
-use Rattle.fabric_universal.specs.Universal.{universal_count, universal_wires, universal_outs, universal_rows}
+use Rattle.fabric_universal.specs.Universal.{universal_wires, universal_outs, universal_rows}
 use Rattle.fabric_universal.proofs.UniversalLaws.{length-universal_outs}
 use Rattle.fabric_universal.specs.Fabric.{gate_level, input_wires, fabric_pins, universal_next, fabric_output_next, gate_outs, fabric_rows, fabric_outs}
 use Rattle.fabric_universal.specs.Fabric.{fabric_count, fabric_wires, fabric_table}
 use Rattle.fabric_universal.proofs.FabricLaws.{length-input_wires, inputs-below, gates-below, fabric_within}
-use Rattle.fabric_sizes.specs.Layout.{header, row_start}
+use Rattle.fabric_sizes.specs.Layout.{header}
 use Rattle.fabric_sizes.specs.Counting.{table_length}
-use Rattle.fabric_sizes.specs.Parts.{max_pins, PlacesAre, SelectionIs, UniversalIs}
+use Rattle.fabric_sizes.specs.Parts.{PlacesAre, SelectionIs, UniversalIs}
 use Rattle.fabric_sizes.proofs.PartsLaws.{few-places, same-level}
-use Rattle.fabric_sizes.specs.FabricChecks.{FabricPasses}
 use Rattle.fabric_parts.specs.Copied.{copied_at, outputs_put}
 use Rattle.fabric_rows.specs.declared.writing.Layout.{Layout}
 use Rattle.fabric_rows.specs.Writing.{LayoutIs, PinRoom}
 use Rattle.fabric_rows.specs.Block.{UniversalWriteRoom}
-use Rattle.fabric_rows.proofs.BlockLaws.{selection-done, selection-put, length-selection, over-behind}
-use Rattle.fabric_rows.proofs.UniversalWriteLaws.{length_universal}
+use Rattle.fabric_rows.proofs.StretchesLaws.{stretch_of, with_stretch, WrittenTo, front_put, rest_lent, length_lent, stretch_put}
+use Rattle.fabric_rows.proofs.BlockLaws.{selection-done, selection-put, length-selection, over-filled}
 
--- the entries of S(K, v) on the first K of the gates' wires: its rows, and behind them its output wires
-unfoldable pub output_entries : ℕ → ℕ → List ℕ → ℕ → List ℕ
-output_entries gates v outs next = flat (selection_rows gates v (take gates outs) next) ++ selection_outs gates v (take gates outs) next
-
--- room for them: the output wires from the entry `end` on, in a part of the table of `rows` entries
-pub record FabricOutputRoom (gates v end next : ℕ) (outs : List ℕ) (rows : ℕ) : Type 0 where
-  pub passes : SelectionWritePasses gates v (take gates outs) next rows max_outputs
-  pub end_at : end ≡ stride * selection_count gates v
-  pub enough : end + v ≤ rows
-
--- ---- where the parts begin
+-- ---- the layout
 
 -- what the code computes from the parts' counts
 pub record LaidOut (u : ℕ) (pins universal outputs : Counts) (l : Layout) : Type 0 where
   pub is_rows : l.rows ≡ pins.rows + universal.rows + outputs.rows
-  pub universal_at : l.universal ≡ row_start pins.rows
-  pub outputs_at : l.outputs ≡ row_start (pins.rows + universal.rows)
-  pub end_at : l.end ≡ stride * outputs.rows
+  pub pins_are : l.pins ≡ stride * pins.rows
+  pub universal_is : l.universal ≡ stride * universal.rows
+  pub outputs_are : l.outputs ≡ stride * outputs.rows
   pub universal_from : l.universal_next.0 ≡ 1 + u + pins.wires
   pub output_from : l.output_next.0 ≡ 1 + u + pins.wires + universal.wires
 
@@ -77,22 +65,14 @@ layout_is {u} {k} {v} {l} within p g o places at =
       are_gates = places.is_places;
       some_gates = places.some;
       few_gates = rw places.is_places (few-places k within.gates);
-      universal_at = omega (arith, at.universal_at);
-      outputs_at = omega (arith, at.universal_at, at.outputs_at);
-      end_at = omega (arith, at.end_at);
-      whole = omega (arith, at.outputs_at, at.end_at);
+      pins_are = omega (arith, at.pins_are);
+      universal_is = omega (arith, at.universal_is);
+      outputs_are = omega (arith, at.outputs_are);
+      whole = omega (arith, at.pins_are, at.universal_is, at.outputs_are);
       universal_from = omega (arith, at.universal_from);
       output_from = omega (arith, at.output_from);
       wires = omega (arith, few.wires);
     }
-
--- ---- the header
-
-pub header-put : (u v rows : ℕ) (T : List ℕ) → header ≤ length T → set (set (set T 0 u) 1 v) 2 rows ≡ over (u ∷ v ∷ rows ∷ []) T
-header-put u v rows [] h = absurd (omega arith)
-header-put u v rows (a ∷ []) h = absurd (omega arith)
-header-put u v rows (a ∷ b ∷ []) h = absurd (omega arith)
-header-put u v rows (a ∷ b ∷ c ∷ T) h = refl
 
 -- ---- the pins: the wires 1 to u stand in the front of the list A
 
@@ -106,239 +86,149 @@ module _ {u gates : ℕ} {A : List ℕ} (I R₀ P₀ : List ℕ) (room : PinRoom
       let e = put ∙ wires-put u 1 1 I (record { room = omega arith; each = λ i l. omega arith }) ∙ ap (λ l. over l I) same in
       rw e (take_at (input_wires u) (drop (length (input_wires u)) I) u (length-input_wires u))
 
+  passes : SelectionWritePasses u (2 * gates) (input_wires u) (suc u) (length R₀) (length P₀)
+  passes = record {
+    sizes = record {
+      some_inputs = room.some_inputs;
+      inputs = omega (arith, room.inputs);
+      some_outputs = omega (arith, room.some_gates);
+      outputs = omega (arith, room.few_gates);
+    };
+    inputs = length-input_wires u;
+    made = inputs-below u;
+    wires = λ _. room.wires;
+    row_room = omega (arith, room.row_room);
+    output_room = omega (arith, room.pin_room);
+  }
+
   pub pins-put : {R P : List ℕ}
       → (R ≡ selection_written_rows u (2 * gates) (take u A) (u + 1) R₀ P₀) × (P ≡ selection_written_outputs u (2 * gates) (take u A) (u + 1) R₀ P₀)
-      → (R ≡ over (flat (selection_rows u (2 * gates) (input_wires u) (suc u))) R₀) × (P ≡ over (selection_outs u (2 * gates) (input_wires u) (suc u)) P₀)
-  pins-put {R} {P} w = selection-put u (2 * gates) (input_wires u) (suc u) R₀ P₀ R P room.passes (rw (inputs-put, add-one u) at w)
+      → (R ≡ flat (selection_rows u (2 * gates) (input_wires u) (suc u))) × (P ≡ selection_outs u (2 * gates) (input_wires u) (suc u))
+  pins-put {R} {P} w =
+      let ins = input_wires u in
+      let put-on = selection-put u (2 * gates) ins (suc u) R₀ P₀ R P passes (rw (inputs-put, add-one u) at w) in (
+        put-on.0
+            ∙ over-filled (flat (selection_rows u (2 * gates) ins (suc u))) R₀ (length-selection u (2 * gates) ins (suc u) ∙ sym room.row_room),
+        put-on.1 ∙ over-filled (selection_outs u (2 * gates) ins (suc u)) P₀ (length-selection_outs u (2 * gates) ins (suc u) ∙ sym room.pin_room),
+      )
 
--- ---- the outputs: F is the table's part from the rows of S(K, v) on
+-- ---- the table: T is what is lent
 
-outputs-put : {gates v end next : ℕ} {outs : List ℕ} (R₀ : List ℕ) {F : List ℕ} → FabricOutputRoom gates v end next outs (length R₀)
-    → F ≡ outputs_put gates v end next outs R₀ → F ≡ over (output_entries gates v outs next) R₀
-unfolding output_entries copied_at
-outputs-put {gates} {v} {end} {next} {outs} R₀ room e =
-    let ins = take gates outs in
-    let A = flat (selection_rows gates v ins next) in
-    let O = selection_outs gates v ins next in
-    let a : length A ≡ end = length-selection gates v ins next ∙ sym room.end_at in
-    let o : length O ≡ v = length-selection_outs gates v ins next in
-    let enough = room.enough in
-    let rest : length (drop end (over A R₀)) ≡ length R₀ - end = length-drop end (over A R₀) ∙ ap (λ n. n - end) (length_over A R₀ (omega arith)) in
-    rw (selection-done gates v ins next (length R₀) max_outputs room.passes) at e
-    ∙ ap (λ l. take end (over A R₀) ++ over l (drop end (over A R₀))) (take_all (length (drop end (over A R₀))) O (omega arith))
-    ∙ over-behind A O R₀ end a
+-- what is written behind what was written
+over-behind : (a b L : List ℕ) (n : ℕ) → length a ≡ n → take n (over a L) ++ over b (drop n (over a L)) ≡ over (a ++ b) L
+over-behind a b L n e =
+    rw (take_at a (drop (length a) L) n e, drop_at a (drop (length a) L) n e, drop-drop (length b) (length a) L, length-append a b, append_assoc)
 
--- ---- the steps. T is the table, with a number for each step, F what a callee was lent of it; P and O the lists of pins and of the gates' wires
+module _ {u k v : ℕ} {l : Layout} (at : LayoutIs u k v l) (T : List ℕ) (enough : table_length u k v ≤ length T) where
+  fits : header + l.pins + l.universal + (l.outputs + v) ≤ length T
+  fits = omega (arith, at.whole, enough)
 
--- the checks passed, the layout is found, the header stands
-pub record FabricBegun (u k v : ℕ) (l : Layout) (T₀ T₁ : List ℕ) : Type 0 where
-  pub passes : FabricPasses u k v (length T₀)
-  pub layout : LayoutIs u k v l
-  pub headed : T₁ ≡ over (u ∷ v ∷ l.rows ∷ []) T₀
+  -- the header H and the rows S of S(u, 2K) are written, which gives P
+  module _ (H S : List ℕ) (lh : length H ≡ length (take header T)) (ls : length S ≡ length (stretch_of header (header + l.pins) (H ++ drop header T))) where
+    abbrev P : List ℕ
+    P = with_stretch header (header + l.pins) (H ++ drop header T) S
 
--- S(u, 2K) is written
-pub record PinsDone (u : ℕ) (l : Layout) (T₁ P₀ F₂ P₂ : List ℕ) : Type 0 where
-  pub rows : F₂ ≡ over (flat (selection_rows u (2 * l.gates) (input_wires u) (suc u))) (part_of header T₁)
-  pub pins : P₂ ≡ over (selection_outs u (2 * l.gates) (input_wires u) (suc u)) P₀
+    pins-in : WrittenTo (header + l.pins) (H ++ S) T P
+    pins-in = stretch_put (front_put H T header (omega (arith, fits)) lh) S (header + l.pins) (omega arith) (omega (arith, fits)) ls
 
--- U(K) is written
-pub record GatesDone (l : Layout) (T₂ P₂ O₀ F₃ O₃ : List ℕ) : Type 0 where
-  pub rows :
-      F₃ ≡ over (flat (universal_rows selection (gate_level l.gates) (take (pin_count (gate_level l.gates)) P₂) l.universal_next.0)) (part_of l.universal T₂)
-  pub outs : O₃ ≡ over (universal_outs selection (gate_level l.gates) l.universal_next.0) O₀
+    pub universal-room : {pins outs : ℕ} → pins ≡ 2 * l.gates → outs ≡ l.gates
+        → UniversalWriteRoom l.universal_next.0 (length (stretch_of (header + l.pins) (header + l.pins + l.universal) P)) pins outs
+    universal-room ep eo =
+        let level : gate_level l.gates ≡ gate_level k = ap gate_level at.are_gates ∙ same-level k in
+        let lent = length_lent pins-in (header + l.pins + l.universal) (omega arith) (omega (arith, fits)) in
+        rw eo (record {
+          power = at.are_gates ∙ ap (λ m. 2 ^ m) (sym level);
+          few = at.few_gates;
+          wires = omega (arith, at.universal_from, ap (universal_wires selection) level, at.wires);
+          row_room = rw level (lent ∙ omega (arith, at.universal_is));
+          pin_room = ep;
+        })
 
-module _ {u k v : ℕ} {l : Layout} {T₀ T₁ : List ℕ} (begun : FabricBegun u k v l T₀ T₁) where
+    -- the rows G of U(K) are written too
+    pub gates-in : (G : List ℕ) → length G ≡ length (stretch_of (header + l.pins) (header + l.pins + l.universal) P)
+        → WrittenTo (header + l.pins + l.universal) ((H ++ S) ++ G) T (with_stretch (header + l.pins) (header + l.pins + l.universal) P G)
+    gates-in G lg = stretch_put pins-in G (header + l.pins + l.universal) (omega arith) (omega (arith, fits)) lg
+
+module _ {u k v : ℕ} {l : Layout} (within : CountsWithin u k v) (at : LayoutIs u k v l) where
   abbrev n : ℕ
   n = gate_level k
 
-  at : LayoutIs u k v l
-  at = begun.layout
+  abbrev A : List ℕ
+  A = flat (selection_rows u (pin_count n) (input_wires u) (suc u))
 
-  abbrev H : List ℕ
-  H = u ∷ v ∷ l.rows ∷ []
+  abbrev B : List ℕ
+  B = flat (universal_rows selection n (fabric_pins u k) (universal_next u k))
 
-  enough : table_length u k v ≤ length T₀
-  enough = begun.passes.enough
+  abbrev C : List ℕ
+  C = flat (selection_rows (2 ^ n) v (gate_outs u k) (fabric_output_next u k)) ++ fabric_outs u k v
 
-  level-is : gate_level l.gates ≡ n
-  level-is = ap gate_level at.are_gates ∙ same-level k
+  length-C : length C ≡ l.outputs + v
+  unfolding fabric_outs
+  length-C =
+      length-append (flat (selection_rows (2 ^ n) v (gate_outs u k) (fabric_output_next u k))) (fabric_outs u k v)
+      ∙ omega (
+        arith,
+        length-selection (2 ^ n) v (gate_outs u k) (fabric_output_next u k),
+        length-selection_outs (2 ^ n) v (gate_outs u k) (fabric_output_next u k),
+        at.outputs_are,
+      )
 
-  pin_count_lem : 2 * l.gates ≡ pin_count n
-  pin_count_lem = ap (λ m. 2 * m) at.are_gates
+  -- R is the part of the table from the rows of S(K, v) on
+  module _ (R : List ℕ) (long : l.outputs + v ≤ length R) where
+    -- S(K, v) has nothing to refuse
+    output-passes : SelectionWritePasses (2 ^ n) v (gate_outs u k) (fabric_output_next u k) (length R) max_outputs
+    output-passes = record {
+      sizes = record {
+        some_inputs = omega (arith, at.some_gates, at.are_gates);
+        inputs = omega (arith, at.few_gates, at.are_gates);
+        some_outputs = within.some_outputs;
+        outputs = omega (arith, within.outputs);
+      };
+      inputs = length-universal_outs selection n (universal_next u k);
+      made = gates-below u k v;
+      wires = λ _. at.wires;
+      row_room = omega (arith, long, at.outputs_are);
+      output_room = within.outputs;
+    }
 
-  length-T₁ : length T₁ ≡ length T₀
-  length-T₁ = ap length begun.headed ∙ length_over H T₀ (omega (arith, enough))
+    -- what it leaves of its part of the table, from the gates' wires O
+    output-rows : {O F : List ℕ} → O ≡ gate_outs u k → F ≡ outputs_put l.gates v l.outputs l.output_next.0 O R → F ≡ over C R
+    unfolding fabric_outs copied_at
+    output-rows {O} {F} eo e =
+        let ins : List ℕ = gate_outs u k in
+        let next = fabric_output_next u k in
+        let all : take (2 ^ n) ins ≡ ins = take_all (2 ^ n) ins (omega (arith, length-universal_outs selection n (universal_next u k))) in
+        let S = flat (selection_rows (2 ^ n) v ins next) in
+        let W = selection_outs (2 ^ n) v ins next in
+        let a : length S ≡ l.outputs = length-selection (2 ^ n) v ins next ∙ sym at.outputs_are in
+        let o : length W ≡ v = length-selection_outs (2 ^ n) v ins next in
+        let behind : length (drop l.outputs (over S R)) ≡ length R - l.outputs =
+        length-drop l.outputs (over S R) ∙ ap (λ m. m - l.outputs) (length_over S R (omega (arith, a, long))) in
+        rw (eo, at.are_gates, at.output_from, all, selection-done (2 ^ n) v ins next (length R) max_outputs output-passes) at e
+        ∙ ap (λ w. take l.outputs (over S R) ++ over w (drop l.outputs (over S R))) (take_all (length (drop l.outputs (over S R))) W (omega (arith, behind, o, long)))
+        ∙ over-behind S W R l.outputs a
 
-  count-is : selection_count u (2 * l.gates) ≡ selection_count u (pin_count n)
-  count-is = ap (selection_count u) pin_count_lem
+  -- the header and the parts, one behind the other
+  table-parts : (((u ∷ v ∷ l.rows ∷ []) ++ A) ++ B) ++ C ≡ fabric_table u k v
+  unfolding fabric_table fabric_rows
+  table-parts =
+      ap (λ m. u ∷ v ∷ m ∷ ((A ++ B) ++ C)) at.is_rows
+      ∙ ap (λ (t : List ℕ). u ∷ v ∷ fabric_count u k v ∷ t) (simp (flat_append, append_assoc))
 
-  wires_are : selection_wires u (2 * l.gates) ≡ selection_wires u (pin_count n)
-  wires_are = ap (selection_wires u) pin_count_lem
-
-  pub pin_room_lem : PinRoom u l.gates (length (part_of header T₁)) max_pins
-  pin_room_lem =
-      let counts = begun.passes.counts in
-      record {
-        inputs = counts.inputs;
-        few_gates = at.few_gates;
-        passes = record {
-          sizes = record {
-            some_inputs = counts.some_inputs;
-            inputs = omega (arith, counts.inputs);
-            some_outputs = omega (arith, at.some_gates);
-            outputs = omega (arith, at.few_gates);
-          };
-          inputs = length-input_wires u;
-          made = inputs-below u;
-          wires = λ _. omega (arith, wires_are, at.wires);
-          row_room = rw (mid_len header (length T₁) T₁ (omega arith))
-              (omega (arith, count-is, length-T₁, enough, at.whole, at.outputs_at, at.universal_at));
-          output_room = omega (arith, at.few_gates);
-        };
-      }
-
-  -- after S(u, 2K)
-  module _ {P₀ F₂ P₂ : List ℕ} (pinned : PinsDone u l T₁ P₀ F₂ P₂) where
-    abbrev A : List ℕ
-    A = flat (selection_rows u (pin_count n) (input_wires u) (suc u))
-
-    abbrev T₂ : List ℕ
-    T₂ = with_part header T₁ F₂
-
-    length-A : header + length A ≡ l.universal
-    length-A = omega (arith, length-selection u (pin_count n) (input_wires u) (suc u), at.universal_at)
-
-    pins-rows : T₂ ≡ over (H ++ A) T₀
-    pins-rows =
-        over-part H T₀ T₁ header refl (omega (arith, enough)) begun.headed A F₂
-        (omega (arith, length-A, enough, at.whole, at.outputs_at))
-        (pinned.rows ∙ ap (λ m. over (flat (selection_rows u m (input_wires u) (suc u))) (part_of header T₁)) pin_count_lem)
-
-    length-first : length (H ++ A) ≡ l.universal
-    length-first = length-append H A ∙ length-A
-
-    length-T₂ : length T₂ ≡ length T₀
-    length-T₂ = ap length pins-rows ∙ length_over (H ++ A) T₀ (omega (arith, length-first, enough, at.whole, at.outputs_at))
-
-    pins_are_lem : take (pin_count (gate_level l.gates)) P₂ ≡ fabric_pins u k
-    pins_are_lem =
-        let outs = selection_outs u (2 * l.gates) (input_wires u) (suc u) in
-        let long : length outs ≡ pin_count (gate_level l.gates) =
-        length-selection_outs u (2 * l.gates) (input_wires u) (suc u) ∙ pin_count_lem ∙ ap pin_count (sym level-is) in
-        rw pinned.pins (take_at outs (drop (length outs) P₀) (pin_count (gate_level l.gates)) long)
-        ∙ ap (λ m. selection_outs u m (input_wires u) (suc u)) pin_count_lem
-
-    rows_at : universal_count selection (gate_level l.gates) ≡ universal_count selection n
-    rows_at = ap (universal_count selection) level-is
-
-    pub universal_write_room : UniversalWriteRoom l.gates l.universal_next.0 (length (part_of l.universal T₂)) max_pins max_gates
-    universal_write_room =
-        let few = at.few_gates in
-        record {
-          power = at.are_gates ∙ ap (λ m. 2 ^ m) (sym level-is);
-          few = few;
-          wires = omega (arith, at.universal_from, ap (universal_wires selection) level-is, at.wires);
-          row_room = rw (mid_len l.universal (length T₂) T₂ (omega arith)) (omega (arith, length-T₂, rows_at, enough, at.whole, at.outputs_at));
-          pin_room = omega arith;
-          out_room = omega arith;
-        }
-
-    -- after U(K)
-    module _ {O₀ F₃ O₃ : List ℕ} (gated : GatesDone l T₂ P₂ O₀ F₃ O₃) where
-      abbrev B : List ℕ
-      B = flat (universal_rows selection n (fabric_pins u k) (universal_next u k))
-
-      abbrev T₃ : List ℕ
-      T₃ = with_part l.universal T₂ F₃
-
-      length-B : length B ≡ stride * universal_count selection n
-      length-B = length_universal n (fabric_pins u k) (universal_next u k)
-
-      gate-rows : F₃ ≡ over B (part_of l.universal T₂)
-      gate-rows =
-          gated.rows
-          ∙ ap (λ ps. over (flat (universal_rows selection (gate_level l.gates) ps l.universal_next.0)) (part_of l.universal T₂)) pins_are_lem
-          ∙ ap₂ (λ m k'. over (flat (universal_rows selection m (fabric_pins u k) k')) (part_of l.universal T₂)) level-is at.universal_from
-
-      gates-rows : T₃ ≡ over ((H ++ A) ++ B) T₀
-      gates-rows =
-          over-part (H ++ A) T₀ T₂ l.universal length-first (omega (arith, enough, at.whole, at.outputs_at)) pins-rows B F₃
-          (omega (arith, length-B, enough, at.whole, at.outputs_at)) gate-rows
-
-      length-second : length ((H ++ A) ++ B) ≡ l.outputs
-      length-second = length-append (H ++ A) B ∙ omega (arith, length-first, length-B, at.outputs_at)
-
-      length-T₃ : length T₃ ≡ length T₀
-      length-T₃ = ap length gates-rows ∙ length_over ((H ++ A) ++ B) T₀ (omega (arith, length-second, enough, at.whole))
-
-      gates_are : take l.gates O₃ ≡ gate_outs u k
-      gates_are =
-          let outs = universal_outs selection (gate_level l.gates) l.universal_next.0 in
-          let long : length outs ≡ l.gates =
-          length-universal_outs selection (gate_level l.gates) l.universal_next.0 ∙ ap (λ m. 2 ^ m) level-is ∙ sym at.are_gates in
-          rw gated.outs (take_at outs (drop (length outs) O₀) l.gates long)
-          ∙ ap₂ (universal_outs selection) level-is at.universal_from
-
-      output-room : FabricOutputRoom l.gates v l.end l.output_next.0 O₃ (length (part_of l.outputs T₃))
-      output-room =
-          let counts = begun.passes.counts in
-          let endIs : l.end ≡ stride * selection_count l.gates v =
-          at.end_at ∙ ap (λ m. stride * selection_count m v) (sym at.are_gates) in
-          let rest : length (part_of l.outputs T₃) ≡ length T₀ - l.outputs =
-          mid_len l.outputs (length T₃) T₃ (omega arith) ∙ ap (λ m. m - l.outputs) length-T₃ in
-          record {
-            passes = record {
-              sizes = record {
-                some_inputs = at.some_gates;
-                inputs = omega (arith, at.few_gates);
-                some_outputs = counts.some_outputs;
-                outputs = omega (arith, counts.outputs);
-              };
-              inputs = ap length gates_are ∙ length-universal_outs selection n (universal_next u k) ∙ sym at.are_gates;
-              made = rw (gates_are, at.output_from) (gates-below u k v);
-              wires = λ _. omega (arith, at.output_from, ap (λ m. selection_wires m v) at.are_gates, at.wires);
-              row_room = omega (arith, rest, enough, at.whole);
-              output_room = counts.outputs;
-            };
-            end_at = endIs;
-            enough = omega (arith, rest, enough, at.whole);
-          }
-
-      -- after S(K, v)
-      module _ {F₄ : List ℕ} (out : F₄ ≡ outputs_put l.gates v l.end l.output_next.0 O₃ (part_of l.outputs T₃)) where
-        abbrev C : List ℕ
-        C = flat (selection_rows (2 ^ n) v (gate_outs u k) (fabric_output_next u k)) ++ fabric_outs u k v
-
-        output-rows : F₄ ≡ over C (part_of l.outputs T₃)
-        unfolding fabric_outs output_entries
-        output-rows =
-            outputs-put (part_of l.outputs T₃) output-room out
-            ∙ ap (λ (gs : List ℕ). over (flat (selection_rows l.gates v gs l.output_next.0)
-            ++ selection_outs l.gates v gs l.output_next.0) (part_of l.outputs T₃)) gates_are
-            ∙ ap₂ (λ m k'. over (flat (selection_rows m v (gate_outs u k) k') ++ selection_outs m v (gate_outs u k) k') (part_of l.outputs T₃))
-            at.are_gates at.output_from
-
-        length-C : length C ≡ l.end + v
-        unfolding fabric_outs
-        length-C =
-            length-append (flat (selection_rows (2 ^ n) v (gate_outs u k) (fabric_output_next u k))) (fabric_outs u k v)
-            ∙ omega (
-              arith,
-              length-selection (2 ^ n) v (gate_outs u k) (fabric_output_next u k),
-              length-selection_outs (2 ^ n) v (gate_outs u k) (fabric_output_next u k),
-              at.end_at,
-            )
-
-        table-parts : ((H ++ A) ++ B) ++ C ≡ fabric_table u k v
-        unfolding fabric_table fabric_rows
-        table-parts =
-            append_assoc (H ++ A) B C
-            ∙ append_assoc H A (B ++ C)
-            ∙ ap (λ m. u ∷ v ∷ m ∷ (A ++ (B ++ C))) at.is_rows
-            ∙ ap (λ (t : List ℕ). u ∷ v ∷ fabric_count u k v ∷ t) (simp (flat_append, append_assoc))
-
-        pub table-written : with_part l.outputs T₃ F₄ ≡ over (fabric_table u k v) T₀
-        table-written =
-            over-part ((H ++ A) ++ B) T₀ T₃ l.outputs length-second (omega (arith, enough, at.whole)) gates-rows C F₄
-            (omega (arith, length-C, enough, at.whole)) output-rows
-            ∙ ap (λ t. over t T₀) table-parts
+  -- P is the table with the parts in front of these written
+  pub table-written : {T H S G P Q O F : List ℕ} {outs : ℕ} → table_length u k v ≤ length T → WrittenTo (header + l.pins + l.universal) ((H ++ S) ++ G) T P
+      → H ≡ u ∷ v ∷ l.rows ∷ [] → S ≡ flat (selection_rows u (2 * l.gates) (input_wires u) (suc u))
+      → Q ≡ selection_outs u (2 * l.gates) (input_wires u) (suc u) → outs ≡ l.gates
+      → G ≡ flat (universal_rows selection (gate_level outs) Q l.universal_next.0) → O ≡ universal_outs selection (gate_level outs) l.universal_next.0
+      → F ≡ outputs_put l.gates v l.outputs l.output_next.0 O (part_of (header + l.pins + l.universal) P)
+      → with_part (header + l.pins + l.universal) P F ≡ over (fabric_table u k v) T
+  table-written {T} {H} {S} {G} {P} {F = F} {outs = outs} enough w eh es ep eu eg eo ef =
+      let p : ℕ = header + l.pins + l.universal in
+      let end = fits at T enough in
+      let pins : 2 * l.gates ≡ pin_count n = ap (λ m. 2 * m) at.are_gates in
+      let level : gate_level outs ≡ n = ap gate_level (eu ∙ at.are_gates) ∙ same-level k in
+      let first : S ≡ A = rw pins at es in
+      let second : G ≡ B = rw (level, at.universal_from, rw pins at ep) at eg in
+      let third = output-rows (part_of p P) (omega (arith, ap length (rest_lent w), length-drop p T)) (rw (level, at.universal_from) at eo) ef in
+      let all : ((H ++ S) ++ G) ++ C ≡ fabric_table u k v = rw (eh, first, second) table-parts in
+      over-part ((H ++ S) ++ G) T P p w.size w.room w.is C F (omega (arith, length-C)) third ∙ ap (λ t. over t T) all

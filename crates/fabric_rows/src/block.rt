@@ -1,9 +1,8 @@
 // The recursive writer of the universal block U. Each part gets its own stretch of the table; the halves share the list of pins, and the lower
 // half's output wires stand behind the upper's. Nothing is held inside the recursion.
-ghost use Rattle.std.specs.Prelude.{◌≡◌, ◌*◌, length, take, drop};
-ghost use Rattle.fault.specs.Buffers.{over};
+ghost use Rattle.std.specs.Prelude.{◌≡◌, length};
 ghost use Rattle.blocks.specs.Elements.{flat};
-ghost use Rattle.fabric_universal.specs.Selector.{pin_count, selection};
+ghost use Rattle.fabric_universal.specs.Selector.{selection};
 ghost use Rattle.fabric_universal.specs.Universal.{universal_outs, universal_rows};
 ghost use Rattle.fabric_universal.specs.Fabric.{gate_level};
 ghost use Rattle.fabric_rows.specs.Block.{middle_rows, middle_pins, MiddleRoom, UniversalWires, UniversalWriteRoom, UniversalPartsAt};
@@ -13,53 +12,53 @@ use elements::FabricWire;
 use fabric_parts::{write_gate, write_mix, write_selection_on};
 use fabric_sizes::{pin_counts, universal_counts};
 
-// The gates and the pins of a half; where the parts of U begin in its stretch of the table, the Y rows counted from the selection block's
-// place; and the first wires that they make.
+// The gates and the pins of a half; the entries of the upper half's rows, of the selection block's, and of these with the Y rows; and the first
+// wires that the parts behind the upper half make.
 #[derive(Clone, Copy)]
 struct UniversalParts {
     half: u16,
     pins: u16,
+    upper: usize,
     select: usize,
-    mix: usize,
-    lower: usize,
+    middle: usize,
     select_next: FabricWire,
     mix_next: FabricWire,
     lower_next: FabricWire,
 }
 
-// U of `gates` gates, a power of two, on the first pins of the list: its rows to the front of the table's part, its output wires to the front
-// of `outs`. These pins are used up; those behind them stay.
+// U, a power of two of gates, one for each place of `outs`, on the pins, two for each gate: its rows fill the table's part, its output wires
+// fill `outs`. The pins are used up.
 pub(crate) fn write_universal(
-    gates: u16,
     next: FabricWire,
     rows: &mut [u16],
     pins: &mut [u16],
     outs: &mut [u16],
 )
-    requires { UniversalWriteRoom gates next.0 (length rows.old) (length pins.old) (length outs.old) }
-    ensures rows { rows.new ≡ over (flat (universal_rows selection (gate_level gates) (take (pin_count (gate_level gates)) pins.old) next.0)) rows.old }
-    ensures pins { drop (2 * gates) pins.new ≡ drop (2 * gates) pins.old }
-    ensures outs { outs.new ≡ over (universal_outs selection (gate_level gates) next.0) outs.old }
+    requires { UniversalWriteRoom next.0 (length rows.old) (length pins.old) (length outs.old) }
+    ensures rows { rows.new ≡ flat (universal_rows selection (gate_level (length outs.old)) pins.old next.0) }
+    ensures outs { outs.new ≡ universal_outs selection (gate_level (length outs.old)) next.0 }
 {
-    if 1 < gates {
-        let parts = universal_parts(gates, next);
-        let half = parts.half;
-        let select = parts.select;
-        let lower = parts.lower;
-        let middle = gates as usize;
-        let behind = half as usize;
-        write_universal(half, next, rows, pins, outs);
-        write_middle(parts, &mut rows[select..], pins, outs);
-        write_universal(
-            half,
-            parts.lower_next,
-            &mut rows[lower..],
-            &mut pins[middle..],
-            &mut outs[behind..],
-        );
-    } else {
+    let gates = outs.len();
+    if gates == 1 {
         write_gate(next, rows, pins, outs);
+        return;
     }
+    let parts = universal_parts(gates as u16, next);
+    let lower = parts.upper + parts.middle;
+    let (upper_outs, lower_outs) = outs.split_at_mut(gates / 2);
+    write_universal(
+        next,
+        &mut rows[..parts.upper],
+        &mut pins[..gates],
+        upper_outs,
+    );
+    write_middle(parts, &mut rows[parts.upper..lower], pins, upper_outs);
+    write_universal(
+        parts.lower_next,
+        &mut rows[lower..],
+        &mut pins[gates..],
+        lower_outs,
+    );
 }
 
 // The parts of U of `gates` gates, more than one.
@@ -70,15 +69,14 @@ fn universal_parts(gates: u16, next: FabricWire) -> UniversalParts
     let half = gates / 2;
     let upper = universal_counts(half);
     let select = pin_counts(half, half);
-    let mixed = gates as u32;
-    let count = upper.rows + select.rows;
+    let mixed = u32::from(gates);
     let made = upper.wires + select.wires;
     UniversalParts {
         half,
         pins: gates,
-        select: row_place(upper.rows),
-        mix: row_place(select.rows),
-        lower: row_place(count + mixed),
+        upper: row_place(upper.rows),
+        select: row_place(select.rows),
+        middle: row_place(select.rows + mixed),
         select_next: next.plus(upper.wires),
         mix_next: next.plus(made),
         lower_next: next.plus(made + mixed),
@@ -89,10 +87,16 @@ fn universal_parts(gates: u16, next: FabricWire) -> UniversalParts
 // lower half's. There is room for the block, so that S does not refuse.
 fn write_middle(parts: UniversalParts, rows: &mut [u16], pins: &mut [u16], outs: &[u16])
     requires { MiddleRoom parts outs.now (length rows.old) (length pins.old) }
-    ensures rows { rows.new ≡ over (flat (middle_rows parts outs.now pins.old)) rows.old }
-    ensures pins { pins.new ≡ over (middle_pins parts outs.now) pins.old }
+    ensures rows { rows.new ≡ flat (middle_rows parts outs.now pins.old) }
+    ensures pins { pins.new ≡ middle_pins parts outs.now }
 {
-    let mix = parts.mix;
-    write_selection_on(parts.half, parts.pins, outs, parts.select_next, rows, pins);
-    write_mix(parts.pins, parts.mix_next, &mut rows[mix..], pins);
+    let _ = write_selection_on(
+        parts.half,
+        parts.pins,
+        outs,
+        parts.select_next,
+        &mut rows[..parts.select],
+        pins,
+    );
+    write_mix(parts.pins, parts.mix_next, &mut rows[parts.select..], pins);
 }

@@ -11,24 +11,25 @@ use Rattle.lists.specs.Lists.{list_of}
 use Rattle.lists.proofs.ListsLaws.{get_or-list_of}
 use Rattle.blocks.specs.Elements.{X, Y, Gate, gate_bits, takes, row_of, choose, State, outputs, line_of, gate_on_bits, bit_at, unpack}
 use Rattle.blocks.proofs.ElementsLaws.{unpack-at}
+use Rattle.fabric_table_checks.specs.declared.table.TableCounts.{TableCounts}
 use Rattle.fabric_run.specs.RunRows.{row_state, row_done, left_of, right_of, RowRoom}
 
 -- ---- the wire that a bit chooses
 
-pub choose-entry : (table : List ℕ) (at b : ℕ) → b ≤ 1 → get_or table (at + 1 + b) 0 ≡ choose b (left_of table at) (right_of table at)
+pub choose-entry : (row : List ℕ) (b : ℕ) → b ≤ 1 → get_or row (1 + b) 0 ≡ choose b (left_of row) (right_of row)
 unfolding choose
-choose-entry table at zero h = ap (λ n. get_or table n 0) (add-zero (at + 1))
-choose-entry table at (suc zero) h = ap (λ n. get_or table n 0) (omega arith)
-choose-entry table at (suc (suc b)) h = absurd (omega arith)
+choose-entry row zero h = refl
+choose-entry row (suc zero) h = refl
+choose-entry row (suc (suc b)) h = absurd (omega arith)
 
 choose-below : (n b l r : ℕ) → l < n → r < n → choose b l r < n
 unfolding choose
 choose-below n zero l r hl hr = hl
 choose-below n (suc b) l r hl hr = hr
 
-pub chosen-fits : {new at bit made : ℕ} {table work : List ℕ} (b x : ℕ) → RowRoom new table at bit made work
-    → x ≡ choose b (left_of table at) (right_of table at) → x < length work
-chosen-fits {made = made} b x room e = omega (arith, choose-below made b _ _ room.left room.right, room.room)
+pub chosen-fits : {new : ℕ} {row : List ℕ} {before : TableCounts} {work : List ℕ} (b x : ℕ) → RowRoom new row before work
+    → x ≡ choose b (left_of row) (right_of row) → x < length work
+chosen-fits {before = before} b x room e = omega (arith, choose-below before.wires b _ _ room.left room.right, room.room)
 
 choose-on : (work : List ℕ) (b l r : ℕ) → get_or work (choose b l r) 0 ≡ choose b (get_or work l 0) (get_or work r 0)
 unfolding choose
@@ -104,15 +105,15 @@ module _ (program : List ℕ) (n p : ℕ) (work : List ℕ) (s : State ℕ) (lef
 
 -- ---- what the functions of one row leave
 
-module _ (program work : List ℕ) (bit made l r : ℕ) where
-  pub x-done : (b x y : ℕ) → b ≤ 1 → b ≡ bit_at program bit → x ≡ choose b l r → y ≡ choose (1 - b) l r
-      → set (set work made (get_or work x 0)) (made + 1) (get_or work y 0) ≡ row_done (X l r) program bit made work
+module _ (program work : List ℕ) (before : TableCounts) (l r : ℕ) where
+  pub x-done : (b x y : ℕ) → b ≤ 1 → b ≡ bit_at program before.bits → x ≡ choose b l r → y ≡ choose (1 - b) l r
+      → set (set work before.wires (get_or work x 0)) (before.wires + 1) (get_or work y 0) ≡ row_done (X l r) program before work
   x-done b x y h eb ex ey =
-      rw (ey, choose-other b l r h, ex, choose-on work b l r, choose-on work b r l, x-makes program bit work l r, eb, add-one made)
+      rw (ey, choose-other b l r h, ex, choose-on work b l r, choose-on work b r l, x-makes program before.bits work l r, eb, add-one before.wires)
 
-  pub y-done : (b x : ℕ) → b ≡ bit_at program bit → x ≡ choose b l r → set work made (get_or work x 0) ≡ row_done (Y l r) program bit made work
-  y-done b x eb ex = rw (ex, choose-on work b l r, y-makes program bit work l r, eb)
+  pub y-done : (b x : ℕ) → b ≡ bit_at program before.bits → x ≡ choose b l r → set work before.wires (get_or work x 0) ≡ row_done (Y l r) program before work
+  y-done b x eb ex = rw (ex, choose-on work b l r, y-makes program before.bits work l r, eb)
 
-  pub g-done : (x : ℕ) → get_or work l 0 ≤ 1 → get_or work r 0 ≤ 1 → x ≡ bit_at program (bit + (2 * get_or work l 0 + get_or work r 0))
-      → set work made x ≡ row_done (Gate (l ∷ r ∷ [])) program bit made work
-  g-done x a b ex = rw (g-makes program bit work l r a b, ex)
+  pub g-done : (x : ℕ) → get_or work l 0 ≤ 1 → get_or work r 0 ≤ 1 → x ≡ bit_at program (before.bits + (2 * get_or work l 0 + get_or work r 0))
+      → set work before.wires x ≡ row_done (Gate (l ∷ r ∷ [])) program before work
+  g-done x a b ex = rw (g-makes program before.bits work l r a b, ex)

@@ -2,79 +2,63 @@
 // program and entries the call says, with proof, which of them is malformed, or that a buffer is too short. It touches no buffer.
 #![tactic(auto)]
 
-ghost use Rattle.std.specs.Prelude.{◌≡◌, ◌≤◌};
+ghost use Rattle.std.specs.Prelude.{◌≡◌, ◌≤◌, IfOk};
 ghost use Rattle.fault.specs.Number.{answer_number};
-ghost use Rattle.fabric_table_checks.specs.Counting.{max_bits};
-ghost use Rattle.fabric_table_checks.specs.Checking.{check_outcome, counted_or};
+ghost use Rattle.fabric_sizes.specs.Layout.{rows_in};
+ghost use Rattle.fabric_table_checks.specs.Counting.{CountedBefore, max_bits};
 ghost use Rattle.fabric_run_checks.specs.RunFault.{given_program_fault, given_fault, run_series_fault};
 
-use blocks::{bytes_for, read_bit};
+use blocks::{BYTE_BITS, bytes_for, read_bit};
 use fabric_sizes::{INPUTS, OUTPUTS};
-use fabric_table_checks::{TableCheck, check_table};
-use fault::{Answer, Fault};
-use plan_series_checks::check_series;
+use fabric_table_checks::{TableCounts, check_table};
+use fault::Fault;
+use plan_series_checks::{Series, check_series};
 
 // The checks of the run's series, for a work buffer, results and an end state of so many entries.
+#[tactic(auto, unfolding(crate::specs::RunFault::run_series_fault, fault::specs::Checks::room_fault))]
 pub fn check_run_series(
     table: &[u16],
     program: &[u8],
-    hold: u32,
-    intervals: u32,
-    fresh: &[u8],
-    start: &[u8],
+    series: Series,
     work: usize,
     results: usize,
     end: usize,
-) -> Answer
-    ensures { answer_number result ≡ run_series_fault table.now program.now hold intervals fresh.now start.now work results end }
+) -> Result<(), Fault>
+    ensures { answer_number result ≡ run_series_fault table.now program.now series.entry.hold series.entry.intervals series.entry.fresh.now series.entry.start.now work results end }
 {
-    match check_given(table, program) {
-        TableCheck::Refused(f) => Answer::Refused(f),
-        TableCheck::Counted(c) => {
-            let inputs = table[INPUTS];
-            let outputs = table[OUTPUTS];
-            match check_series(inputs, outputs, hold, intervals, fresh, start, results, end) {
-                Answer::Refused(f) => Answer::Refused(f),
-                Answer::Done => {
-                    if work < c.wires {
-                        return Answer::Refused(Fault::Short);
-                    }
-                    Answer::Done
-                }
-            }
-        }
+    let counts = check_given(table, program)?;
+    check_series(table[INPUTS], table[OUTPUTS], series, results, end)?;
+    if work < counts.wires {
+        return Err(Fault::Short);
     }
+    Ok(())
 }
 
 // 13, 14: a malformed table; a program that is not exact for it.
-fn check_given(table: &[u16], program: &[u8]) -> TableCheck
-    ensures { check_outcome result ≡ counted_or (given_fault table.now program.now) table.now }
+#[tactic(auto, unfolding(crate::specs::RunFault::given_fault))]
+fn check_given(table: &[u16], program: &[u8]) -> Result<TableCounts, Fault>
+    ensures checked { answer_number result ≡ given_fault table.now program.now }
+    ensures counted { IfOk result (CountedBefore table.now (rows_in table.now)) }
 {
-    match check_table(table) {
-        TableCheck::Refused(f) => TableCheck::Refused(f),
-        TableCheck::Counted(c) => match check_given_program(c.bits, program) {
-            Answer::Refused(f) => TableCheck::Refused(f),
-            Answer::Done => TableCheck::Counted(c),
-        },
-    }
+    let counts = check_table(table)?;
+    check_given_program(counts.bits, program)?;
+    Ok(counts)
 }
 
 // 14: a program of another length than that of `bits` program bits; a spare bit set.
-fn check_given_program(bits: usize, program: &[u8]) -> Answer
+#[tactic(auto, unfolding(crate::specs::RunFault::given_program_fault))]
+fn check_given_program(bits: usize, program: &[u8]) -> Result<(), Fault>
     requires { bits ≤ max_bits }
     ensures { answer_number result ≡ given_program_fault bits program.now }
 {
     let bytes = bytes_for(bits);
     if program.len() != bytes {
-        return Answer::Refused(Fault::Program);
+        return Err(Fault::Program);
     }
-    let spare = 8 * bytes - bits;
-    let mut i: usize = 0;
-    while i < spare {
-        if read_bit(program, bits + i) != 0 {
-            return Answer::Refused(Fault::Program);
+    for place in bits..BYTE_BITS * bytes {
+        if read_bit(program, place) != 0 {
+            return Err(Fault::Program);
         }
-        i += 1;
     }
-    Answer::Done
+    Ok(())
 }

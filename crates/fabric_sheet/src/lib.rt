@@ -7,28 +7,26 @@ ghost use Rattle.elements.specs.Elements.{sheet_outcome};
 ghost use Rattle.fabric_sheet.specs.Sheet.{sheet_of, kind_counting, added_kinds};
 ghost use Rattle.fabric_sheet.specs.Kinds.{kinds_from, HaveKinds, FewKinds};
 
-use elements::{Counts, GATE_BITS, KindCounts, Sheet, SheetAnswer};
+use elements::{Counts, GATE_BITS, KindCounts, Sheet};
 use fabric_sizes::{output_counts, pin_counts, universal_counts};
-use fault::Answer;
-use plan::counts_fault;
+use fault::Fault;
+use plan::PlanCounts;
 
 // The rows by kind of the fabric of u inputs, k gates and v outputs, part by part and in all.
-pub fn count_kinds(u: u32, k: u32, v: u32) -> SheetAnswer
+// Kept: three numbers and no PlanCounts: the call takes every number, and says which is out of its limits.
+pub fn count_kinds(u: u32, k: u32, v: u32) -> Result<Sheet, Fault>
     ensures { sheet_outcome result ≡ kind_counting u k v }
 {
-    match counts_fault(u, k, v) {
-        Answer::Refused(f) => SheetAnswer::Refused(f),
-        Answer::Done => SheetAnswer::Counted(sheet_of(u as u16, k as u16, v as u16)),
-    }
+    Ok(sheet_of(PlanCounts::new(u, k, v)?))
 }
 
-// The sheet without the checks, for any u, k and v of 16 bits.
-fn sheet_of(u: u16, k: u16, v: u16) -> Sheet
-    ensures { result ≡ sheet_of u k v }
+// The sheet of the fabric of these numbers.
+fn sheet_of(counts: PlanCounts) -> Sheet
+    ensures { result ≡ sheet_of counts.inputs counts.gates counts.outputs }
 {
-    let input = kinds_of(pin_counts(u, k));
-    let block = kinds_of(universal_counts(k));
-    let output = kinds_of(output_counts(k, v));
+    let input = kinds_of(pin_counts(counts.inputs, counts.gates));
+    let block = kinds_of(universal_counts(counts.gates));
+    let output = kinds_of(output_counts(counts.gates, counts.outputs));
     let sum = added(input, block, output);
     Sheet {
         input,

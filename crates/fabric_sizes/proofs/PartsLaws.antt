@@ -4,7 +4,7 @@ use Prim.Native.Nat.{ℕ, zero, suc, ◌+◌, ◌-◌, ◌*◌, ◌/◌, ◌^◌
 use native.Mathlib.Nat.{mul-le-mul}
 use native.Mathlib.Omega.{arith}
 use lib.Pow.{pow_mono, pow_pos}
-use Rattle.powers.proofs.PowersLaws.{ceil_log-least, ceil_log-power}
+use Rattle.powers.proofs.PowersLaws.{ceil_log-least, ceil_log-power, not_below}
 use Rattle.blocks.specs.Networks.{selection_level, selection_count, selection_wires}
 use Rattle.blocks.proofs.NetworksLaws.{level-least, selection-count, selection-made}
 use Rattle.plan.specs.declared.record.Plan.{Plan}
@@ -45,6 +45,10 @@ plan-places p accepted =
     let few = (accepted-counts p accepted).gates in
     places_are (omega arith) ((accepted-tallied p accepted).places ∙ sym (gate-places p.gate_count))
 
+-- it has a place for each gate
+pub all-placed : (p : Plan) → Accepted p → p.gate_count ≤ p.gate_places
+all-placed p accepted = rw (accepted-tallied p accepted).places (not_below p.gate_count)
+
 -- ---- a power of two and its half
 
 -- U(1) is at level 0
@@ -80,8 +84,8 @@ pub record FewSelected (m n : ℕ) : Type 0 where
   pub rows : selection_count m n ≤ block_limit
   pub wires : selection_wires m n ≤ block_limit
 
-pub few-selected : {m n : ℕ} → SelectionWithin m n → FewSelected m n
-few-selected {m} {n} s =
+pub few_selected : {m n : ℕ} → SelectionWithin m n → FewSelected m n
+few_selected {m} {n} s =
     let level : ℕ = selection_level m n in
     let low : level ≤ suc top_level = level-least m n (suc top_level) s.inputs s.outputs in
     let most : level * 2 ^ level ≤ suc top_level * 2 ^ suc top_level = mul-le-mul low (pow_mono low) in

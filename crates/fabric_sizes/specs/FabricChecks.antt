@@ -1,5 +1,6 @@
 -- Document 01, "Counting and fabric: 2, 3, 4, and for the fabric 11" and "Program bits: plan faults, 11": the checks in their order.
-use Rattle.std.specs.Prelude.{◌≡◌, ℕ, ◌≤◌}
+use Rattle.std.specs.Prelude.{◌≡◌, ℕ, ◌≤◌, Result, Ok, Err}
+use Rattle.fault.specs.declared.Fault.{Fault}
 use Rattle.fault.specs.Number.{fault_number}
 use Rattle.fault.specs.Checks.{and_then, room_fault}
 use Rattle.blocks.specs.Elements.{bytes_for}
@@ -7,7 +8,6 @@ use Rattle.plan.specs.declared.record.Plan.{Plan}
 use Rattle.plan.specs.Faults.{counts_fault, plan_fault, CountsWithin}
 use Rattle.fabric_universal.specs.Fabric.{fabric_takes}
 use Rattle.fabric_sizes.specs.Counting.{table_length}
-use Rattle.fabric_sizes.specs.declared.programming.ProgramCheck.{ProgramCheck}
 
 -- the checks of writing the fabric of three counts into a table of `room` entries: 2, 3, 4, 11
 unfoldable pub fabric_fault : ℕ → ℕ → ℕ → ℕ → ℕ
@@ -22,9 +22,9 @@ unfoldable pub plan_program_fault : Plan → ℕ → ℕ
 plan_program_fault p room = and_then (plan_fault p) (room_fault (program_length p) room)
 
 -- what each case of their answer says: no check fails, and this is the program's length; or the first that fails gives this fault
-abbrev pub ProgramChecked : Plan → ℕ → ProgramCheck → Type 0
-ProgramChecked p room (ProgramCheck.Length bytes) = (0 ≡ plan_program_fault p room) × (bytes ≡ program_length p)
-ProgramChecked p room (ProgramCheck.Refused f) = fault_number f ≡ plan_program_fault p room
+abbrev pub ProgramChecked : Plan → ℕ → Result ℕ Fault → Type 0
+ProgramChecked p room (Ok bytes) = (0 ≡ plan_program_fault p room) × (bytes ≡ program_length p)
+ProgramChecked p room (Err f) = fault_number f ≡ plan_program_fault p room
 
 -- what holds where no check of writing the fabric fails
 pub record FabricPasses (u k v room : ℕ) : Type 0 where

@@ -9,21 +9,21 @@ ghost use Rattle.fabric_sizes.specs.Parts.{PlacesAre};
 use crate::layout::HEADER;
 use crate::parts::{count_universal, gate_places, selection_counts};
 use blocks::{bytes_for, row_place};
-use elements::{CountAnswer, Counts};
-use fault::Answer;
-use plan::counts_fault;
+use elements::Counts;
+use fault::Fault;
+use plan::PlanCounts;
 
 // The counts of the fabric of u inputs, k gates and v outputs.
-pub fn count_fabric(u: u32, k: u32, v: u32) -> CountAnswer
+// Kept: three numbers and no PlanCounts: the call takes every number, and says which is out of its limits.
+pub fn count_fabric(u: u32, k: u32, v: u32) -> Result<Counts, Fault>
     ensures { count_outcome result ≡ counting u k v }
 {
-    match counts_fault(u, k, v) {
-        Answer::Refused(f) => CountAnswer::Refused(f),
-        Answer::Done => CountAnswer::Counted(fabric_counts(u as u16, k as u16, v as u16)),
-    }
+    let counts = PlanCounts::new(u, k, v)?;
+    Ok(fabric_counts(counts.inputs, counts.gates, counts.outputs))
 }
 
 // The counts without the checks, for any u, k and v of 16 bits.
+// Kept: three numbers, as below, and no PlanCounts: the promise is for every u, k and v of 16 bits.
 pub fn fabric_counts(u: u16, k: u16, v: u16) -> Counts
     ensures { FabricCounts u k v result }
 {
@@ -35,12 +35,13 @@ pub(crate) fn count_parts(u: u16, places: u32, v: u16) -> Counts
     requires { PlacesAre places places }
     ensures { FabricCounts u places v result }
 {
-    let pins = selection_counts(u as u32, 2 * places);
+    let inputs = u32::from(u);
+    let pins = selection_counts(inputs, 2 * places);
     let universal = count_universal(places);
-    let outputs = selection_counts(places, v as u32);
+    let outputs = selection_counts(places, u32::from(v));
     Counts {
         rows: pins.rows + universal.rows + outputs.rows,
-        wires: 1 + u as u32 + pins.wires + universal.wires + outputs.wires,
+        wires: 1 + inputs + pins.wires + universal.wires + outputs.wires,
         bits: pins.bits + universal.bits + outputs.bits,
     }
 }
@@ -50,7 +51,7 @@ pub fn table_length(u: u16, k: u16, v: u16) -> usize
     ensures { result ≡ table_length u k v }
 {
     let counts = fabric_counts(u, k, v);
-    HEADER + row_place(counts.rows) + v as usize
+    HEADER + row_place(counts.rows) + usize::from(v)
 }
 
 // The bytes of the programs of the fabric of u inputs, k gates and v outputs.

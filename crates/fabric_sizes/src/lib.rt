@@ -11,5 +11,5 @@ mod writing;
 pub use counting::{count_fabric, fabric_counts, program_length, table_length};
 pub use layout::{HEADER, INPUTS, OUTPUTS, ROWS};
 pub use parts::{MAX_PINS, gate_places, output_counts, pin_counts, universal_counts};
-pub use programming::{ProgramCheck, check_plan_program};
+pub use programming::check_plan_program;
 pub use writing::check_fabric;

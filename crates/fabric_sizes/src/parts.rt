@@ -20,30 +20,28 @@ const MORE_GATE_BITS: u32 = GATE_BITS - 1;
 pub fn gate_places(k: u16) -> u32
     ensures { PlacesAre k result }
 {
-    ceil_power(k as u32) as u32
+    ceil_power(u32::from(k)) as u32
 }
 
 // S(m, 2K), which selects for the pins of U(K).
 pub fn pin_counts(m: u16, k: u16) -> Counts
     ensures { SelectionIs m (pin_count (gate_level k)) result }
 {
-    selection_counts(m as u32, 2 * gate_places(k))
+    selection_counts(u32::from(m), 2 * gate_places(k))
 }
 
 // U(K).
 pub fn universal_counts(k: u16) -> Counts
     ensures { UniversalIs (gate_level k) result }
 {
-    let places = gate_places(k);
-    count_universal(places)
+    count_universal(gate_places(k))
 }
 
 // S(K, v), whose outputs are the fabric's.
 pub fn output_counts(k: u16, v: u16) -> Counts
     ensures { SelectionIs (2 ^ gate_level k) v result }
 {
-    let places = gate_places(k);
-    selection_counts(places, v as u32)
+    selection_counts(gate_places(k), u32::from(v))
 }
 
 // U(K) from K: K(n² + n) + 2K - 1 rows and K(2n² + 4) - 3 wires, n the logarithm of K; and a bit for each row, and three more for each of the
@@ -62,6 +60,7 @@ pub(crate) fn count_universal(places: u32) -> Counts
 }
 
 // S(m, n). Each of its rows takes one bit.
+#[tactic(auto, using(crate::proofs::PartsLaws::few_selected))]
 pub(crate) fn selection_counts(m: u32, n: u32) -> Counts
     requires { SelectionWithin m n }
     ensures { SelectionIs m n result }

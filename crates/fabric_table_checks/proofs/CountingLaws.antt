@@ -1,23 +1,18 @@
 -- What a row of a kind is; one row more; the counts stay small, and never go back.
 use mathlib.Core.Path.{◌≡◌, refl}
-use mathlib.Core.List.{List, [], ◌∷◌}
+use mathlib.Core.List.{List}
 use Prim.Native.Nat.{ℕ, zero, suc, ◌+◌, ◌*◌, ◌≤◌}
 use native.Mathlib.Omega.{arith}
 use native.Mathlib.Numerals.{add-one}
 use native.Mathlib.Decide.{ℕ_discrete}
 use Rattle.lists.specs.Lists.{list_of}
 use Rattle.elements.specs.Elements.{max_wires}
-use Rattle.blocks.specs.Elements.{X, Y, Gate, gate_bits, makes, takes, total, row_of}
+use Rattle.blocks.specs.Elements.{gate_bits, makes, takes, total, row_of}
 use Rattle.plan.specs.Record.{max_inputs}
 use Rattle.fabric_sizes.specs.Layout.{inputs_in, kind_at, left_at, right_at, row_at, wires_before, bits_before}
 use Rattle.fabric_sizes.proofs.LayoutLaws.{wires-more, bits-more}
-use Rattle.fabric_table_checks.specs.declared.table.RowCounts.{RowCounts}
-use Rattle.fabric_table_checks.specs.Counting.{kind_wires, kind_bits, CountsOf, max_bits}
-
--- before row i of a table there are w wires and b bits
-pub record CountedBefore (table : List ℕ) (i w b : ℕ) : Type 0 where
-  pub wires : w ≡ wires_before table i
-  pub bits : b ≡ bits_before table i
+use Rattle.fabric_table_checks.specs.declared.table.TableCounts.{TableCounts}
+use Rattle.fabric_table_checks.specs.Counting.{kind_wires, kind_bits, CountsOf, CountedBefore, max_bits}
 
 -- one row more can be counted
 pub record Countable (w b : ℕ) : Type 0 where
@@ -25,21 +20,6 @@ pub record Countable (w b : ℕ) : Type 0 where
   pub bits : b ≤ max_bits
 
 -- ---- the row of a kind
-
-pub kind-x : (kind l r : ℕ) → kind ≡ 1 → row_of kind l r ≡ X l r
-unfolding row_of
-kind-x kind l r e = rw e
-
-pub kind-y : (kind l r : ℕ) → kind ≡ 2 → row_of kind l r ≡ Y l r
-unfolding row_of
-kind-y kind l r e = rw e
-
-pub kind-g : (kind l r : ℕ) → (kind ≡ 1 → ⊥) → (kind ≡ 2 → ⊥) → row_of kind l r ≡ Gate (l ∷ r ∷ [])
-unfolding row_of
-kind-g zero l r nx ny = refl
-kind-g (suc zero) l r nx ny = absurd (nx refl)
-kind-g (suc (suc zero)) l r nx ny = absurd (ny refl)
-kind-g (suc (suc (suc k))) l r nx ny = refl
 
 -- it makes and takes what its kind says: two wires and four bits at most
 pub record OfKind (kind l r : ℕ) : Type 0 where
@@ -67,12 +47,12 @@ unfolding row_at
 more-bits table i = omega (arith, bits-more table i, (of_kind_lem (kind_at table i) (left_at table i) (right_at table i)).bits)
 
 -- before row 0 there are wire 0 and the inputs
-pub counted-first : (table : List ℕ) (w : ℕ) → w ≡ 1 + inputs_in table → CountedBefore table 0 w 0
+pub counted-first : (table : List ℕ) (w : ℕ) → w ≡ 1 + inputs_in table → CountedBefore table 0 (record { wires = w; bits = 0 })
 unfolding wires_before bits_before total list_of
 counted-first table w e = record { wires = omega arith; bits = refl }
 
-pub counted-one-more : {table : List ℕ} {i w b : ℕ} {c : RowCounts} → CountedBefore table i w b → CountsOf (kind_at table i) c
-    → CountedBefore table (i + 1) (w + c.wires) (b + c.bits)
+pub counted-one-more : {table : List ℕ} {i : ℕ} {c own : TableCounts} → CountedBefore table i c → CountsOf (kind_at table i) own
+    → CountedBefore table (i + 1) (record { wires = c.wires + own.wires; bits = c.bits + own.bits })
 counted-one-more {table} {i} h own =
     rw (add-one i)
     (record { wires = omega (arith, more-wires table i); bits = omega (arith, more-bits table i) })
@@ -88,7 +68,7 @@ unfolding bits_before total list_of
 bits_most table zero = omega arith
 bits_most table (suc i) = omega (arith, bits_most table i, more-bits table i, (of_kind_lem (kind_at table i) 0 0).few_bits)
 
-pub counted-few : {table : List ℕ} {i w b : ℕ} → inputs_in table ≤ max_inputs → i ≤ max_wires → CountedBefore table i w b → Countable w b
+pub counted-few : {table : List ℕ} {i : ℕ} {c : TableCounts} → inputs_in table ≤ max_inputs → i ≤ max_wires → CountedBefore table i c → Countable c.wires c.bits
 counted-few {table} {i} u l h = record { wires = omega (arith, wires-most table i); bits = omega (arith, bits_most table i) }
 
 -- later rows begin no earlier

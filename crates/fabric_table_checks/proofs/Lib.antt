@@ -2,7 +2,5 @@
 pub mod TableFaultLaws
 -- one row more is counted, and the counts stay small
 pub mod CountingLaws
--- the answers of a table's checks
-pub mod CheckingLaws
 -- a table that is written from rows is read back as those, and well formed
 pub mod WrittenTables

@@ -5,7 +5,6 @@ use mathlib.Core.Bool.{and-eq-true_iff}
 use mathlib.Core.List.{List}
 use Prim.Native.Nat.{ℕ}
 use Rattle.fault.proofs.ChecksLaws.{unless-zero, and_then-zero, first_of-zero, eqb_iff, leb_iff}
-use Rattle.blocks.specs.Elements.{outputs}
 use Rattle.plan.specs.Rules.{count_allowed}
 use Rattle.fabric_table_checks.specs.TableFault.{WellFormed, HeaderWithin, kind_allowed, header_fault, row_fault, output_wire_fault, table_fault, RowWithin}
 

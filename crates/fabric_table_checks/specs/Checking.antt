@@ -1,12 +1,12 @@
 -- What the check of a table answers, and what its parts need and answer.
-use Rattle.std.specs.Prelude.{ℕ, zero, suc, ◌<◌, ◌≡◌, List, leb}
+use Rattle.std.specs.Prelude.{ℕ, zero, suc, ◌<◌, ◌≡◌, List, Result, Ok, Err, leb}
 use Rattle.fault.specs.declared.Fault.{Fault}
 use Rattle.fault.specs.Number.{fault_number}
 use Rattle.fault.specs.Checks.{unless, and_then, first_of}
 use Rattle.elements.specs.Elements.{max_wires}
 use Rattle.fabric_sizes.specs.Layout.{outputs_in, rows_in, wires_before, wires_in, bits_in}
 use Rattle.fabric_table_checks.specs.TableFault.{output_wire_fault, table_fault, HeaderWithin}
-use Rattle.fabric_table_checks.specs.declared.checking.TableCheck.{TableCheck}
+use Rattle.fabric_table_checks.specs.declared.table.TableCounts.{TableCounts}
 
 -- what is said of a table: the number of the refusal, 0 for none; its wires and program bits, both 0 on a refusal
 pub record TableOutcome : Type 0 where
@@ -15,9 +15,9 @@ pub record TableOutcome : Type 0 where
   pub bits : ℕ
 
 -- what each case of the answer says
-abbrev pub check_outcome : TableCheck → TableOutcome
-check_outcome (TableCheck.Counted c) = record { number = 0; wires = c.wires; bits = c.bits }
-check_outcome (TableCheck.Refused f) = record { number = fault_number f; wires = 0; bits = 0 }
+abbrev pub check_outcome : Result TableCounts Fault → TableOutcome
+check_outcome (Ok c) = record { number = 0; wires = c.wires; bits = c.bits }
+check_outcome (Err f) = record { number = fault_number f; wires = 0; bits = 0 }
 
 -- where a check gave this number
 abbrev pub counted_or : ℕ → List ℕ → TableOutcome

@@ -5,5 +5,5 @@
 mod checking;
 mod table;
 
-pub use checking::{TableCheck, TableCounts, check_table};
-pub use table::{RowCounts, counts_of, row_start, wire_of};
+pub use checking::check_table;
+pub use table::{TableCounts, counts_of, row_start};

@@ -1,6 +1,7 @@
 -- The text of each case, and how long it is at most.
 use mathlib.Core.Path.{◌≡◌, refl, sym, ap, ◌∙◌}
 use mathlib.Core.List.{List}
+use Rattle.std.specs.Prelude.{Result, Ok, Err}
 use Prim.Native.Nat.{ℕ, zero, suc, ◌+◌, ◌*◌, ◌≤◌}
 use native.Mathlib.Omega.{arith}
 use lib.ListN.{length, length-append}
@@ -10,13 +11,10 @@ use Rattle.fault.specs.Number.{fault_number}
 use Rattle.fault.proofs.ChecksLaws.{number-positive}
 use Rattle.elements.specs.declared.KindCounts.{KindCounts}
 use Rattle.elements.specs.declared.Sheet.{Sheet}
-use Rattle.elements.specs.declared.SheetAnswer.{SheetAnswer}
 use Rattle.elements.specs.Elements.{SheetOutcome, sheet_outcome}
 use Rattle.plan.specs.declared.record.Plan.{Plan}
-use Rattle.plan_reading.specs.declared.reading.ReadAnswer.{ReadAnswer}
-use Rattle.plan_reading.specs.declared.reading.PlanRead.{PlanRead}
 use Rattle.plan_reading.specs.PlanFile.{ReadOutcome}
-use Rattle.plan_reading.specs.Answers.{answer_outcome, read_outcome}
+use Rattle.plan_reading.specs.Answers.{read_outcome}
 use Rattle.fabric.specs.Fabrics.{kind_counting}
 use Rattle.console.specs.Text.{ascii, most_digits}
 use Rattle.console.specs.Plans.{small_plan_read, refusal_line}
@@ -81,33 +79,30 @@ counted-refusal : (n : ℕ) (o : SheetOutcome) → 1 ≤ n → refusal_line n 0 
 counted-refusal zero o h = absurd (omega arith)
 counted-refusal (suc n) o h = refl
 
-module _ (p : Plan) (a : SheetAnswer) (e : sheet_outcome a ≡ kind_counting p.inputs p.gate_count p.output_count) where
-  made : (b : SheetAnswer) → a ≡ b → counted_text (sheet_outcome b).number (sheet_outcome b) ≡ plan_text p
+module _ (p : Plan) (a : Result Sheet Fault) (e : sheet_outcome a ≡ kind_counting p.inputs p.gate_count p.output_count) where
+  made : (b : Result Sheet Fault) → a ≡ b → counted_text (sheet_outcome b).number (sheet_outcome b) ≡ plan_text p
   unfolding plan_text
   made b g = ap (λ (o : SheetOutcome). counted_text o.number o) (ap sheet_outcome (sym g) ∙ e)
 
-  pub sheet-text : (s : Sheet) → a ≡ SheetAnswer.Counted s → sheet_lines s ≡ plan_text p
-  sheet-text s g = made (SheetAnswer.Counted s) g
+  pub sheet-text : (s : Sheet) → a ≡ Ok s → sheet_lines s ≡ plan_text p
+  sheet-text s g = made (Ok s) g
 
-  pub refused-sheet-text : (f : Fault) → a ≡ SheetAnswer.Refused f → refusal_line (fault_number f) 0 ≡ plan_text p
+  pub refused-sheet-text : (f : Fault) → a ≡ Err f → refusal_line (fault_number f) 0 ≡ plan_text p
   refused-sheet-text f g =
-      counted-refusal (fault_number f) (sheet_outcome (SheetAnswer.Refused f)) (number-positive f) ∙ made (SheetAnswer.Refused f) g
+      counted-refusal (fault_number f) (sheet_outcome (Err f)) (number-positive f) ∙ made (Err f) g
 
 read-refusal : (n : ℕ) (o : ReadOutcome) → 1 ≤ n → refusal_line n o.at ≡ read_text n o
 read-refusal zero o h = absurd (omega arith)
 read-refusal (suc n) o h = refl
 
-module _ (file : List ℕ) (r : PlanRead) (e : read_outcome r ≡ small_plan_read file) where
-  abbrev outcome : ReadAnswer → ReadOutcome
-  outcome a = answer_outcome a r.plan
-
-  made-read : (a : ReadAnswer) → r.answer ≡ a → read_text (outcome a).number (outcome a) ≡ file_text file
+module _ (file : List ℕ) (r : Result Plan Refusal) (e : read_outcome r ≡ small_plan_read file) where
+  made-read : (a : Result Plan Refusal) → r ≡ a → read_text (read_outcome a).number (read_outcome a) ≡ file_text file
   unfolding file_text
-  made-read a g = ap (λ (o : ReadOutcome). read_text o.number o) (ap outcome (sym g) ∙ e)
+  made-read a g = ap (λ (o : ReadOutcome). read_text o.number o) (ap read_outcome (sym g) ∙ e)
 
-  pub plan-text : r.answer ≡ ReadAnswer.Accepted → plan_text r.plan ≡ file_text file
-  plan-text g = made-read ReadAnswer.Accepted g
+  pub plan-text : (p : Plan) → r ≡ Ok p → plan_text p ≡ file_text file
+  plan-text p g = made-read (Ok p) g
 
-  pub refused-text : (x : Refusal) → r.answer ≡ ReadAnswer.Refused x → refusal_line (fault_number x.fault) x.at ≡ file_text file
+  pub refused-text : (x : Refusal) → r ≡ Err x → refusal_line (fault_number x.fault) x.at ≡ file_text file
   refused-text x g =
-      read-refusal (fault_number x.fault) (outcome (ReadAnswer.Refused x)) (number-positive x.fault) ∙ made-read (ReadAnswer.Refused x) g
+      read-refusal (fault_number x.fault) (read_outcome (Err x)) (number-positive x.fault) ∙ made-read (Err x) g

@@ -7,10 +7,9 @@ ghost use Rattle.console.specs.Text.{Puts};
 ghost use Rattle.fabricsheet.specs.SheetText.{kinds_line, sheet_lines, plan_text, file_text};
 
 use console::{put_byte, put_named, put_refusal, put_word, read_input, read_small_plan};
-use elements::{KindCounts, Sheet, SheetAnswer};
+use elements::{KindCounts, Sheet};
 use fabric::count_kinds;
 use plan::Plan;
-use plan_reading::ReadAnswer;
 
 // Places for the longest text: four lines, each of a name of at most 6 bytes, four figures of at most 20 digits with a space each, and LF.
 const TEXT: usize = 4 * (6 + 4 * (1 + 20) + 1);
@@ -41,15 +40,9 @@ fn put_file(text: &mut [u8; TEXT], file: &[u8]) -> usize
 fn put_text(text: &mut [u8], file: &[u8]) -> usize
     ensures { Puts text.old 0 (file_text file.now) text.new result }
 {
-    let read = read_small_plan(file);
-    let answer = read.answer;
-    let plan = read.plan;
-    match answer {
-        ReadAnswer::Refused(x) => {
-            let fault = x.fault;
-            put_refusal(text, 0, fault, x.at as u64)
-        }
-        ReadAnswer::Accepted => put_plan(text, plan),
+    match read_small_plan(file) {
+        Ok(plan) => put_plan(text, plan),
+        Err(refusal) => put_refusal(text, 0, refusal.fault, refusal.at as u64),
     }
 }
 
@@ -58,12 +51,12 @@ fn put_plan(text: &mut [u8], plan: Plan) -> usize
     ensures { Puts text.old 0 (plan_text plan) text.new result }
 {
     match count_kinds(
-        plan.inputs as u32,
-        plan.gate_count as u32,
-        plan.output_count as u32,
+        u32::from(plan.inputs),
+        u32::from(plan.gate_count),
+        u32::from(plan.output_count),
     ) {
-        SheetAnswer::Refused(f) => put_refusal(text, 0, f, 0),
-        SheetAnswer::Counted(s) => put_sheet(text, s),
+        Ok(sheet) => put_sheet(text, sheet),
+        Err(fault) => put_refusal(text, 0, fault, 0),
     }
 }
 
@@ -71,24 +64,21 @@ fn put_plan(text: &mut [u8], plan: Plan) -> usize
 fn put_sheet(text: &mut [u8], s: Sheet) -> usize
     ensures { Puts text.old 0 (sheet_lines s) text.new result }
 {
-    let input = s.input;
-    let block = s.block;
-    let output = s.output;
-    let sum = s.sum;
-    let mut n = put_line(text, 0, b"input", input);
-    n = put_line(text, n, b"block", block);
-    n = put_line(text, n, b"output", output);
-    put_line(text, n, b"sum", sum)
+    let mut n = put_line(text, 0, b"input", s.input);
+    n = put_line(text, n, b"block", s.block);
+    n = put_line(text, n, b"output", s.output);
+    put_line(text, n, b"sum", s.sum)
 }
 
 // A line: its name, and the figures of a part.
+// Kept: the text and the place are two parameters: the text is wanted again behind each piece, so a struct would say in each contract that it lends the same.
 fn put_line(text: &mut [u8], at: usize, name: &[u8], c: KindCounts) -> usize
     ensures { Puts text.old at (kinds_line name.now c) text.new result }
 {
     let mut n = put_word(text, at, name);
-    n = put_named(text, n, b" ", c.x as u64);
-    n = put_named(text, n, b" ", c.y as u64);
-    n = put_named(text, n, b" ", c.g as u64);
-    n = put_named(text, n, b" ", c.total as u64);
+    n = put_named(text, n, b" ", u64::from(c.x));
+    n = put_named(text, n, b" ", u64::from(c.y));
+    n = put_named(text, n, b" ", u64::from(c.g));
+    n = put_named(text, n, b" ", u64::from(c.total));
     put_byte(text, n, b'\n')
 }

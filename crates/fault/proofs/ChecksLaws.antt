@@ -11,7 +11,7 @@ use borrow.Author.Tests.{eqb-true, eq-eqb, le-leb, lt-leb, leb-true}
 use lib.ListN.{length}
 use Rattle.fault.specs.declared.Fault.{Fault}
 use Rattle.fault.specs.declared.Fault.TheVariants.{Stub, Inputs, Gates, Outputs, Cut, Map, Operand, Table, Source, Tail, Short, Contact, Fabric, Program, Ring, Hold, Tally, Place}
-use Rattle.fault.specs.declared.Answer.{Answer}
+use Rattle.std.specs.Prelude.{Result, Ok, Err}
 use Rattle.fault.specs.Number.{fault_number, answer_number}
 use Rattle.fault.specs.Checks.{unless, and_then, first_of, room_fault, list_fault}
 
@@ -100,10 +100,10 @@ fails (suc a) b h = refl
 --     third c = test_passes .. then answer-passes .. then stop f _ (answer-refuses ..)
 -- A loop over checks has `next-passes` and `first-fails` below, of what the check of its turn gave.
 
-pub answer-passes : {r : Answer} {a : ℕ} → r ≡ Answer.Done → answer_number r ≡ a → 0 ≡ a
+pub answer-passes : {A : Type 0} {r : Result A Fault} {x : A} {a : ℕ} → r ≡ Ok x → answer_number r ≡ a → 0 ≡ a
 answer-passes d e = ap answer_number (sym d) ∙ e
 
-pub answer-refuses : {r : Answer} {a : ℕ} {f : Fault} → r ≡ Answer.Refused f → answer_number r ≡ a → fault_number f ≡ a
+pub answer-refuses : {A : Type 0} {r : Result A Fault} {a : ℕ} {f : Fault} → r ≡ Err f → answer_number r ≡ a → fault_number f ≡ a
 answer-refuses d e = ap answer_number (sym d) ∙ e
 
 pub test_passes : {test r : Bool} (f : Fault) → r ≡ test → not r ≡ false → 0 ≡ unless test f

@@ -5,3 +5,5 @@ pub mod ChecksLaws
 pub mod BuffersLaws
 -- buffers that are filled part by part
 pub mod PartsLaws
+-- checks of the entries of a list
+pub mod EntriesLaws

@@ -1,8 +1,7 @@
 -- The numbers of the refusal table.
-use Rattle.std.specs.Prelude.{ℕ}
+use Rattle.std.specs.Prelude.{ℕ, Result, Ok, Err}
 use Rattle.fault.specs.declared.Fault.{Fault}
 use Rattle.fault.specs.declared.Fault.TheVariants.{Stub, Inputs, Gates, Outputs, Cut, Map, Operand, Table, Source, Tail, Short, Contact, Fabric, Program, Ring, Hold, Tally, Place}
-use Rattle.fault.specs.declared.Answer.{Answer}
 
 -- the number of a word
 abbrev pub fault_number : Fault → ℕ
@@ -26,6 +25,6 @@ fault_number Tally = 17
 fault_number Place = 18
 
 -- 0 is no number of the table: the call was done
-abbrev pub answer_number : Answer → ℕ
-answer_number Answer.Done = 0
-answer_number (Answer.Refused f) = fault_number f
+abbrev pub answer_number : {A : Type 0} → Result A Fault → ℕ
+answer_number (Ok _) = 0
+answer_number (Err f) = fault_number f

@@ -1,5 +1,4 @@
-// The refusals of the contact fabric library: document 01's fourteen words and those that document 02 adds, the place where a file is at
-// fault, and the answer of a call that has nothing to hand back but whether it was done.
+// The refusals of the contact fabric library: document 01's fourteen words and those that document 02 adds, and the place where a file is at fault.
 // Every contract above this crate speaks of a refusal through its number.
 #![tactic(auto)]
 
@@ -7,7 +6,7 @@ ghost use Rattle.std.specs.Prelude.{◌≡◌};
 ghost use Rattle.fault.specs.Number.{fault_number, answer_number};
 
 // The words of the refusal table, in its order.
-#[derive(Clone, Copy)]
+#[derive(Clone, Copy, PartialEq, Eq)]
 pub enum Fault {
     // A plan file below 6 bytes.
     Stub,
@@ -47,26 +46,20 @@ pub enum Fault {
     Place,
 }
 
-// A fault of a file, and the byte offset where the faulty field begins or would begin.
-#[derive(Clone, Copy)]
+// The byte offset where a file's faulty field begins or would begin, and the fault. The offset stands first: where the one byte of the fault lies over
+// a gate in what a reading step hands back, gates go through memory and reading takes twice the time.
+#[derive(Clone, Copy, PartialEq, Eq)]
 pub struct Refusal {
-    pub fault: Fault,
     pub at: usize,
+    pub fault: Fault,
 }
 
-// The answer of a call that fills lent buffers, or only checks.
-#[derive(Clone, Copy)]
-pub enum Answer {
-    Done,
-    Refused(Fault),
-}
+// The word's number in the refusal table.
+impl From<Fault> for u32 {
+    ghost from_gives = { λ fault number. number ≡ fault_number fault };
 
-impl Fault {
-    // The word's number in the refusal table.
-    pub fn number(self) -> u32
-        ensures { result ≡ fault_number self }
-    {
-        match self {
+    fn from(fault: Fault) -> u32 {
+        match fault {
             Fault::Stub => 1,
             Fault::Inputs => 2,
             Fault::Gates => 3,
@@ -89,14 +82,12 @@ impl Fault {
     }
 }
 
-impl Answer {
-    // The refusal's number, or 0.
-    pub fn number(self) -> u32
-        ensures { result ≡ answer_number self }
-    {
-        match self {
-            Answer::Done => 0,
-            Answer::Refused(f) => f.number(),
-        }
+// 0 for `Ok`, otherwise the refusal's number.
+pub fn answer_number(answer: Result<(), Fault>) -> u32
+    ensures { result ≡ answer_number answer }
+{
+    match answer {
+        Ok(()) => 0,
+        Err(fault) => u32::from(fault),
     }
 }

@@ -1,13 +1,17 @@
 -- A plan is accepted exactly if its counts, each of its gates and each of its outputs are allowed and its figures are the counted ones: each check of the
 -- plan's faults is replaced by what it tests. Then that as bounds, both ways.
-use Rattle.std.proofs.Common.{◌≡◌, ℕ, zero, suc, ◌+◌, ◌<◌, ◌≤◌, Bool, true, not, eqb, ◌↔◌, List, get_or, sym, refl, ap, ◌∙◌, subst, ap₂, inl, inr, arith, eq-eqb, ne_eqb}
+use Rattle.std.proofs.Common.{◌≡◌, ℕ, zero, suc, ◌+◌, ◌<◌, ◌≤◌, Bool, true, not, eqb, ◌↔◌, List, length, get_or, take, sym, refl, ap, ◌∙◌, subst, ap₂, inl, inr, arith, eqb-true, eq-eqb, ne_eqb, ext_get_or, length-take, get_or-take}
+use Rattle.std.specs.Prelude.{Result, IsErrAnd}
+use Rattle.std.proofs.lemmas.Result.{err_from_is_err_and}
+use Rattle.std.proofs.lemmas.Bool.Decides.{Decides-eqb}
+use Rattle.std.proofs.lemmas.Slice.Eq.{slice_eq-Decides}
+use Rattle.std.specs.Cmp.Lexicographic.{pointwise}
 use native.Mathlib.Decide.{ℕ_discrete}
-use Rattle.lists.specs.Counting.{one_if, count_of}
-use Rattle.lists.proofs.CountingLaws.{passed}
+use Rattle.lists.proofs.CountingLaws.{passed, both_ways}
 use Rattle.fault.specs.declared.Fault.{Fault}
-use Rattle.fault.specs.Number.{fault_number}
+use Rattle.fault.specs.Number.{fault_number, answer_number}
 use Rattle.fault.specs.Checks.{unless, and_then, first_of}
-use Rattle.fault.proofs.ChecksLaws.{number-positive, eqb_iff, unless-zero, and_then-zero, first_of-zero, fails, stop}
+use Rattle.fault.proofs.ChecksLaws.{eqb_iff, unless-zero, and_then-zero, first_of-zero, stop}
 use Rattle.lists.proofs.ListsLaws.{get_or-list_of}
 use Rattle.powers.specs.Powers.{ceil_power}
 use Rattle.plan.specs.declared.record.Gate.{Gate}
@@ -19,6 +23,10 @@ use Rattle.plan.specs.Faults.{counts_fault, gate_fault, output_fault, gates_faul
 use Rattle.plan.proofs.RecordLaws.{get_or-places}
 use Rattle.plan.proofs.UsesLaws.{uses-same}
 use Rattle.plan.proofs.RulesLaws.{count_bounds, operand_bounds, table-bound, source_bounds}
+
+-- what an exit of `?` answers is the number of the fault that it took
+pub exits : {A : Type 0} (r : Result A Fault) (f : Fault) {n : ℕ} → IsErrAnd r (λ x. x ≡ f) → fault_number f ≡ n → answer_number r ≡ n
+exits r f h e = let (x, is, same) = err_from_is_err_and r h in rw (is, same) e
 
 -- the gate whose own wire is `own` has allowed operands and an allowed table
 pub record AllowedGate (own : ℕ) (g : Gate) : Type 0 where
@@ -54,30 +62,53 @@ unfolding first_of
 first_of-same f g zero h = refl
 first_of-same f g (suc n) h = ap₂ and_then (first_of-same f g n (λ i l. h i (omega arith))) (h n (omega arith))
 
--- tests that are made in order and give one fault give it where one of them fails
-first_counted : (test : ℕ → Bool) (f : Fault) (n : ℕ) → first_of (λ i. unless (test i) f) n ≡ unless (eqb (count_of (λ i. not (test i)) n) 0) f
-unfolding first_of count_of
-first_counted test f zero = refl
-first_counted test f (suc n) =
-    ap (λ a. and_then a (unless (test n) f)) (first_counted test f n) ∙ elim (ℕ_discrete (count_of (λ i. not (test i)) n) 0) [
-      | yes e ↦ rw e (elim (passed (test n)) [ inl t ↦ rw t | inr t ↦ rw t ])
-      | no d ↦
-          let here = ne_eqb (count_of (λ i. not (test i)) n) 0 d in
-          let more = ne_eqb (count_of (λ i. not (test i)) n + one_if (not (test n))) 0 (λ e. absurd (d (omega arith))) in
-          rw (here, more) (fails (fault_number f) (unless (test n) f) (number-positive f))
+-- tests that are made in order give their one fault where not all of them pass
+pub tests-refused : (test : ℕ → Bool) (f : Fault) (n : ℕ) → (first_of (λ i. unless (test i) f) n ≡ 0 → ⊥)
+    → fault_number f ≡ first_of (λ i. unless (test i) f) n
+unfolding first_of
+tests-refused test f zero d = absurd (d refl)
+tests-refused test f (suc n) d =
+    let earlier = tests-refused test f n in
+    elim (ℕ_discrete (first_of (λ i. unless (test i) f) n) 0) [
+      | no e ↦ stop f _ (earlier e)
+      | yes e ↦ elim (passed (test n)) [ inl t ↦ absurd (d (rw (e, t))) | inr t ↦ rw (e, t) ]
     ]
 
--- K is not the counted one; K is, and so many uses are not
-pub places-fault : (u k stored : ℕ) (uses : List ℕ) (counted : ℕ → ℕ) → (ceil_power k ≡ stored → ⊥)
+-- figures that are not all the counted ones give 17
+pub figures-refused : (u k stored : ℕ) (uses : List ℕ) (counted : ℕ → ℕ)
+    → ((stored ≡ ceil_power k) × ((i : ℕ) → i < u + k → get_or uses i 0 ≡ counted i) → ⊥)
     → fault_number Fault.Tally ≡ figures_fault u k stored uses counted
 unfolding figures_fault
-places-fault u k stored uses counted d = stop {a = unless (eqb stored (ceil_power k)) Fault.Tally} Fault.Tally _ (rw (ne_eqb stored (ceil_power k) (λ e. d (sym e))))
+figures-refused u k stored uses counted d = elim (ℕ_discrete stored (ceil_power k)) [
+  | no e ↦ stop {a = unless (eqb stored (ceil_power k)) Fault.Tally} Fault.Tally _ (rw (ne_eqb stored (ceil_power k) e))
+  | yes e ↦
+      rw (eq-eqb stored (ceil_power k) e)
+      (tests-refused (λ i. eqb (get_or uses i 0) (counted i)) Fault.Tally (u + k)
+      (λ z. d (e, λ i l. eqb-true _ _ ((unless-zero _ Fault.Tally).0 ((first_of-zero _ (u + k)).0 z i l)))))
+]
 
-pub uses-fault : (u k stored : ℕ) (uses : List ℕ) (counted : ℕ → ℕ) → ceil_power k ≡ stored
-    → unless (eqb (count_of (λ i. not (eqb (get_or uses i 0) (counted i))) (u + k)) 0) Fault.Tally ≡ figures_fault u k stored uses counted
-unfolding figures_fault
-uses-fault u k stored uses counted e =
-    rw (eq-eqb stored (ceil_power k) (sym e)) (sym (first_counted (λ i. eqb (get_or uses i 0) (counted i)) Fault.Tally (u + k)))
+-- two arrays have an equal front exactly if the entries there are equal
+fronts-equal : (n : ℕ) (a b : List ℕ) → n ≤ length a → n ≤ length b → (take n a ≡ take n b) ↔ ((i : ℕ) → i < n → get_or a i 0 ≡ get_or b i 0)
+fronts-equal n a b la lb = (
+  λ e i l. sym (get_or-take n a i 0 l) ∙ ap (λ (s : List ℕ). get_or s i 0) e ∙ get_or-take n b i 0 l,
+  λ h.
+      ext_get_or 0 (take n a) (take n b) (simp length-take (omega arith)) λ i l.
+      let m : i < n = omega (arith, length-take n a) in
+      get_or-take n a i 0 m ∙ h i m ∙ sym (get_or-take n b i 0 m),
+)
+
+-- the stored K is the counted one: whether the uses differ decides
+pub figures-compared : (u k stored : ℕ) (uses counted : List ℕ) (differ : Bool) → stored ≡ ceil_power k → u + k ≤ length uses → u + k ≤ length counted
+    → differ ≡ not (pointwise eqb (take (u + k) uses) (take (u + k) counted))
+    → unless (not differ) Fault.Tally ≡ figures_fault u k stored uses (λ i. get_or counted i 0)
+figures-compared u k stored uses counted differ e lu lc s =
+    let test = pointwise eqb (take (u + k) uses) (take (u + k) counted) in
+    let decides = slice_eq-Decides Decides-eqb (take (u + k) uses) (take (u + k) counted) test refl in
+    let fronts = fronts-equal (u + k) uses counted lu lc in
+    elim (passed test) [
+      | inl t ↦ rw (s, t) (sym ((figures_faultless u k stored uses _).1 (e, fronts.0 (decides.0 t))))
+      | inr t ↦ rw (s, t) (figures-refused u k stored uses _ (λ h. absurd (both_ways (decides.1 (fronts.1 h.1)) t)))
+    ]
 
 -- uses that are counted otherwise, and alike
 pub figures_same : (u k stored : ℕ) (uses : List ℕ) (counted others : ℕ → ℕ) → ((i : ℕ) → i < u + k → counted i ≡ others i)

@@ -1,9 +1,6 @@
 -- The rules as orders between numbers.
-use Rattle.std.proofs.Common.{◌≡◌, ℕ, ◌+◌, ◌-◌, ◌<◌, ◌≤◌, Bool, true, false, ◌&&◌, ltb, leb, ◌↔◌, inl, inr, arith, ltb-true, lt-ltb, le-leb, leb-true}
+use Rattle.std.proofs.Common.{◌≡◌, ℕ, ◌+◌, ◌-◌, ◌<◌, ◌≤◌, Bool, true, ◌&&◌, ltb, leb, ◌↔◌, arith, ltb-true, lt-ltb, le-leb, leb-true}
 use mathlib.Core.Bool.{and-eq-true_iff}
-use native.Mathlib.Decide.{dec_le}
-use borrow.Author.Tests.{lt-leb}
-use Rattle.lists.proofs.CountingLaws.{passed}
 use Rattle.plan.specs.Rules.{count_allowed, max_map, map_allowed, operand_allowed, max_table, table_allowed, source_allowed}
 
 -- two tests that both pass
@@ -21,13 +18,6 @@ below a b = (ltb-true a b, lt-ltb a b)
 pub count_bounds : (limit n : ℕ) → (count_allowed limit n ≡ true) ↔ ((1 ≤ n) × (n ≤ limit))
 unfolding count_allowed
 count_bounds limit n = both_bounds (at_most 1 n) (at_most n limit)
-
--- a count that is not within its limit
-pub count-out : (limit n : ℕ) → (1 ≤ n → n ≤ limit → ⊥) → count_allowed limit n ≡ false
-count-out limit n out = elim (passed (count_allowed limit n)) [
-  | inl t ↦ let (some, few) = (count_bounds limit n).0 t in absurd (out some few)
-  | inr f ↦ f
-]
 
 pub map-bound : (m : ℕ) → (map_allowed m ≡ true) ↔ (m ≤ max_map)
 unfolding map_allowed
@@ -49,16 +39,3 @@ source_bounds u k w = both_bounds (at_most (u + 1) w) (at_most w (u + k))
 pub default_allowed : (own : ℕ) → 2 ≤ own → operand_allowed own (own - 1) ≡ true
 unfolding operand_allowed
 default_allowed own h = rw (le-leb 1 (own - 1) (omega arith), lt-ltb (own - 1) own (omega arith))
-
--- a wire above the inputs, counted from the first gate
-pub source-above : (u k w : ℕ) → u < w → leb (w - u) k ≡ source_allowed u k w
-unfolding source_allowed
-source-above u k w h = rw (le-leb (u + 1) w (omega arith)) (elim (dec_le w (u + k)) [
-  | yes y ↦ rw (le-leb w (u + k) y, le-leb (w - u) k (omega arith))
-  | no n ↦ rw (lt-leb w (u + k) (omega arith), lt-leb (w - u) k (omega arith))
-])
-
--- a wire that is not above them
-pub source-input : (u k w : ℕ) → w ≤ u → false ≡ source_allowed u k w
-unfolding source_allowed
-source-input u k w h = rw (lt-leb (u + 1) w (omega arith))

@@ -1,9 +1,9 @@
 -- Each operand place and each output of an accepted plan names just one of its wires, so the counted uses add up to their number, 2k + v.
 -- Checks before the figures give no number above 9, so 17 is given exactly where they pass and a figure differs; counting finds the first that does.
-use Rattle.std.proofs.Common.{◌≡◌, ℕ, suc, ◌+◌, ◌*◌, ◌<◌, ◌≤◌, Bool, not, eqb, ◌↔◌, List, get_or, sym, ◌∙◌, arith, lit≤, eq-eqb, ne_eqb}
+use Rattle.std.proofs.Common.{◌≡◌, ◌≢◌, ◌⊎◌, inl, inr, ℕ, zero, suc, ◌+◌, ◌*◌, ◌<◌, ◌≤◌, Bool, eqb, ◌↔◌, List, get_or, sym, ◌∙◌, arith, lit≤}
 use native.Mathlib.Decide.{ℕ_discrete}
 use Rattle.lists.specs.Counting.{count_of, sum_of}
-use Rattle.lists.proofs.CountingLaws.{both_ways, not_fails, count-before, nth_at, count-named, sum_ext, sum-add, sum_classes}
+use Rattle.lists.proofs.CountingLaws.{count-named, sum_ext, sum-add, sum_classes}
 use Rattle.powers.specs.Powers.{ceil_power}
 use Rattle.fault.specs.declared.Fault.{Fault}
 use Rattle.fault.specs.Number.{fault_number}
@@ -17,7 +17,7 @@ use Rattle.plan.specs.Rules.{count_allowed, operand_allowed, table_allowed, sour
 use Rattle.plan.specs.Faults.{counts_fault, gate_fault, output_fault, tally_fault, plan_fault, Accepted, PlanWithin}
 use Rattle.plan.specs.TallyTheorems.{UsesAddUp, FigureDiffers, places_differ, uses_differ, TallyTheorem}
 use Rattle.plan.proofs.UsesLaws.{uses-above}
-use Rattle.plan.proofs.FaultsLaws.{places-fault, uses-fault, within-faultless, accepted_bounds, accepted-gate, accepted-output}
+use Rattle.plan.proofs.FaultsLaws.{figures-refused, tally-faultless, within-faultless, accepted_bounds, accepted-gate, accepted-output}
 
 -- nothing names a wire past those of an accepted plan
 pub unnamed : (p : Plan) → Accepted p → (i : ℕ) → wire_count p ≤ i → counted_uses p i ≡ 0
@@ -86,38 +86,31 @@ behind a b c t la lb lc =
     let hc : c < 17 = omega arith in
     simp and_then_later (λ h. ((h.0, (h.1.0, h.1.1.0)), h.1.1.1), λ h. (h.0.0, (h.0.1.0, (h.0.1.1, h.1))))
 
+-- of n numbers and n others some differ, or each is the other
+some-differ : (f g : ℕ → ℕ) (n : ℕ) → ((i : ℕ) × ((i < n) × (f i ≢ g i))) ⊎ ((i : ℕ) → i < n → f i ≡ g i)
+some-differ f g zero = inr (λ i l. absurd (omega arith))
+some-differ f g (suc n) = elim (some-differ f g n) [
+  | inl (i, (l, d)) ↦ inl (i, (omega arith, d))
+  | inr same ↦ elim (ℕ_discrete (f n) (g n)) [
+    | no d ↦ inl (n, (omega arith, d))
+    | yes e ↦ inr (λ i l. elim (ℕ_discrete i n) [ yes q ↦ rw q e | no d ↦ same i (omega arith) ])
+  ]
+]
+
 module _ (p : Plan) where
-  -- the wire's stored uses are not the counted ones
-  abbrev differs : ℕ → Bool
-  differs i = not (eqb (stored_uses p i) (counted_uses p i))
-
-  -- K is not the counted one; K is, and the number of uses that are not decides
-  places-tally : (p.gate_places ≡ ceil_power p.gate_count → ⊥) → tally_fault p ≡ 17
-  places-tally d = sym (places-fault _ _ _ p.uses (counted_uses p) (λ e. d (sym e)))
-
-  uses-tally : p.gate_places ≡ ceil_power p.gate_count → tally_fault p ≡ unless (eqb (count_of differs (wire_count p)) 0) Fault.Tally
-  uses-tally e = sym (uses-fault _ _ _ p.uses (counted_uses p) (sym e))
-
-  -- so 17 is given exactly where some figure differs
+  -- 17 is given exactly where some figure differs
   differs-from : tally_fault p ≡ 17 → FigureDiffers p
   differs-from t = elim (ℕ_discrete p.gate_places (ceil_power p.gate_count)) [
     | no d ↦ places_differ d
-    | yes e ↦ elim (ℕ_discrete (count_of differs (wire_count p)) 0) [
-      | yes z ↦ let none : tally_fault p ≡ 0 = uses-tally e ∙ rw z in absurd (omega arith)
-      | no s ↦
-          let found = nth_at differs (wire_count p) 0 (omega arith) in
-          uses_differ _ found.low (λ q. both_ways (eq-eqb _ _ q) (not_fails found.passes))
+    | yes e ↦ elim (some-differ (stored_uses p) (counted_uses p) (wire_count p)) [
+      | inl (i, (l, d)) ↦ uses_differ i l d
+      | inr same ↦ let none = (tally-faultless p).1 (record { places = e; uses = same }) in absurd (omega arith)
     ]
   ]
 
   differs-to : FigureDiffers p → tally_fault p ≡ 17
-  differs-to (places_differ d) = places-tally d
-  differs-to (uses_differ i l d) = elim (ℕ_discrete p.gate_places (ceil_power p.gate_count)) [
-    | no f ↦ places-tally f
-    | yes e ↦
-        let some = count-before differs i (wire_count p) l (rw (ne_eqb (stored_uses p i) (counted_uses p i) d)) in
-        uses-tally e ∙ rw (ne_eqb (count_of differs (wire_count p)) 0 (λ z. absurd (omega arith)))
-  ]
+  differs-to (places_differ d) = sym (figures-refused _ _ _ p.uses (counted_uses p) (λ h. d h.0))
+  differs-to (uses_differ i l d) = sym (figures-refused _ _ _ p.uses (counted_uses p) (λ h. d (h.1 i l)))
 
   -- and, of a plan, where it is also within its bounds
   tally-last : (plan_fault p ≡ 17) ↔ (PlanWithin p × FigureDiffers p)

@@ -1,87 +1,47 @@
 // Plan faults: for any record in memory `plan_fault` says, with proof, whether it is an accepted plan. Unused places are not looked at.
 ghost use Rattle.std.specs.Prelude.{◌≡◌};
 ghost use Rattle.fault.specs.Number.{answer_number};
-ghost use Rattle.plan.specs.Faults.{counts_fault, gate_fault, plan_fault};
+ghost use Rattle.plan.specs.Faults.{gate_fault, plan_fault};
 
+use crate::counts::PlanCounts;
 use crate::record::{Gate, Plan, PlanWire, gate_wire};
-use crate::rules::{count_allowed, operand_allowed, source_allowed, table_allowed};
+use crate::rules::{operand_allowed, source_allowed, table_allowed};
 use crate::uses::{count_operands, count_use, tally_fault};
-use fault::{Answer, Fault};
+use fault::Fault;
 
-// The first plan fault: the counts, then gate by gate, then output by output, whose uses are counted on the way, then the figures. One function, because each
-// call that hands a record or its gates on copies them; and its arrays are read one by one, which is faster than a copy of the whole record.
-pub fn plan_fault(plan: Plan) -> Answer
+// The first plan fault: the counts, then gate by gate, then output by output, whose uses are counted on the way, then the figures.
+pub fn plan_fault(plan: Plan) -> Result<(), Fault>
     ensures { answer_number result ≡ plan_fault plan }
 {
-    match counts_fault(
-        plan.inputs as u32,
-        plan.gate_count as u32,
-        plan.output_count as u32,
-    ) {
-        Answer::Refused(f) => Answer::Refused(f),
-        Answer::Done => {
-            let inputs = plan.inputs;
-            let count = plan.gate_count;
-            let gate_count = count as usize;
-            let output_count = plan.output_count as usize;
-            let gates = plan.gates;
-            let outputs = plan.outputs;
-            let uses = plan.uses;
-            let mut counted = [0u16; Plan::MAX_WIRES];
-            let mut i: usize = 0;
-            while i < gate_count {
-                let gate = gates[i];
-                match gate_fault(gate_wire(inputs, i), gate) {
-                    Answer::Refused(f) => {
-                        return Answer::Refused(f);
-                    }
-                    Answer::Done => {}
-                }
-                count_operands(gate, &mut counted);
-                i += 1;
-            }
-            let mut j: usize = 0;
-            while j < output_count {
-                let wire = outputs[j];
-                if !source_allowed(inputs, count, wire) {
-                    return Answer::Refused(Fault::Source);
-                }
-                count_use(wire, &mut counted);
-                j += 1;
-            }
-            tally_fault(inputs, count, plan.gate_places, &uses, &counted)
+    let counts = PlanCounts::new(
+        u32::from(plan.inputs),
+        u32::from(plan.gate_count),
+        u32::from(plan.output_count),
+    )?;
+    let mut counted = [0u16; Plan::MAX_WIRES];
+    for (i, &gate) in plan.gates[..usize::from(counts.gates)].iter().enumerate() {
+        gate_fault(gate_wire(counts.inputs, i), gate)?;
+        count_operands(gate, &mut counted);
+    }
+    for &wire in &plan.outputs[..usize::from(counts.outputs)] {
+        if !source_allowed(counts.inputs, counts.gates, wire) {
+            return Err(Fault::Source);
         }
+        count_use(wire, &mut counted);
     }
-}
-
-// Whether each count is within its limit.
-pub fn counts_fault(inputs: u32, gates: u32, outputs: u32) -> Answer
-    ensures { answer_number result ≡ counts_fault inputs gates outputs }
-{
-    if !count_allowed(inputs, Plan::MAX_INPUTS) {
-        return Answer::Refused(Fault::Inputs);
-    }
-    if !count_allowed(gates, Plan::MAX_GATES) {
-        return Answer::Refused(Fault::Gates);
-    }
-    if !count_allowed(outputs, Plan::MAX_OUTPUTS) {
-        return Answer::Refused(Fault::Outputs);
-    }
-    Answer::Done
+    tally_fault(&plan, counts, &counted)
 }
 
 // The fault of a gate whose own wire is own.
-pub fn gate_fault(own: PlanWire, gate: Gate) -> Answer
+#[tactic(auto, unfolding(crate::specs::Faults::gate_fault))]
+pub fn gate_fault(own: PlanWire, gate: Gate) -> Result<(), Fault>
     ensures { answer_number result ≡ gate_fault own.0 gate }
 {
-    if !operand_allowed(own, gate.first) {
-        return Answer::Refused(Fault::Operand);
-    }
-    if !operand_allowed(own, gate.second) {
-        return Answer::Refused(Fault::Operand);
+    if !operand_allowed(own, gate.first) || !operand_allowed(own, gate.second) {
+        return Err(Fault::Operand);
     }
     if !table_allowed(gate.table) {
-        return Answer::Refused(Fault::Table);
+        return Err(Fault::Table);
     }
-    Answer::Done
+    Ok(())
 }

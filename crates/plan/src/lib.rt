@@ -2,12 +2,14 @@
 // plan. Nothing here reads files or knows of fabrics.
 #![tactic(auto)]
 
+mod counts;
 mod faults;
 mod record;
 mod rules;
 mod uses;
 
-pub use faults::{counts_fault, gate_fault, plan_fault};
+pub use counts::PlanCounts;
+pub use faults::{gate_fault, plan_fault};
 pub use record::{Gate, Plan, PlanWire, gate_wire};
 pub use rules::{count_allowed, map_allowed, operand_allowed, source_allowed};
 pub use uses::{count_operands, count_use};

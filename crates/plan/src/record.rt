@@ -7,7 +7,7 @@ const WORD_NUMBERS: usize = 65_536;
 
 // A wire of a plan: 1 to u are inputs, u + g is gate g.
 #[repr(C)]
-#[derive(Clone, Copy)]
+#[derive(Clone, Copy, PartialEq, Eq)]
 pub struct PlanWire(pub u16);
 
 // A gate: two operands, each a smaller wire than its own, and a table of four bits. The table has 16 bits of room, so that a gate has no
@@ -22,6 +22,7 @@ pub struct Gate {
 
 // A plan with places for every gate and output it may have, and its figures: K, and for each wire, wire w at place w - 1, how many operand places and
 // outputs name it. Places past its counts, and past its wires, are unused.
+// Kept: counts beside arrays that have all places, since the C interface hands the record over by value.
 #[repr(C)]
 #[derive(Clone, Copy)]
 pub struct Plan {
@@ -53,6 +54,7 @@ impl Plan {
     pub const MAX_WIRES: usize = Plan::MAX_INPUTS + Plan::MAX_GATES;
 
     // The record with every count, every place and every figure zero.
+    #[tactic(auto, unfolding(crate::specs::Record::places))]
     pub fn zero() -> Self
         ensures { result ≡ zero_plan }
     {
@@ -78,5 +80,5 @@ impl Plan {
 pub fn gate_wire(inputs: u16, i: usize) -> PlanWire
     ensures { result.0 ≡ gate_wire inputs i % word_numbers }
 {
-    PlanWire(((inputs as usize + i % WORD_NUMBERS + 1) % WORD_NUMBERS) as u16)
+    PlanWire(((usize::from(inputs) + i % WORD_NUMBERS + 1) % WORD_NUMBERS) as u16)
 }

@@ -9,16 +9,15 @@ use crate::record::{Gate, PlanWire};
 const MAX_MAP: u8 = 7;
 
 // Whether count is from 1 to limit.
+#[tactic(auto, unfolding(crate::specs::Rules::count_allowed))]
 pub fn count_allowed(count: u32, limit: usize) -> bool
     ensures { result ≡ count_allowed limit count }
 {
-    if count == 0 {
-        return false;
-    }
-    count as usize <= limit
+    (1..=limit).contains(&(count as usize))
 }
 
 // Whether a map byte has no bit above the three fields.
+#[tactic(auto, unfolding(crate::specs::Rules::map_allowed))]
 pub fn map_allowed(map: u8) -> bool
     ensures { result ≡ map_allowed map }
 {
@@ -26,16 +25,15 @@ pub fn map_allowed(map: u8) -> bool
 }
 
 // Whether the wire may be an operand of a gate whose operands are below own: its own wire; in a drawing the wire after the last.
+#[tactic(auto, unfolding(crate::specs::Rules::operand_allowed))]
 pub fn operand_allowed(own: PlanWire, wire: PlanWire) -> bool
     ensures { result ≡ operand_allowed own.0 wire.0 }
 {
-    if wire.0 == 0 {
-        return false;
-    }
-    wire.0 < own.0
+    wire.0 != 0 && wire.0 < own.0
 }
 
 // Whether a table has no bit above the four lines.
+#[tactic(auto, unfolding(crate::specs::Rules::table_allowed))]
 pub(crate) fn table_allowed(table: u16) -> bool
     ensures { result ≡ table_allowed table }
 {
@@ -43,11 +41,9 @@ pub(crate) fn table_allowed(table: u16) -> bool
 }
 
 // Whether the wire is a gate's, in a plan with these numbers of inputs and gates.
+#[tactic(auto, unfolding(crate::specs::Rules::source_allowed))]
 pub fn source_allowed(inputs: u16, gates: u16, wire: PlanWire) -> bool
     ensures { result ≡ source_allowed inputs gates wire.0 }
 {
-    if wire.0 <= inputs {
-        return false;
-    }
-    wire.0 - inputs <= gates
+    inputs < wire.0 && wire.0 - inputs <= gates
 }

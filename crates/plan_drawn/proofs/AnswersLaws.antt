@@ -7,6 +7,8 @@ use Prim.Native.Nat.{ℕ, ◌≤◌}
 use native.Mathlib.Omega.{arith}
 use lib.Dec.{eqb}
 use lib.ListN.{length}
+use Rattle.std.specs.Prelude.{Result, IsErrAnd}
+use Rattle.std.proofs.lemmas.Result.{err_from_is_err_and}
 use Rattle.lists.proofs.CountingLaws.{passed}
 use Rattle.fault.specs.Number.{fault_number}
 use Rattle.fault.specs.declared.Refusal.{Refusal}
@@ -17,10 +19,17 @@ use Rattle.plan_fields.specs.Parsing.{got}
 use Rattle.plan_fields.specs.Answers.{refusal}
 use Rattle.plan_reading.specs.PlanFile.{ReadOutcome, plan_read, drawing_file, drawing_read}
 use Rattle.plan_order.specs.Drawing.{drawn_order, DrawingWithin}
+use Rattle.plan_drawn.specs.declared.reading.DrawnPlan.{DrawnPlan}
+use Rattle.plan_drawn.specs.Answers.{drawn_read_outcome}
 use Rattle.plan_drawn.specs.DrawnFile.{no_cycle, drawn_file, DrawnOutcome, drawn_outcome, drawn_read}
 use Rattle.plan_drawn.specs.DrawnTheorems.{in_order_numbers}
 use Rattle.plan_drawn.proofs.DrawingFileLaws.{file-held, plan-got, drawing-got, drawing-within}
 use Rattle.plan_drawn.proofs.DrawnTheoremsLaws.{cycle_refused_theorem, plain_and_drawn_theorem}
+
+-- a refusal is handed on
+pub no-drawing : (r : Result DrawnPlan Refusal) (x : Refusal) {o : DrawnOutcome} → IsErrAnd r (λ y. y ≡ x) → drawn_outcome (refusal x) ≡ o
+    → drawn_read_outcome r ≡ o
+no-drawing r x answered e = let (y, is, same) = err_from_is_err_and r answered in rw (is, same) e
 
 module _ (s : List ℕ) where
   -- a plan was read

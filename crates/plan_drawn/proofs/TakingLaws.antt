@@ -3,7 +3,9 @@ use mathlib.Core.Path.{◌≡◌, refl, sym, ap, ap₂, ◌∙◌}
 use mathlib.Core.Logic.{inl, inr}
 use mathlib.Core.Bool.{Bool, true, false, not, ◌&&◌}
 use mathlib.Core.List.{List, [], ◌∷◌, ◌++◌}
-use Prim.Native.Nat.{ℕ, suc, ◌+◌, ◌-◌, ◌≤◌, ◌<◌}
+use Prim.Native.Nat.{ℕ, zero-le, suc, ◌+◌, ◌-◌, ◌≤◌, ◌<◌}
+use native.Mathlib.Nat.{le_refl, le_of_lt}
+use Rattle.std.specs.Prelude.{Option, Some, None, unwrap_or, MatchOption}
 use native.Mathlib.Decide.{ℕ_discrete, dec_le, dec_lt}
 use native.Mathlib.Numerals.{add-one}
 use native.Mathlib.Omega.{arith}
@@ -13,36 +15,33 @@ use lib.ListN.{length, get_or, set, length-set, length-append, get_or-append}
 use lib.Seq.{get_or_at, get_or-set_same, get_or-set_other}
 use Rattle.lists.specs.Lists.{list_of}
 use Rattle.lists.proofs.ListsLaws.{length-list_of, list_of_ext}
-use Rattle.lists.proofs.CountingLaws.{passed, both_ways}
+use Rattle.lists.proofs.CountingLaws.{passed, both_ways, not_fails}
+use Rattle.plan.specs.declared.record.Plan.{Plan}
 use Rattle.plan.specs.Record.{max_gates, gate_wire, places}
 use Rattle.plan.proofs.RecordLaws.{places-more}
 use Rattle.plan_order.specs.Order.{has, supplied, ready, taken}
-use Rattle.plan_order.specs.Drawing.{place_in}
-use Rattle.plan_order.proofs.OrderLaws.{has_more, ready-parts, next-taken, none-taken, taken-stays, taken-within}
-use Rattle.plan_drawn.specs.Taking.{number_among, WiresHeld, Numbered, unnumbered, can_take, can_take_gate, LowestFrom, numbers_of, Operands, listed_order}
+use Rattle.plan_order.specs.Drawing.{place_in, drawn_first, drawn_second, drawn_order, DrawingWithin}
+use Rattle.plan_order.proofs.OrderLaws.{has_more, ready-parts, next-taken, none-taken, taken-stays, taken-within, taken-all, all-taken}
+use Rattle.plan_drawn.specs.Taking.{number_among, WiresHeld, Numbered, unnumbered, can_take, can_take_gate, NoneFrom, LowestFrom, LowestFound, numbers_of, OrderTaken}
 
 -- ---- searching from a number on
 
--- none from `from` on and below g passes
-pub record NoneFrom (test : ℕ → Bool) (from g : ℕ) : Type 0 where
-  pub each : (i : ℕ) → from ≤ i → i < g → test i ≡ false
+-- where the lowest number that passes is, or n where there is none: no number below it passes
+pub record SearchedTo (test : ℕ → Bool) (from n l : ℕ) : Type 0 where
+  pub up_to : l ≤ n
+  pub none : NoneFrom test from l
+  pub passes : l < n → test l ≡ true
 
-module _ (test : ℕ → Bool) (from : ℕ) where
-  -- at the start
-  pub none_yet : NoneFrom test from from
-  none_yet = record { each = λ i l h. absurd (omega arith) }
+pub searched-to : {test : ℕ → Bool} {from n : ℕ} (r : Option ℕ) → LowestFound test from n r → SearchedTo test from n (unwrap_or r n)
+searched-to {n = n} None h = record { up_to = le_refl n; none = h; passes = λ l. absurd (omega arith) }
+searched-to (Some r) h = record { up_to = le_of_lt h.low; none = h.none; passes = λ _. h.passes }
 
-  module _ {g : ℕ} (none : NoneFrom test from g) where
-    -- g does not pass
-    pub none_more : test g ≡ false → NoneFrom test from (g + 1)
-    none_more f = record { each = λ i l h. elim (ℕ_discrete i g) [ yes e ↦ rw e f | no d ↦ none.each i l (omega arith) ] }
-
-    -- g passes, or there are no more
-    pub lowest-found : {n : ℕ} → g < n → test g ≡ true → LowestFrom test from n g
-    lowest-found h t = record { up_to = omega arith; none = none.each; passes = λ _. t }
-
-    pub none_found : {n : ℕ} → g ≤ n → n ≤ g → LowestFrom test from n n
-    none_found {n} h l = let e : g ≡ n = omega arith in record { up_to = omega arith; none = rw e at none.each; passes = λ m. absurd (omega arith) }
+-- what a search of the numbers from `from` on found
+pub lowest-found : (test : ℕ → Bool) (from n m : ℕ) (r : Option ℕ) → m ≡ n
+    → MatchOption r ((i : ℕ) → from ≤ i → i < m → test i ≡ false)
+    (λ x. (from ≤ x) × (x < m) × (test x ≡ true) × ((i : ℕ) → from ≤ i → i < x → test i ≡ false)) → LowestFound test from n r
+lowest-found test from n m None e h = record { each = rw e at h }
+lowest-found test from n m (Some r) e h = record { low = omega (arith, h.1); none = record { each = h.3 }; passes = h.2 }
 
 -- ---- places of gates
 
@@ -171,121 +170,127 @@ module _ {u k : ℕ} {L numbers : List ℕ} (numbered : Numbered u k L numbers) 
 
 -- ---- a turn
 
-module _ (u k : ℕ) (firsts seconds : List ℕ) where
-  abbrev First : ℕ → ℕ
-  First g = get_or firsts g 0
+module _ (d : Plan) where
+  abbrev u : ℕ
+  u = d.inputs
 
-  abbrev Second : ℕ → ℕ
-  Second g = get_or seconds g 0
+  abbrev k : ℕ
+  k = d.gate_count
 
   abbrev Taken : ℕ → List ℕ
-  Taken = taken u k First Second
+  Taken = taken u k (drawn_first d) (drawn_second d)
 
   abbrev Ready : List ℕ → ℕ → Bool
-  Ready = ready u k First Second
+  Ready = ready u k (drawn_first d) (drawn_second d)
 
-  -- the lowest gate that is left over, and the lowest that is ready
-  abbrev LowestLeft : List ℕ → ℕ → Type 0
-  LowestLeft L low = LowestFrom (λ g. not (has L g)) 0 k low
-
-  abbrev LowestReady : List ℕ → ℕ → Type 0
-  LowestReady L next = LowestFrom (Ready L) 0 k next
-
-  module _ (operands : Operands u k firsts seconds) {L numbers : List ℕ} (numbered : Numbered u k L numbers) where
-    can-take-ready : (g : ℕ) → g < k → can_take_gate u k firsts seconds numbers g ≡ Ready L g
+  module _ {L numbers : List ℕ} (numbered : Numbered u k L numbers) where
+    can-take-ready : DrawingWithin d → (g : ℕ) → g < k → can_take_gate d numbers g ≡ Ready L g
     unfolding can_take ready
-    can-take-ready g l =
-        let a = unnumbered-wire numbered First Second (First g) (operands.some_first g l) (operands.first g l) in
-        let b = unnumbered-wire numbered First Second (Second g) (operands.some_second g l) (operands.second g l) in
-        rw (a, b, unnumbered-gate numbered First Second g l)
-        (two_tests (supplied u k First Second L (First g)) (supplied u k First Second L (Second g)) (has L g))
+    can-take-ready within g l =
+        let w = within.gate g l in
+        let a = unnumbered-wire numbered (drawn_first d) (drawn_second d) (drawn_first d g) w.some_first (omega (arith, w.first)) in
+        let b = unnumbered-wire numbered (drawn_first d) (drawn_second d) (drawn_second d g) w.some_second (omega (arith, w.second)) in
+        rw (a, b, unnumbered-gate numbered (drawn_first d) (drawn_second d) g l)
+        (two_tests (supplied u k (drawn_first d) (drawn_second d) L (drawn_first d g)) (supplied u k (drawn_first d) (drawn_second d) L (drawn_second d g)) (has L g))
 
-    -- found from `from` on, where every gate below it is taken
-    left-found : {from low : ℕ} → ((i : ℕ) → i < from → has L i ≡ true) → LowestFrom (λ g. unnumbered numbers (gate_wire u g)) from k low → LowestLeft L low
-    left-found {from} {low} before found = record {
-      up_to = found.up_to;
-      none = λ i _ h. elim (dec_lt i from) [
-        | yes l ↦ rw (before i l)
-        | no f ↦ sym (unnumbered-gate numbered First Second i (omega (arith, found.up_to))) ∙ found.none i (omega arith) h
-      ];
-      passes = λ h. sym (unnumbered-gate numbered First Second low h) ∙ found.passes h;
-    }
+    left-unnumbered : (g : ℕ) → g < k → unnumbered numbers (gate_wire u g) ≡ not (has L g)
+    left-unnumbered = unnumbered-gate numbered (drawn_first d) (drawn_second d)
 
     taken_unready : (g : ℕ) → has L g ≡ true → Ready L g ≡ false
     unfolding ready
     taken_unready g t = rw t
 
-    ready-found : {low next : ℕ} → LowestLeft L low → LowestFrom (can_take_gate u k firsts seconds numbers) low k next → LowestReady L next
-    ready-found {low} {next} left found = record {
-      up_to = found.up_to;
-      none = λ i _ h. elim (dec_lt i low) [
-        | yes l ↦ taken_unready i (not_not (left.none i (omega arith) l))
-        | no f ↦ sym (can-take-ready i (omega (arith, found.up_to))) ∙ found.none i (omega arith) h
-      ];
-      passes = λ h. sym (can-take-ready next h) ∙ found.passes h;
-    }
-
-  -- n gates are taken, and stand in the lists; `low` is the lowest that is left over, `next` the next to be taken
-  pub record Turns (numbers drawn : List ℕ) (n low next : ℕ) : Type 0 where
+  -- n gates are taken, and stand in the lists; below `low` all are, and `low` is not where it is a gate
+  pub record Turns (numbers drawn : List ℕ) (n low : ℕ) : Type 0 where
+    pub within : DrawingWithin d
     pub full : length (Taken n) ≡ n
     pub numbered : Numbered u k (Taken n) numbers
     pub listed : drawn ≡ numbers_of (Taken n)
-    pub left : LowestLeft (Taken n) low
-    pub ready : LowestReady (Taken n) next
+    pub up_to : low ≤ k
+    pub below : (i : ℕ) → i < low → has (Taken n) i ≡ true
+    pub left : low < k → has (Taken n) low ≡ false
 
-  module _ (operands : Operands u k firsts seconds) where
-    -- before the first turn
-    pub turns-start : {numbers drawn : List ℕ} {next : ℕ} → Numbered u k [] numbers → drawn ≡ numbers_of []
-        → LowestFrom (can_take_gate u k firsts seconds numbers) 0 k next → Turns numbers drawn 0 0 next
-    unfolding taken has
-    turns-start numbered listed found =
-        let left : LowestLeft [] 0 = record { up_to = omega arith; none = λ i _ h. absurd (omega arith); passes = λ _. refl } in
-        record { full = refl; numbered = numbered; listed = listed; left = left; ready = ready-found operands numbered left found }
+  -- before the first turn
+  pub turns-start : {numbers drawn : List ℕ} → DrawingWithin d → Numbered u k [] numbers → drawn ≡ numbers_of [] → Turns numbers drawn 0 0
+  unfolding taken has
+  turns-start within numbered listed = record {
+    within = within;
+    full = refl;
+    numbered = numbered;
+    listed = listed;
+    up_to = zero-le;
+    below = λ i l. absurd (omega arith);
+    left = λ _. refl;
+  }
 
-    module _ {numbers drawn : List ℕ} {n low next : ℕ} (turns : Turns numbers drawn n low next) where
-      -- no more gates are taken than there are
-      turns-few : n ≤ k
-      turns-few = omega (arith, turns.full, taken-within u k First Second n)
+  module _ {numbers drawn : List ℕ} {n low : ℕ} (turns : Turns numbers drawn n low) where
+    -- after k turns all gates are taken
+    pub turns-all : k ≤ n → OrderTaken d None numbers drawn
+    turns-all l =
+        let same : n ≡ k = omega (arith, turns.full, taken-within u k (drawn_first d) (drawn_second d) n) in
+        let all = all-taken u k (drawn_first d) (drawn_second d) n (turns.full ∙ same) in
+        let order : Taken n ≡ drawn_order d = ap Taken same in
+        record {
+          left = record { each = λ i _ b. rw (← order, all i b) };
+          numbered = rw order at turns.numbered;
+          listed = turns.listed ∙ ap numbers_of order;
+        }
 
-      -- where `next` is a gate, the next turn takes it
-      module _ (h : next < k) where
-        next-turn : Taken (n + 1) ≡ Taken n ++ (next ∷ [])
-        unfolding taken
-        next-turn = rw (add-one n) (next-taken u k First Second (Taken n) next h (turns.ready.passes h) (λ i l. turns.ready.none i (omega arith) l))
+    -- after fewer, where no gate can be taken, `low` is left over
+    pub turns-stop : n < k → NoneFrom (can_take_gate d numbers) low k → OrderTaken d (Some low) numbers drawn
+    turns-stop l none =
+        let unready : (i : ℕ) → i < k → Ready (Taken n) i ≡ false = λ i b. elim (dec_lt i low) [
+          | yes t ↦ taken_unready turns.numbered i (turns.below i t)
+          | no f ↦ sym (can-take-ready turns.numbered turns.within i b) ∙ none.each i (omega arith) b
+        ] in
+        let order : Taken n ≡ drawn_order d =
+        sym (taken-stays u k (drawn_first d) (drawn_second d) n k (le_of_lt l) (none-taken u k (drawn_first d) (drawn_second d) (Taken n) unready)) in
+        let some : low < k = elim (dec_lt low k) [
+          | yes t ↦ t
+          | no f ↦ absurd (omega (arith, turns.full, taken-all u k (drawn_first d) (drawn_second d) n (λ g b. turns.below g (omega arith))))
+        ] in
+        record {
+          left = record { low = some; none = record { each = λ i _ b. rw (← order, turns.below i b) }; passes = rw (← order, turns.left some) };
+          numbered = rw order at turns.numbered;
+          listed = turns.listed ∙ ap numbers_of order;
+        }
 
-        fresh : has (Taken n) next ≡ false
-        fresh = (ready-parts u k First Second (Taken n) next (turns.ready.passes h)).0
+    -- where the next gate can be taken, one turn more
+    module _ {next : ℕ} (found : LowestFrom (can_take_gate d numbers) low k next) where
+      is_ready : Ready (Taken n) next ≡ true
+      is_ready = sym (can-take-ready turns.numbered turns.within next found.low) ∙ found.passes
 
-        pub turns-fewer : n < k
-        turns-fewer =
-            omega (arith, turns.full, taken-within u k First Second (n + 1), ap length next-turn, length-append (Taken n) (next ∷ []))
+      next-turn : Taken (n + 1) ≡ Taken n ++ (next ∷ [])
+      unfolding taken
+      next-turn = rw (add-one n) (next-taken u k (drawn_first d) (drawn_second d) (Taken n) next found.low is_ready λ i l. elim (dec_lt i low) [
+        | yes b ↦ taken_unready turns.numbered i (turns.below i b)
+        | no f ↦ sym (can-take-ready turns.numbered turns.within i (omega (arith, found.low))) ∙ found.none.each i (omega arith) l
+      ])
 
-        -- the lists once it is taken
-        next-numbered : {w v : ℕ} → w ≡ gate_wire u next → v ≡ gate_wire u n → Numbered u k (Taken (n + 1)) (set numbers w v)
-        next-numbered e f = rw next-turn (number_more turns.numbered next n h fresh turns.full e f)
+      fresh : has (Taken n) next ≡ false
+      fresh = (ready-parts u k (drawn_first d) (drawn_second d) (Taken n) next is_ready).0
 
-        pub turns_more : {w v x low' next' : ℕ} → w ≡ gate_wire u next → v ≡ gate_wire u n → x ≡ suc next
-            → LowestFrom (λ g. unnumbered (set numbers w v) (gate_wire u g)) low k low'
-            → LowestFrom (can_take_gate u k firsts seconds (set numbers w v)) low' k next'
-            → Turns (set numbers w v) (set drawn n x) (n + 1) low' next'
-        turns_more {w} {v} {x} e f g left found =
-            let numbered = next-numbered e f in
-            let before : (i : ℕ) → i < low → has (Taken (n + 1)) i ≡ true = λ i l.
-            let t : has (Taken n) i ≡ true = not_not (turns.left.none i (omega arith) l) in
-            rw (next-turn, has_more (Taken n) next i, t) in
-            let lowest = left-found operands numbered before left in
-            record {
-              full = ap length next-turn ∙ length-append (Taken n) (next ∷ []) ∙ ap (λ m. m + 1) turns.full;
-              numbered = numbered;
-              listed =
-                  ap₂ (λ (d : List ℕ) y. set d n y) turns.listed g
-                  ∙ numbers_more (Taken n) next n turns.full (omega (arith, turns-fewer, turns.numbered.held.gates))
-                  ∙ ap numbers_of (sym next-turn);
-              left = lowest;
-              ready = ready-found operands numbered lowest found;
-            }
+      pub turns-fewer : n < k
+      turns-fewer =
+          omega (arith, turns.full, taken-within u k (drawn_first d) (drawn_second d) (n + 1), ap length next-turn, length-append (Taken n) (next ∷ []))
 
-    -- after the last: no gate can be taken
-    pub turns_end : {numbers drawn : List ℕ} {n low next : ℕ} → Turns numbers drawn n low next → k ≤ next → Taken n ≡ listed_order u k firsts seconds
-    turns_end {n = n} turns h =
-        sym (taken-stays u k First Second n k (turns-few turns) (none-taken u k First Second (Taken n) (λ i l. turns.ready.none i (omega arith) (omega arith))))
+      pub turns_more : {w v x low' : ℕ} → w ≡ gate_wire u next → v ≡ gate_wire u n → x ≡ suc next
+          → SearchedTo (λ g. unnumbered (set numbers w v) (gate_wire u g)) low k low' → Turns (set numbers w v) (set drawn n x) (n + 1) low'
+      turns_more {w} {v} {x} {low'} e f g searched =
+          let numbered : Numbered u k (Taken (n + 1)) (set numbers w v) =
+          rw next-turn (number_more turns.numbered next n found.low fresh turns.full e f) in
+          record {
+            within = turns.within;
+            full = ap length next-turn ∙ length-append (Taken n) (next ∷ []) ∙ ap (λ m. m + 1) turns.full;
+            numbered = numbered;
+            listed =
+                ap₂ (λ (d : List ℕ) y. set d n y) turns.listed g
+                ∙ numbers_more (Taken n) next n turns.full (omega (arith, turns-fewer, turns.numbered.held.gates))
+                ∙ ap numbers_of (sym next-turn);
+            up_to = searched.up_to;
+            below = λ i l. elim (dec_lt i low) [
+              | yes b ↦ rw (next-turn, has_more (Taken n) next i, turns.below i b)
+              | no s ↦ not_not (sym (left-unnumbered numbered i (omega (arith, searched.up_to))) ∙ searched.none.each i (omega arith) l)
+            ];
+            left = λ l. not_fails (sym (left-unnumbered numbered low' l) ∙ searched.passes l);
+          }

@@ -2,8 +2,7 @@
 // in document 02's order (W1) with the drawn number at each place; or which fault they have and where.
 #![tactic(auto)]
 
-mod ordering;
 mod reading;
 mod taking;
 
-pub use reading::{DrawnRead, read_drawn};
+pub use reading::{DrawnPlan, read_drawn};

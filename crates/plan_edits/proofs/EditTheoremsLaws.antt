@@ -19,7 +19,7 @@ use Rattle.plan.proofs.FaultsLaws.{accepted_bounds, accepted-counts}
 use Rattle.plan.proofs.AgreeLaws.{counted_alike, same-fault}
 use Rattle.plan.proofs.TallyLaws.{uses-add_up}
 use Rattle.plan_edits.specs.Edits.{replace_gate_fault, append_gate_fault, replace_output_fault, settled, with_gate_at, with_output_at, edit_outcome, gate_replaced, gate_appended, output_replaced}
-use Rattle.plan_edits.proofs.EditsLaws.{can_replace_gate, can-append-gate, can_replace_output}
+use Rattle.plan_edits.proofs.EditsLaws.{can_replace_gate, can_append_gate, can_replace_output}
 use Rattle.plan_edits.specs.EditTheorems.{HasPlaces, Settled, EditIs, EditsRight, EditsRightTheorem, SameEdit, SameEdits, SameEditsTheorem}
 
 -- ---- figures that are settled
@@ -81,7 +81,7 @@ replace_fits p number g e =
 
 append-fits : (p : Plan) (g : Gate) → append_gate_fault p g ≡ 0 → GateFits p (suc p.gate_count) p.gate_count g
 append-fits p g e =
-    let can = can-append-gate p g (sym e) in
+    let can = can_append_gate p g (sym e) in
     record { accepted = can.accepted; few = can.room; more = omega arith; place = omega arith; rest = λ j l f. omega arith; gate = can.gate }
 
 output-fits : (p : Plan) (number : ℕ) (o : PlanWire) → replace_output_fault p number o ≡ 0 → OutputFits p (number - 1) o

@@ -12,6 +12,8 @@ use denote.Struct.Declared.{row}
 use lib.Dec.{eqb}
 use lib.ListN.{length, get_or, set, length-set}
 use lib.Seq.{length-sets, get_or-set_same, get_or-set_other, ext_get_or}
+use Rattle.std.specs.Prelude.{Result, IsErrAnd}
+use Rattle.std.proofs.lemmas.Result.{err_from_is_err_and}
 use Rattle.lists.specs.Lists.{list_of}
 use Rattle.lists.specs.Counting.{one_if}
 use Rattle.lists.proofs.ListsLaws.{get_d_sets, get_or_sets_past}
@@ -22,9 +24,9 @@ use Rattle.fault.proofs.ChecksLaws.{number-positive, unless-zero, and_then-zero}
 use Rattle.plan.specs.declared.record.Gate.{Gate}
 use Rattle.plan.specs.declared.record.Plan.{Plan}
 use Rattle.plan.specs.declared.record.PlanWire.{PlanWire}
-use Rattle.plan.specs.Record.{word_numbers, max_inputs, max_gates, max_outputs, max_plan_wires, zero_gate, gate_at, output_at, gate_wire, counted_uses, stored_uses, wire_count}
+use Rattle.plan.specs.Record.{word_numbers, max_gates, max_outputs, max_plan_wires, zero_gate, gate_at, output_at, gate_wire, counted_uses, stored_uses, wire_count}
 use Rattle.plan.specs.Rules.{count_allowed}
-use Rattle.plan.specs.Faults.{gate_fault, Accepted, CountsWithin, GateWithin, OutputWithin}
+use Rattle.plan.specs.Faults.{plan_fault, gate_fault, Accepted, CountsWithin, GateWithin, OutputWithin}
 use Rattle.plan.specs.Counting.{with_use, with_operands}
 use Rattle.plan.specs.contracts.record.Plan as Plan-type
 use Rattle.plan.proofs.RecordLaws.{wire-fits}
@@ -33,6 +35,7 @@ use Rattle.plan.proofs.UsesLaws.{uses-gate, uses_le, uses-same, uses-gate-set, u
 use Rattle.plan.proofs.FaultsLaws.{gate-within, output-within, accepted-counts, accepted-gate, accepted-output, accepted-tallied}
 use Rattle.plan.proofs.TallyLaws.{unnamed}
 use Rattle.plan_edits.specs.Edits.{place_fault, replace_gate_fault, append_gate_fault, replace_output_fault, settled, with_gate_at, with_output_at, EditOutcome, edit_outcome}
+use Rattle.plan_edits.specs.Answers.{edited_outcome}
 use Rattle.plan_edits.specs.EditTheorems.{HasPlaces}
 use Rattle.plan_edits.specs.Uncounting.{without_use, without_operands}
 
@@ -49,10 +52,12 @@ pub placed : {count number : ℕ} → place_fault count number ≡ 0 → (1 ≤ 
 unfolding place_fault
 placed {count} {number} e = (count_bounds count number).0 ((unless-zero (count_allowed count number) Fault.Place).0 e)
 
--- the own wire of a gate within the limits, as code computes it
-pub own-fault : {own u i : ℕ} (g : Gate) → own ≡ gate_wire u i % word_numbers → u ≤ max_inputs → i ≤ max_gates
-    → gate_fault own g ≡ gate_fault (gate_wire u i) g
-own-fault {i = i} g e few fewer = ap (λ w. gate_fault w g) (e ∙ wire-fits {i = i} few fewer)
+-- the own wire of a gate of an accepted plan, or of one behind its last, as code computes it
+pub own_fault : (p : Plan) (at own : ℕ) (g : Gate) → 0 ≡ plan_fault p → at ≤ p.gate_count → own ≡ gate_wire p.inputs at % word_numbers
+    → gate_fault own g ≡ gate_fault (gate_wire p.inputs at) g
+own_fault p at own g e few is =
+    let counts = accepted-counts p (sym e) in
+    ap (λ w. gate_fault w g) (is ∙ wire-fits counts.inputs (omega (arith, counts.gates)))
 
 -- what holds where no check of an edit fails; a place counts from 0, a number from 1
 pub record CanReplaceGate (p : Plan) (number : ℕ) (g : Gate) : Type 0 where
@@ -87,9 +92,9 @@ can_replace_gate p number g e =
     let counts = accepted-counts p a in
     record { accepted = a; some = some; low = omega arith; in_gates = omega arith; gate = (gate-within _ g).0 c }
 
-pub can-append-gate : (p : Plan) (g : Gate) → 0 ≡ append_gate_fault p g → CanAppendGate p g
+pub can_append_gate : (p : Plan) (g : Gate) → 0 ≡ append_gate_fault p g → CanAppendGate p g
 unfolding append_gate_fault
-can-append-gate p g e =
+can_append_gate p g e =
     let (a, b, c) = three_pass e in
     let k = suc p.gate_count in
     let (some, room) = (count_bounds max_gates k).0 ((unless-zero (count_allowed max_gates k) Fault.Gates).0 b) in
@@ -345,9 +350,10 @@ abbrev outcome : ℕ → Plan → EditOutcome
 outcome n p = record { number = n; plan = p }
 
 -- a check refused with f: the plan as it went in
-pub edit_refused : (f : Fault) {n : ℕ} (made p : Plan) → fault_number f ≡ n → outcome (fault_number f) p ≡ edit_outcome n made p
-edit_refused f {n = zero} made p e = absurd (omega (arith, number-positive f))
-edit_refused f {n = suc n} made p e = ap (λ m. outcome m p) e
+pub edit_exits : {n : ℕ} (made p : Plan) (r : Result Plan Fault) (f : Fault) → IsErrAnd r (λ x. x ≡ f) → fault_number f ≡ n
+    → edited_outcome p r ≡ edit_outcome n made p
+edit_exits {n = zero} made p r f h e = absurd (omega (arith, number-positive f))
+edit_exits {n = suc n} made p r f h e = let (x, is, same) = err_from_is_err_and r h in rw (is, same) (ap (λ m. outcome m p) e)
 
 -- no check failed, and K and the uses are settled
 pub edit_done : {n : ℕ} (q p : Plan) (places : ℕ) (uses : List ℕ) → 0 ≡ n → places ≡ (settled q).gate_places → uses ≡ (settled q).uses

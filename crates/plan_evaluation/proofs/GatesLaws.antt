@@ -1,10 +1,12 @@
 -- The gates of an accepted plan on the array of its wires' bits, one by one behind a row of its inputs, and what the outputs name of them.
-use mathlib.Core.Path.{◌≡◌, sym, ap, ◌∙◌}
-use mathlib.Core.List.{List}
+use mathlib.Core.Path.{◌≡◌, refl, sym, ap, ◌∙◌}
+use mathlib.Core.List.{List, ◌++◌, append_assoc, append-nil}
 use Prim.Native.Nat.{ℕ, ◌+◌, ◌-◌, ◌<◌, ◌≤◌}
 use native.Mathlib.Omega.{arith}
 use native.Mathlib.Numerals.{add-one}
-use lib.ListN.{length, get_or, set, get_or-append}
+use borrow.Rule.Slice.PartMut.{put_mid}
+use lib.ListN.{length, get_or, set, drop, drop_of_length-le, length-append, get_or-append}
+use lib.Seq.{take_at, drop_at, drop-drop}
 use Rattle.lists.proofs.ListsLaws.{list_of_ext}
 use Rattle.fault.specs.Buffers.{over}
 use Rattle.fault.proofs.BuffersLaws.{over-more}
@@ -63,3 +65,21 @@ module _ (p : Plan) (row : List ℕ) (e : Evaluable p row) (old : List ℕ) (roo
   outputs-on-wires wires held =
       list_of_ext p.output_count _ _ (λ j h.
       on-wire p.gate_count wires held ((output_at p j).0 - 1) (omega (arith, accepted-output p e.accepted j h)))
+
+-- fresh entries and a state that are written into the array from the front, one behind the other
+pub put-row : (fresh state wires : List ℕ) (n : ℕ) → length fresh + length state ≡ n
+    → put_mid (length fresh) (n - length fresh) (fresh ++ drop (length fresh) wires) state ≡ over (fresh ++ state) wires
+put-row fresh state wires n size =
+    let rest : n - length fresh ≡ length state = omega arith in
+    rw (
+      rest,
+      take_at fresh (drop (length fresh) wires) (length fresh) refl,
+      drop_at fresh (drop (length fresh) wires) (length fresh) refl,
+      drop-drop (length state) (length fresh) wires,
+      length-append fresh state,
+      append_assoc,
+    )
+
+-- what is written over a list of its own length is all that stands there
+pub whole-over : {A : Type 0} (new old : List A) → length new ≡ length old → over new old ≡ new
+whole-over new old e = ap (λ l. new ++ l) (drop_of_length-le old (omega arith)) ∙ append-nil new

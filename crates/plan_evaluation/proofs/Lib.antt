@@ -5,6 +5,8 @@ pub mod EvaluationLaws
 pub mod GatesLaws
 -- the series of an accepted plan
 pub mod PlanSeriesLaws
+-- its intervals on lent buffers
+pub mod IntervalsLaws
 -- its theorems
 pub mod PlanTheoremsLaws
 -- unused places never matter

@@ -1,13 +1,13 @@
 -- The theorems of a plan's series.
-use mathlib.Core.Path.{◌≡◌, ap, ◌∙◌}
-use mathlib.Core.List.{List, ◌++◌}
+use mathlib.Core.Path.{◌≡◌, sym, ap, ◌∙◌}
+use mathlib.Core.List.{List, [], ◌++◌}
 use Prim.Native.Nat.{ℕ, ◌+◌, ◌-◌}
 use native.Mathlib.Omega.{arith}
 use lib.ListN.{length, take}
 use lib.Seq.{take_at}
-use Rattle.fault.specs.Buffers.{filled}
+use Rattle.fault.specs.Buffers.{over, filled}
 use Rattle.fault.specs.Checks.{and_then}
-use Rattle.fault.proofs.BuffersLaws.{filled-same, filled_none}
+use Rattle.fault.proofs.BuffersLaws.{filled-done, filled-same, filled_none}
 use Rattle.fault.proofs.ChecksLaws.{and_then-zero}
 use Rattle.series.specs.Series.{state_after}
 use Rattle.series.proofs.SeriesLaws.{ContactSeries, state-contacts, first_part_lem, next-part, composed, single-row, single-state}
@@ -15,9 +15,10 @@ use Rattle.plan.specs.declared.record.Plan.{Plan}
 use Rattle.plan.specs.Faults.{plan_fault}
 use Rattle.plan_evaluation_checks.specs.EvaluationChecks.{evaluate_fault}
 use Rattle.plan_evaluation_checks.proofs.EvaluationChecksLaws.{row-length, evaluation_passes}
-use Rattle.plan_series_checks.specs.SeriesChecks.{plan_series_fault}
+use Rattle.plan_series_checks.specs.SeriesChecks.{plan_series_fault, SeriesWithin}
 use Rattle.plan_series_checks.proofs.SeriesChecksLaws.{hold-fewer, series-faultless, series-passes, single-fault}
-use Rattle.plan_evaluation.specs.Evaluation.{plan_outputs, gate_bit}
+use Rattle.plan_evaluation.specs.Evaluation.{plan_outputs, gate_bit, evaluate_result}
+use Rattle.plan_evaluation.specs.PlanSeries.{plan_series_rows}
 use Rattle.plan_evaluation.specs.PlanSeriesTheorems.{PlanSeriesComposes, PlanSeriesSplits, PlanSeriesSingle}
 use Rattle.plan_evaluation.proofs.PlanSeriesLaws.{plan-contacts}
 
@@ -60,3 +61,19 @@ plan-series-single p row result end =
       kept = rw same (filled-same (evaluate_fault p row (length result)) end (λ z. single-state (plan_outputs 0 gate_bit p) (p.inputs - 0) row (omega (arith, size z)))
           ∙ filled_none (evaluate_fault p row (length result)) end);
     }
+
+-- where the checks of a series pass it is within its bounds
+pub series_within : (p : Plan) (h n : ℕ) (fresh start : List ℕ) (results end : ℕ) → 0 ≡ plan_series_fault p h n fresh start results end
+    → SeriesWithin p.inputs p.output_count h n fresh start results end
+series_within p h n fresh start results end e = (series-faultless _ _ _ _ _ _ _ _).0 ((and_then-zero (plan_fault p) _).0 (sym e)).1
+
+-- and where those of evaluation pass, so is one interval with nothing held, whose row is the result
+pub evaluation_within : (p : Plan) (row result : List ℕ) → 0 ≡ evaluate_fault p row (length result)
+    → SeriesWithin p.inputs p.output_count 0 1 row [] (length result) 0
+evaluation_within p row result e = series_within p 0 1 row [] (length result) 0 (e ∙ sym (plan-series-single p row result []).answered)
+
+pub evaluation_written : (p : Plan) (row result : List ℕ) → 0 ≡ evaluate_fault p row (length result)
+    → over (plan_series_rows p 0 1 row []) result ≡ evaluate_result p row result
+evaluation_written p row result e =
+    let single = plan-series-single p row result [] in
+    filled-done _ (plan_series_rows p 0 1 row []) result (e ∙ sym single.answered) ∙ single.written

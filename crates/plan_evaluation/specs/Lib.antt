@@ -7,3 +7,5 @@ pub mod PlanSeries
 pub mod PlanSeriesTheorems
 -- what a gate needs of the array of the wires' bits
 pub mod GateStands
+-- what an interval needs of its row
+pub mod IntervalRow

@@ -7,84 +7,56 @@ ghost use Rattle.plan_evaluation.specs.Evaluation.{evaluate_result};
 ghost use Rattle.plan_evaluation.specs.PlanSeries.{plan_series_results, plan_series_end};
 
 use crate::intervals::evaluate_intervals;
-use fault::{Answer, Fault};
+use fault::Fault;
 use plan::{Plan, plan_fault};
 use plan_evaluation_checks::contact_fault;
-use plan_series_checks::check_plan_series;
+use plan_series_checks::{Series, check_plan_series};
 
-// The plan's outputs on a row of inputs, each 0 or 1, into the first entries of the result: one interval with nothing held. Both
-// calls hand the record to `evaluate_intervals`, which is not inlined because it has two callers: they stay short, are inlined and copy no record.
-pub fn evaluate(plan: Plan, row: &[u8], res: &mut [u8]) -> Answer
+// The plan's outputs on a row of inputs, each 0 or 1, into the first entries of the result: one interval with nothing held.
+#[tactic(auto, using(crate::proofs::PlanTheoremsLaws::evaluation_within, crate::proofs::PlanTheoremsLaws::evaluation_written))]
+pub fn evaluate(plan: Plan, row: &[u8], res: &mut [u8]) -> Result<(), Fault>
     ensures answered { answer_number result ≡ evaluate_fault plan row.now (length res.old) }
     ensures written { res.new ≡ evaluate_result plan row.now res.old }
 {
-    match check_evaluation(plan, row, res.len()) {
-        Answer::Refused(f) => Answer::Refused(f),
-        Answer::Done => {
-            let mut none = [0u8; 0];
-            evaluate_intervals(plan, 0, 1, row, &row[..0], res, &mut none);
-            Answer::Done
-        }
-    }
+    check_evaluation(plan, row, res.len())?;
+    let series = Series {
+        hold: 0,
+        intervals: 1,
+        fresh: row,
+        start: &row[..0],
+    };
+    evaluate_intervals(&plan, series, res, &mut []);
+    Ok(())
 }
 
-// The plan's outputs on a series of rows, whose last `hold` entries are the last outputs of the row before: the output rows into the first entries of
-// the results, the end state into those of `end`.
+// The plan's outputs on a series of rows, whose held entries are the last outputs of the row before: the output rows into the first entries of the
+// results, the end state into those of `end`.
+#[tactic(auto, using(crate::proofs::PlanTheoremsLaws::series_within))]
 pub fn evaluate_series(
     plan: Plan,
-    hold: u32,
-    intervals: u32,
-    fresh: &[u8],
-    start: &[u8],
+    series: Series,
     results: &mut [u8],
     end: &mut [u8],
-) -> Answer
-    ensures answered { answer_number result ≡ plan_series_fault plan hold intervals fresh.now start.now (length results.old) (length end.old) }
-    ensures written { results.new ≡ plan_series_results plan hold intervals fresh.now start.now results.old end.old }
-    ensures ended { end.new ≡ plan_series_end plan hold intervals fresh.now start.now results.old end.old }
+) -> Result<(), Fault>
+    ensures answered { answer_number result ≡ plan_series_fault plan series.entry.hold series.entry.intervals series.entry.fresh.now series.entry.start.now (length results.old) (length end.old) }
+    ensures written { results.new ≡ plan_series_results plan series.entry.hold series.entry.intervals series.entry.fresh.now series.entry.start.now results.old end.old }
+    ensures ended { end.new ≡ plan_series_end plan series.entry.hold series.entry.intervals series.entry.fresh.now series.entry.start.now results.old end.old }
 {
-    match check_plan_series(
-        plan,
-        hold,
-        intervals,
-        fresh,
-        start,
-        results.len(),
-        end.len(),
-    ) {
-        Answer::Refused(f) => Answer::Refused(f),
-        Answer::Done => {
-            evaluate_intervals(
-                plan,
-                hold as usize,
-                intervals as usize,
-                fresh,
-                start,
-                results,
-                end,
-            );
-            Answer::Done
-        }
-    }
+    check_plan_series(plan, series, results.len(), end.len())?;
+    evaluate_intervals(&plan, series, results, end);
+    Ok(())
 }
 
 // The checks of evaluation, for a result of `room` entries: plan faults, 12, 11.
-fn check_evaluation(plan: Plan, row: &[u8], room: usize) -> Answer
+// Kept: its own, and not those of a series of one interval, by which evaluation of a small plan takes longer.
+#[tactic(auto, unfolding(fault::specs::Checks::room_fault))]
+fn check_evaluation(plan: Plan, row: &[u8], room: usize) -> Result<(), Fault>
     ensures { answer_number result ≡ evaluate_fault plan row.now room }
 {
-    let inputs = plan.inputs as usize;
-    let outputs = plan.output_count as usize;
-    match plan_fault(plan) {
-        Answer::Refused(f) => Answer::Refused(f),
-        Answer::Done => match contact_fault(inputs, row) {
-            Answer::Refused(f) => Answer::Refused(f),
-            Answer::Done => {
-                if room < outputs {
-                    Answer::Refused(Fault::Short)
-                } else {
-                    Answer::Done
-                }
-            }
-        },
+    plan_fault(plan)?;
+    contact_fault(usize::from(plan.inputs), row)?;
+    if room < usize::from(plan.output_count) {
+        return Err(Fault::Short);
     }
+    Ok(())
 }

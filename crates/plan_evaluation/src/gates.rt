@@ -6,6 +6,7 @@ ghost use Rattle.plan_evaluation.specs.GateStands.{GateStands};
 use plan::{Gate, PlanWire};
 
 // The bit that a gate's table gives for its operands' bits.
+#[tactic(auto, unfolding(crate::specs::Evaluation::table_bit))]
 fn gate_bit(table: u16, a: u8, b: u8) -> u8
     requires { (a ≤ 1) × (b ≤ 1) }
     ensures { (result ≡ table_bit table a b) × (result ≤ 1) }
@@ -18,7 +19,7 @@ pub(crate) fn place_of(wire: PlanWire) -> usize
     requires { 1 ≤ wire.0 }
     ensures { result ≡ wire.0 - 1 }
 {
-    wire.0 as usize - 1
+    usize::from(wire.0) - 1
 }
 
 // The bit of a gate, made of its operands' bits, at the place of its own wire.

@@ -1,55 +1,67 @@
-// The intervals of a plan's series. The gates and the outputs are read from the plan's record once, as arrays: no interval copies them.
-ghost use Rattle.std.specs.Prelude.{◌≡◌, length};
+// The intervals of a plan's series.
+ghost use Rattle.std.specs.Prelude.{◌≡◌, ◌++◌, length};
 ghost use Rattle.fault.specs.Buffers.{over};
 ghost use Rattle.plan.specs.Faults.{Accepted};
 ghost use Rattle.plan_series_checks.specs.SeriesChecks.{SeriesWithin};
+ghost use Rattle.plan_evaluation.specs.Evaluation.{plan_outputs, gate_bit};
+ghost use Rattle.plan_evaluation.specs.IntervalRow.{IntervalRow};
 ghost use Rattle.plan_evaluation.specs.PlanSeries.{plan_series_rows, plan_series_state};
 
 use crate::gates::{place_of, put_gate};
 use plan::Plan;
-use series::copy_part;
+use plan_series_checks::Series;
+use series::copy_entries;
 
-// The output rows of an accepted plan's intervals, one after another, and the end state. The state stands where the end state goes. An interval puts
-// its fresh entries and the state on the inputs' wires, then each gate's bit, writes the outputs' bits and holds the last of them.
-pub(crate) fn evaluate_intervals(
-    plan: Plan,
-    hold: usize,
-    intervals: usize,
-    fresh: &[u8],
-    start: &[u8],
-    results: &mut [u8],
-    end: &mut [u8],
-)
-    requires accepted { Accepted plan }
-    requires series_within { SeriesWithin plan.inputs plan.output_count hold intervals fresh.now start.now (length results.old) (length end.old) }
-    ensures results_after { results.new ≡ over (plan_series_rows plan hold intervals fresh.now start.now) results.old }
-    ensures end_after { end.new ≡ over (plan_series_state plan hold intervals fresh.now start.now) end.old }
+// The output rows of an accepted plan's intervals, one after another, and the end state. The state stands where the end state goes: an interval is
+// evaluated on its fresh entries and the state, and the last of its outputs are held.
+// Kept: that the plan is accepted is a clause: a struct of the plan with the fact would put one field more into each access, and nothing else would change.
+pub(crate) fn evaluate_intervals(plan: &Plan, series: Series, results: &mut [u8], end: &mut [u8])
+    requires accepted { Accepted plan.now }
+    requires series_within { SeriesWithin plan.now.inputs plan.now.output_count series.hold series.intervals series.fresh.now series.start.now (length results.old) (length end.old) }
+    ensures results_after { results.new ≡ over (plan_series_rows plan.now series.entry.hold series.entry.intervals series.entry.fresh.now series.entry.start.now) results.old }
+    ensures end_after { end.new ≡ over (plan_series_state plan.now series.entry.hold series.entry.intervals series.entry.fresh.now series.entry.start.now) end.old }
 {
-    let inputs = plan.inputs as usize;
-    let count = plan.gate_count as usize;
-    let gates = plan.gates;
-    let named = plan.outputs;
-    let row = inputs - hold;
+    let hold = series.hold as usize;
+    let row = usize::from(plan.inputs) - hold;
+    let outputs = usize::from(plan.output_count);
     let mut wires = [0u8; Plan::MAX_WIRES];
-    copy_part(start, 0, hold, end, 0);
-    let mut t: usize = 0;
-    while t < intervals {
-        copy_part(fresh, t * row, row, &mut wires, 0);
-        copy_part(end, 0, hold, &mut wires, row);
-        let mut i: usize = 0;
-        while i < count {
-            put_gate(gates[i], inputs + i, &mut wires);
-            i += 1;
-        }
-        let outputs = plan.output_count as usize;
-        let at = t * outputs;
-        let mut j: usize = 0;
-        while j < outputs {
-            let wire = named[j];
-            results[at + j] = wires[place_of(wire)];
-            j += 1;
-        }
-        copy_part(results, at + outputs - hold, hold, end, 0);
-        t += 1;
+    copy_entries(series.start, &mut end[..hold]);
+    for t in 0..series.intervals as usize {
+        let fresh = &series.fresh[t * row..t * row + row];
+        let after = t * outputs + outputs;
+        evaluate_row(
+            plan,
+            fresh,
+            &end[..hold],
+            &mut wires,
+            &mut results[t * outputs..after],
+        );
+        copy_entries(&results[after - hold..after], &mut end[..hold]);
+    }
+}
+
+// The plan's outputs on a row, whose last entries are the state. The wires' bits before do not matter.
+fn evaluate_row(
+    plan: &Plan,
+    fresh: &[u8],
+    state: &[u8],
+    wires: &mut [u8; Plan::MAX_WIRES],
+    results: &mut [u8],
+)
+    requires within { IntervalRow plan.now fresh.now state.now }
+    requires room { length results.old ≡ plan.now.output_count }
+    ensures { results.new ≡ plan_outputs 0 gate_bit plan.now (fresh.now ++ state.now) }
+{
+    let inputs = usize::from(plan.inputs);
+    copy_entries(fresh, &mut wires[..fresh.len()]);
+    copy_entries(state, &mut wires[fresh.len()..inputs]);
+    for (i, &gate) in plan.gates[..usize::from(plan.gate_count)]
+        .iter()
+        .enumerate()
+    {
+        put_gate(gate, inputs + i, wires);
+    }
+    for (j, result) in results.iter_mut().enumerate() {
+        *result = wires[place_of(plan.outputs[j])];
     }
 }

@@ -5,21 +5,14 @@ ghost use Rattle.std.specs.Prelude.{◌≡◌};
 ghost use Rattle.fault.specs.Number.{answer_number};
 ghost use Rattle.plan_evaluation_checks.specs.EvaluationChecks.{contact_fault};
 
-use fault::{Answer, Fault};
+use fault::Fault;
 
 // Whether a row has one entry for each input, each 0 or 1.
-pub fn contact_fault(inputs: usize, row: &[u8]) -> Answer
+pub fn contact_fault(inputs: usize, row: &[u8]) -> Result<(), Fault>
     ensures { answer_number result ≡ contact_fault inputs row.now }
 {
-    if row.len() != inputs {
-        return Answer::Refused(Fault::Contact);
+    if row.len() != inputs || row.iter().any(|&entry| 1 < entry) {
+        return Err(Fault::Contact);
     }
-    let mut i: usize = 0;
-    while i < row.len() {
-        if 1 < row[i] {
-            return Answer::Refused(Fault::Contact);
-        }
-        i += 1;
-    }
-    Answer::Done
+    Ok(())
 }

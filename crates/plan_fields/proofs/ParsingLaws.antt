@@ -1,12 +1,12 @@
--- What a field gives in each of its three cases, and reading n items by one more item at a time: a refusal stays the answer. Then what holds of a
+-- What a field gives where its value is allowed and where it is not, and reading n items by one more item at a time: a refusal stays the answer. Then what holds of a
 -- step's value and cursor, or of its refusal's number, handed on from step to step.
 use mathlib.Core.Path.{◌≡◌, refl}
 use mathlib.Core.Bool.{Bool, true, false, cond}
 use mathlib.Core.List.{List, [], ◌∷◌, ◌++◌}
-use Prim.Native.Nat.{ℕ, zero, suc, ◌+◌, ◌-◌, ◌<◌, ◌≤◌}
+use Prim.Native.Nat.{ℕ, zero, suc, ◌+◌, ◌-◌, ◌≤◌}
 use native.Mathlib.Omega.{arith}
 use native.Mathlib.Decide.{ℕ_discrete}
-use borrow.Author.Tests.{lt-ltb, le-ltb}
+use borrow.Author.Tests.{le-ltb}
 use lib.Dec.{ltb}
 use lib.ListN.{length}
 use Rattle.fault.specs.declared.Fault.{Fault}
@@ -14,11 +14,6 @@ use Rattle.plan_fields.specs.Parsing.{Parsed, got, refused, refuse, Step, follow
 
 -- v is the field's value, and r whether it is allowed
 module _ (width : ℕ) (value : List ℕ → ℕ → ℕ) (allowed : ℕ → Bool) (f : Fault) (s : List ℕ) (at : ℕ) where
-  -- the file ends inside or before the field
-  pub field_cut : length s - at < width → refuse Fault.Cut at ≡ field width value allowed f s at
-  unfolding field
-  field_cut h = rw (lt-ltb (length s - at) width h)
-
   -- the value is allowed
   pub field-got : {v : ℕ} {r : Bool} → v ≡ value s at → r ≡ allowed v → width ≤ length s - at → r ≡ true
       → got v (at + width) ≡ field width value allowed f s at
@@ -30,16 +25,6 @@ module _ (width : ℕ) (value : List ℕ → ℕ → ℕ) (allowed : ℕ → Boo
       → refuse f at ≡ field width value allowed f s at
   unfolding field
   field-bad e a h t = rw (le-ltb (length s - at) width h, ← e, ← a, t)
-
-  -- the field does not end the file: what comes after an allowed value, or the refusal
-  pub field_then : {B : Type 0} (g : ℕ → Step B) {v : ℕ} → v ≡ value s at → width ≤ length s - at
-      → cond (allowed v) (g v s (at + width)) (refuse f at) ≡ followed g s (field width value allowed f s at)
-  unfolding field
-  field_then g {v} e h = rw (le-ltb (length s - at) width h, ← e) (go (allowed v))
-    where
-      go : (r : Bool) → cond r (g v s (at + width)) (refuse f at) ≡ followed g s (cond r (got v (at + width)) (refuse f at))
-      go true = refl
-      go false = refl
 
   -- a value that was read is allowed, stands there, and the cursor is behind it
   pub field-read : {v next : ℕ} → got v next ≡ field width value allowed f s at → (allowed v ≡ true) × (v ≡ value s at) × (next ≡ at + width)

@@ -39,6 +39,10 @@ word_at s at = get_or s at 0 + 256 * get_or s (at + 1) 0
 abbrev pub byte_at : List ℕ → ℕ → ℕ
 byte_at s at = get_or s at 0
 
+-- `width` bytes that the file holds whole: 5 where it ends inside or before them
+abbrev pub uncut : ℕ → (List ℕ → ℕ → ℕ) → Step ℕ
+uncut width value s at = cond (ltb (length s - at) width) (refuse Fault.Cut at) (got (value s at) (at + width))
+
 -- a field of `width` bytes: 5 where the file ends inside or before it, then the field's own fault where its value is not allowed
 unfoldable pub field : ℕ → (List ℕ → ℕ → ℕ) → (ℕ → Bool) → Fault → Step ℕ
 field width value allowed f s at =

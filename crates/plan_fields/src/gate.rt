@@ -1,10 +1,10 @@
 // A gate of a plan file: one map byte, then only the fields whose map bit stands; the others have their defaults.
-ghost use Rattle.std.specs.Prelude.{◌≡◌, ◌-◌, ◌<◌};
+ghost use Rattle.std.specs.Prelude.{◌≡◌, ◌-◌, ◌<◌, true, false};
 ghost use Rattle.plan_fields.specs.Parsing.{standing};
 ghost use Rattle.plan_fields.specs.Fields.{absent_table, table_place, map_bit, operand_field, table_field, gate_fields, gate_step_within};
-ghost use Rattle.plan_fields.specs.Answers.{operand_answer, table_answer, gate_answer};
+ghost use Rattle.plan_fields.specs.Answers.{step_answer, wire_answer};
 
-use crate::cursor::{Cursor, MapStep, OperandStep, TableStep};
+use crate::cursor::Cursor;
 use fault::Refusal;
 use plan::{Gate, PlanWire};
 
@@ -18,67 +18,50 @@ pub const TABLE_PLACE: u8 = 2;
 // A table that is absent: AND.
 pub const ABSENT_TABLE: u16 = 8;
 
-// A gate with the next cursor, or its refusal.
-#[derive(Clone, Copy)]
-pub enum GateStep {
-    Gate(Gate, Cursor),
-    Refused(Refusal),
-}
-
 // The gate whose own wire is own: the map byte, then the fields that it says stand. Its operands are below a bound, which is its own wire where
 // gates stand in the order of evaluation.
-pub fn read_gate(file: &[u8], c: Cursor, bound: PlanWire, own: PlanWire) -> GateStep
-    ensures { gate_answer result ≡ gate_step_within bound.0 own.0 file.now c.at }
+#[tactic(auto, unfolding(crate::specs::Fields::gate_step_within))]
+pub fn read_gate(
+    file: &[u8],
+    c: Cursor,
+    bound: PlanWire,
+    own: PlanWire,
+) -> Result<(Gate, Cursor), Refusal>
+    ensures { step_answer result ≡ gate_step_within bound.0 own.0 file.now c.at }
 {
-    match c.map_byte(file) {
-        MapStep::Refused(x) => GateStep::Refused(x),
-        MapStep::Map(map, next) => read_fields(file, next, bound, own, map),
-    }
+    let (map, next) = c.map_byte(file)?;
+    read_fields(file, next, bound, own, map)
 }
 
 // The wire just before a wire, 0 before 0.
 pub fn wire_before(own: PlanWire) -> PlanWire
     ensures { result.0 ≡ own.0 - 1 }
 {
-    if own.0 == 0 {
-        return own;
-    }
-    PlanWire(own.0 - 1)
+    PlanWire(own.0.saturating_sub(1))
 }
 
 // The fields of a gate with this map byte.
-fn read_fields(file: &[u8], c: Cursor, bound: PlanWire, own: PlanWire, map: u8) -> GateStep
-    ensures { gate_answer result ≡ gate_fields bound.0 own.0 map file.now c.at }
+fn read_fields(
+    file: &[u8],
+    c: Cursor,
+    bound: PlanWire,
+    own: PlanWire,
+    map: u8,
+) -> Result<(Gate, Cursor), Refusal>
+    ensures { step_answer result ≡ gate_fields bound.0 own.0 map file.now c.at }
 {
-    match standing_operand(file, c, map, FIRST_PLACE, bound, wire_before(own)) {
-        OperandStep::Refused(x) => GateStep::Refused(x),
-        OperandStep::Operand(first, c1) => match standing_operand(
-            file,
-            c1,
-            map,
-            SECOND_PLACE,
-            bound,
+    let operand = |at: Cursor| at.operand(file, bound);
+    let (first, c1) = standing(map_bit(map, FIRST_PLACE), c, operand, wire_before(own))?;
+    let (second, c2) = standing(map_bit(map, SECOND_PLACE), c1, operand, first)?;
+    let (table, c3) = standing_table(file, c2, map, map_bit(map, SECOND_PLACE))?;
+    Ok((
+        Gate {
             first,
-        ) {
-            OperandStep::Refused(x) => GateStep::Refused(x),
-            OperandStep::Operand(second, c2) => match standing_table(
-                file,
-                c2,
-                map,
-                map_bit(map, SECOND_PLACE),
-            ) {
-                TableStep::Refused(x) => GateStep::Refused(x),
-                TableStep::Table(table, c3) => GateStep::Gate(
-                    Gate {
-                        first: first,
-                        second: second,
-                        table: table,
-                    },
-                    c3,
-                ),
-            },
+            second,
+            table,
         },
-    }
+        c3,
+    ))
 }
 
 // Whether a bit of a map byte stands.
@@ -89,30 +72,28 @@ fn map_bit(map: u8, place: u8) -> bool
     (map >> place) & 1 == 1
 }
 
-// An operand if its map bit stands, its default if not.
-fn standing_operand(
-    file: &[u8],
-    c: Cursor,
-    map: u8,
-    place: u8,
-    bound: PlanWire,
-    default: PlanWire,
-) -> OperandStep
-    requires { place < 8 }
-    ensures { operand_answer result ≡ standing (map_bit map place) (operand_field bound.0) default.0 file.now c.at }
+// A table if its map bit stands, AND if not. Its form goes by whether the gate's second operand stands.
+fn standing_table(file: &[u8], c: Cursor, map: u8, second: bool) -> Result<(u16, Cursor), Refusal>
+    ensures { step_answer result ≡ standing (map_bit map table_place) (table_field second) absent_table file.now c.at }
 {
-    if map_bit(map, place) {
-        return c.operand(file, bound);
-    }
-    OperandStep::Operand(default, c)
+    standing(
+        map_bit(map, TABLE_PLACE),
+        c,
+        |at| at.table(file, second),
+        ABSENT_TABLE,
+    )
 }
 
-// A table if its map bit stands, AND if not. Its form goes by whether the gate's second operand stands.
-fn standing_table(file: &[u8], c: Cursor, map: u8, second: bool) -> TableStep
-    ensures { table_answer result ≡ standing (map_bit map table_place) (table_field second) absent_table file.now c.at }
+// A field if it stands, its default if not.
+fn standing<T: Copy, F: FnOnce(Cursor) -> Result<(T, Cursor), Refusal>>(
+    stands: bool,
+    c: Cursor,
+    step: F,
+    default: T,
+) -> Result<(T, Cursor), Refusal>
+    requires { F.IsAlwaysCallable step }
+    ensures stands { stands ≡ true → F.post step c result }
+    ensures absent { stands ≡ false → result ≡ Ok (default, c) }
 {
-    if map_bit(map, TABLE_PLACE) {
-        return c.table(file, second);
-    }
-    TableStep::Table(ABSENT_TABLE, c)
+    if stands { step(c) } else { Ok((default, c)) }
 }

@@ -5,7 +5,5 @@
 mod cursor;
 mod gate;
 
-pub use cursor::{CountStep, Cursor, MapStep, OperandStep, OutputStep, TableStep};
-pub use gate::{
-    ABSENT_TABLE, FIRST_PLACE, GateStep, SECOND_PLACE, TABLE_PLACE, read_gate, wire_before,
-};
+pub use cursor::Cursor;
+pub use gate::{ABSENT_TABLE, FIRST_PLACE, SECOND_PLACE, TABLE_PLACE, read_gate, wire_before};

@@ -30,7 +30,7 @@ use Rattle.plan_files.proofs.BytesLaws.{encode-bytes}
 use Rattle.plan_files.proofs.ListLaws.{joined_length, joined_shorter, used-places}
 use Rattle.plan_files.proofs.ReadingLaws.{BytesStand, stands-append, stands_split, nothing-stands, whole-stands, stands-to_end, stands-length}
 use Rattle.plan_files.proofs.ReadingLaws.{byte_coded, word_coded, field-reads, standing-reads, in_order-reads}
-use Rattle.plan_files.proofs.ReadingLaws.{Gives, by_test, field-gives, standing-gives, Items, in_order-gives}
+use Rattle.plan_files.proofs.ReadingLaws.{GivesParsed, by_test, field-gives, standing-gives, Items, in_order-gives}
 
 -- two bits in a table byte, and at the outer places of a table
 byte-bits : (x y : ℕ) → x ≤ 1 → y ≤ 1 → ((x + 2 * y) % 2 ≡ x) × ((x + 2 * y) / 2 % 2 ≡ y)
@@ -150,7 +150,7 @@ encoded s u k v gs os a b c d e inputs gates outputs each-gate each-output end =
 
 -- what each step gives: a table
 table-gives : (s : List ℕ) (stands second : Bool) (at : ℕ) → OfBytes s
-    → Gives (λ t next. (stands ≡ false → t ≡ absent_table) × (table_allowed t ≡ true) × (second ≡ false → TwoLines t)
+    → GivesParsed (λ t next. (stands ≡ false → t ≡ absent_table) × (table_allowed t ≡ true) × (second ≡ false → TwoLines t)
     × BytesStand s at (where_standing stands (byte (table_byte second t))) next) (standing stands (table_field second) absent_table s at)
 table-gives s true second at small =
     gives_then (λ b. pure (table_of_byte second b)) s (field-gives byte_coded s (λ b. leb b (table_limit second)) Fault.Table at small) λ b next x.
@@ -161,7 +161,7 @@ table-gives s false second at small = gives (λ _. refl, (table-bound absent_tab
 
 -- a gate, if its default operand is allowed
 gate-gives : (s : List ℕ) (own at : ℕ) → OfBytes s → 2 ≤ own
-    → Gives (λ g next. (m : ℕ) × (LeavesOutDefaults own m g × AllowedGate own g) × BytesStand s at (encode_gate m g) next) (gate_step_within own own s at)
+    → GivesParsed (λ g next. (m : ℕ) × (LeavesOutDefaults own m g × AllowedGate own g) × BytesStand s at (encode_gate m g) next) (gate_step_within own own s at)
 unfolding gate_step_within
 gate-gives s own at small h =
     let operand = standing-gives word_coded s (operand_allowed own) Fault.Operand in
@@ -180,24 +180,24 @@ gate-gives s own at small h =
 
 -- an output
 output-gives : (s : List ℕ) (u k j at : ℕ) → OfBytes s
-    → Gives (λ w next. (c : ℕ) × OutputOf u k j c w × BytesStand s at (word w.0) next) (output_step u k s at)
+    → GivesParsed (λ w next. (c : ℕ) × OutputOf u k j c w × BytesStand s at (word w.0) next) (output_step u k s at)
 unfolding OutputOf
 output-gives s u k j at small =
     gives_then (λ w. pure (wire w)) s (field-gives word_coded s (source_allowed u k) Fault.Source at small) λ w next x. gives (0, x.0, x.1)
 
 -- the start of a file that is no stub, before any byte
-start_gives : (s : List ℕ) → Gives (λ _ next. BytesStand s 0 [] next) (not_stub s 0)
+start_gives : (s : List ℕ) → GivesParsed (λ _ next. BytesStand s 0 [] next) (not_stub s 0)
 unfolding not_stub
 start_gives s = by_test (ltb (length s) header_bytes) (λ stub. rw stub (refuses (lit≤ tt))) (λ long. rw long (gives nothing-stands))
 
 -- the end
-end_gives : (s : List ℕ) (at : ℕ) → Gives (λ _ _. length s ≤ at) (at_end s at)
+end_gives : (s : List ℕ) (at : ℕ) → GivesParsed (λ _ _. length s ≤ at) (at_end s at)
 unfolding at_end
 end_gives s at =
     by_test (ltb at (length s)) (λ tail. rw tail (refuses (lit≤ tt))) (λ none. rw none (gives (ltb-false at (length s) none)))
 
 -- the whole file
-file-gives : (s : List ℕ) → OfBytes s → Gives (λ p next. Encoded s p) (plan_file s 0)
+file-gives : (s : List ℕ) → OfBytes s → GivesParsed (λ p next. Encoded s p) (plan_file s 0)
 unfolding whole_file GateOf
 file-gives s small =
     gives_then (λ _. inputs_on false) s (start_gives s) λ _ o start.
@@ -217,7 +217,7 @@ pub read-is-encoded : (s : List ℕ) → OfBytes s → (plan_read s).number ≡ 
 unfolding plan_read
 read-is-encoded s small = done (file-gives s small)
   where
-    done : {o : Parsed Plan} → Gives (λ p next. Encoded s p) o → (parsed_outcome o).number ≡ 0 → Encoded s (parsed_outcome o).plan
+    done : {o : Parsed Plan} → GivesParsed (λ p next. Encoded s p) o → (parsed_outcome o).number ≡ 0 → Encoded s (parsed_outcome o).plan
     done (gives x) h = x
     done (refuses l) h = absurd (omega arith)
 

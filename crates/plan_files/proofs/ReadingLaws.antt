@@ -66,8 +66,8 @@ module _ {s : List ℕ} where
   stands_at {e} {a} {c} i x h = cc (get_or-drop a s i 0, get_or-append e (drop c s) 0 i h)
 
 -- what reading gave: P holds of the value and the next cursor, or the refusal's number is not 0
-abbrev pub Gives : {A : Type 0} → (A → ℕ → Type 0) → Parsed A → Type 0
-Gives P = ParsedAs P (λ n. 1 ≤ n)
+abbrev pub GivesParsed : {A : Type 0} → (A → ℕ → Type 0) → Parsed A → Type 0
+GivesParsed P = ParsedAs P (λ n. 1 ≤ n)
 
 -- by the two cases of a test
 pub by_test : {T : Type 0} (b : Bool) → (b ≡ true → T) → (b ≡ false → T) → T
@@ -116,7 +116,7 @@ module _
 
   -- what a field gives is allowed and stands
   pub field-gives : (at : ℕ) → OfBytes s
-      → Gives (λ w next. (allowed w ≡ true) × BytesStand s at (bytes w) next) (field width value allowed f s at)
+      → GivesParsed (λ w next. (allowed w ≡ true) × BytesStand s at (bytes w) next) (field width value allowed f s at)
   unfolding field
   field-gives at small =
       by_test (ltb (length s - at) width)
@@ -133,7 +133,7 @@ module _
 
   -- what a field gives that stands or has an allowed default
   pub standing-gives : (stands : Bool) (default at : ℕ) → OfBytes s → allowed default ≡ true
-      → Gives (λ w next. (stands ≡ false → w ≡ default) × (allowed w ≡ true) × BytesStand s at (where_standing stands (bytes w)) next)
+      → GivesParsed (λ w next. (stands ≡ false → w ≡ default) × (allowed w ≡ true) × BytesStand s at (where_standing stands (bytes w)) next)
       (standing stands (field width value allowed f) default s at)
   standing-gives true default at small h = gives_also (λ w next x. (λ e. absurd (true≢false e), x.0, x.1)) (field-gives at small)
   standing-gives false default at small h = gives (λ _. refl, h, nothing-stands)
@@ -198,8 +198,8 @@ module _ {A : Type 0} (Q : ℕ → ℕ → A → Type 0) (bytes : ℕ → A → 
 
   -- what items in order give, if each gives what Q holds of and what stands
   pub in_order-gives : (item : ℕ → Step A) (n : ℕ)
-      → ((i at : ℕ) → i < n → Gives (λ x next. (c : ℕ) × Q i c x × BytesStand s at (bytes c x) next) (item i s at))
-      → (at : ℕ) → Gives (Items Q bytes none s at n) (in_order item n s at)
+      → ((i at : ℕ) → i < n → GivesParsed (λ x next. (c : ℕ) × Q i c x × BytesStand s at (bytes c x) next) (item i s at))
+      → (at : ℕ) → GivesParsed (Items Q bytes none s at n) (in_order item n s at)
   unfolding in_order
   in_order-gives item zero each at = gives (items-none at)
   in_order-gives item (suc n) each at =

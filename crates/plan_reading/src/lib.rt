@@ -4,4 +4,4 @@
 
 mod reading;
 
-pub use reading::{HEADER_BYTES, PlanRead, ReadAnswer, read_drawing, read_plan};
+pub use reading::{HEADER_BYTES, read_drawing, read_plan};

@@ -1,13 +1,14 @@
 -- Bytes that are written one after another into a buffer. The conclusion of `wrote-more` has its premises' shape, so that any number of writers follow each
--- other; a buffer keeps its length whatever is written.
+-- other.
 use Prim.Native.Nat.{ℕ, ◌+◌, ◌≤◌}
 use native.Mathlib.Nat.{zero-add}
-use native.Mathlib.Numerals.{add-one}
 use native.Mathlib.Omega.{arith}
 use mathlib.Core.Path.{◌≡◌, refl, sym, ap, ◌∙◌}
-use mathlib.Core.List.{List, [], ◌∷◌, ◌++◌}
-use lib.ListN.{length, set, drop, length-append}
-use lib.Seq.{sets, length-sets, sets-eq}
+use mathlib.Core.List.{List, [], ◌++◌}
+use lib.ListN.{length, take, drop, length-append}
+use lib.Seq.{sets, sets-eq, take-length}
+use Rattle.std.proofs.lemmas.Slice.{put_mid-paste}
+use borrow.Rule.Slice.PartMut.{put_mid}
 use Rattle.fault.specs.Buffers.{over}
 use Rattle.lists.proofs.ListsLaws.{sets_append}
 use Rattle.plan_saving.specs.Parts.{Wrote}
@@ -17,10 +18,6 @@ pub wrote_none : {L : List ℕ} {at : ℕ} → Wrote [] L at L at
 wrote_none = record { is_after = refl; is_next = omega arith }
 
 module _ {a L P : List ℕ} {at n : ℕ} (front : Wrote a L at P n) where
-  -- the buffer keeps its length
-  pub wrote-length : length P ≡ length L
-  wrote-length = ap length front.is_after ∙ length-sets L at a
-
   -- the same bytes, otherwise said
   pub wrote_as : {b : List ℕ} → a ≡ b → Wrote b L at P n
   wrote_as e = rw e at front
@@ -32,12 +29,16 @@ module _ {a L P : List ℕ} {at n : ℕ} (front : Wrote a L at P n) where
     is_next = simp length-append (omega (arith, front.is_next, more.is_next));
   }
 
--- one byte, and two
-pub wrote-byte : {L : List ℕ} {at : ℕ} (x : ℕ) → Wrote (x ∷ []) L at (set L at x) (at + 1)
-wrote-byte x = record { is_after = refl; is_next = refl }
-
-pub wrote-word : {L : List ℕ} {at : ℕ} (x y : ℕ) → Wrote (x ∷ y ∷ []) L at (set (set L at x) (at + 1) y) (at + 2)
-wrote-word {L} {at} x y = record { is_after = rw (add-one at); is_next = refl }
+-- bytes that are copied into the buffer's part of their length
+pub wrote_part : {L bytes new : List ℕ} (at k : ℕ) → new ≡ bytes → length bytes ≡ k → at + k ≤ length L → Wrote bytes L at (put_mid at k L new) (at + k)
+wrote_part {L} {bytes} {new} at k e size room = record {
+  is_after =
+      put_mid-paste at k L new bytes k e refl (sym size)
+      ∙ ap (λ m. take at L ++ take m bytes ++ drop (at + m) L) (sym size)
+      ∙ ap (λ l. take at L ++ l ++ drop (at + length bytes) L) (take-length bytes)
+      ∙ sym (sets-eq bytes L at (omega arith));
+  is_next = omega (arith, size);
+}
 
 -- bytes in the front of a buffer that has room for them
 module _ {a L P : List ℕ} {n : ℕ} (front : Wrote a L 0 P n) where

@@ -5,5 +5,5 @@ pub mod Saving
 pub mod Answers
 -- what is proved of saving
 pub mod SavingTheorems
--- the bytes of the gates, and what a function leaves that writes bytes
+-- the bytes of the gates and of the outputs, and what a function leaves that writes bytes
 pub mod Parts

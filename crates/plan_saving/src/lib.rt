@@ -5,4 +5,4 @@
 mod gate;
 mod saving;
 
-pub use saving::{SaveAnswer, save_plan};
+pub use saving::save_plan;

@@ -9,14 +9,12 @@ use native.Mathlib.Omega.{arith}
 use mir.Syntax.{w64}
 use mir.Val.{Fits}
 use mir.Facts.{Fits-below}
-use borrow.Author.Tests.{le-leb, eq-eqb}
-use lib.ListN.{length, get_or}
 use Rattle.fault.specs.Checks.{and_then, room_fault}
-use Rattle.fault.proofs.ChecksLaws.{room-passes, unless-zero, and_then-zero, first_of-zero, leb_iff}
+use Rattle.fault.proofs.ChecksLaws.{room-passes, unless-zero, and_then-zero, leb_iff}
 use Rattle.series.proofs.SeriesLaws.{Contacts}
 use Rattle.plan.specs.Record.{word_numbers}
 use Rattle.plan_evaluation_checks.specs.EvaluationChecks.{contact_fault}
-use Rattle.plan_evaluation_checks.proofs.EvaluationChecksLaws.{row-length, row-bit}
+use Rattle.plan_evaluation_checks.proofs.EvaluationChecksLaws.{row-length, row-bit, contact-passes}
 use Rattle.plan_series_checks.specs.SeriesChecks.{max_intervals, hold_fault, series_fault, HoldWithin, SeriesWithin}
 
 -- as many entries as all intervals have, where each has fewer than 65,536, are few
@@ -34,6 +32,10 @@ hold-faultless u v h n = simp (and_then-zero, unless-zero, leb_iff) (
   λ w. (w.inputs, (w.outputs, w.intervals)),
 )
 
+-- so they hold where it is not
+pub hold_within : (u v h n : ℕ) → 0 ≡ hold_fault u v h n → HoldWithin u v h n
+hold_within u v h n e = (hold-faultless u v h n).0 (sym e)
+
 -- nor with fewer intervals
 pub hold-fewer : {u v h k : ℕ} (n : ℕ) → HoldWithin u v h k → n ≤ k → HoldWithin u v h n
 hold-fewer n w l = record { inputs = w.inputs; outputs = w.outputs; intervals = (let m = w.intervals in omega arith) }
@@ -49,10 +51,9 @@ series-faultless u v h n fresh start results end = simp (and_then-zero, unless-z
 
 -- 12 is not given for a row of contacts alone
 pub contact-faultless : (u : ℕ) (row : List ℕ) → (contact_fault u row ≡ 0) ↔ Contacts u row
-unfolding contact_fault
 contact-faultless u row = (
   λ e. record { size = row-length u row e; bit = row-bit u row e },
-  λ c. simp (and_then-zero, first_of-zero, unless-zero) (eq-eqb (length row) u c.size, λ i l. le-leb (get_or row i 0) 1 (c.bit i)),
+  λ c. sym (contact-passes u row c.size (λ i l. c.bit i)),
 )
 
 -- fresh rows and a start state of contacts pass where the hold count, the intervals and the buffers do

@@ -6,106 +6,81 @@ ghost use Rattle.std.specs.Prelude.{◌≡◌, ◌≤◌};
 ghost use Rattle.fault.specs.Number.{answer_number};
 ghost use Rattle.plan_series_checks.specs.SeriesChecks.{max_intervals, hold_fault, series_contact_fault, series_room_fault, series_fault, plan_series_fault};
 
-use fault::{Answer, Fault};
+use fault::Fault;
 use plan::{Plan, plan_fault};
 use plan_evaluation_checks::contact_fault;
 
 // The most intervals of a series.
 const MAX_INTERVALS: u32 = 4096;
 
+// A series: how many outputs are held, how many intervals there are, their fresh entries one after another, and the start state.
+#[derive(Clone, Copy)]
+pub struct Series<'a> {
+    pub hold: u32,
+    pub intervals: u32,
+    pub fresh: &'a [u8],
+    pub start: &'a [u8],
+}
+
 // The checks of a plan's series, for lent buffers of `results` and `end` entries: plan faults, 16, 12, 11.
 pub fn check_plan_series(
     plan: Plan,
-    hold: u32,
-    intervals: u32,
-    fresh: &[u8],
-    start: &[u8],
+    series: Series,
     results: usize,
     end: usize,
-) -> Answer
-    ensures { answer_number result ≡ plan_series_fault plan hold intervals fresh.now start.now results end }
+) -> Result<(), Fault>
+    ensures { answer_number result ≡ plan_series_fault plan series.entry.hold series.entry.intervals series.entry.fresh.now series.entry.start.now results end }
 {
-    match plan_fault(plan) {
-        Answer::Refused(f) => Answer::Refused(f),
-        Answer::Done => check_series(
-            plan.inputs,
-            plan.output_count,
-            hold,
-            intervals,
-            fresh,
-            start,
-            results,
-            end,
-        ),
-    }
+    plan_fault(plan)?;
+    check_series(plan.inputs, plan.output_count, series, results, end)
 }
 
 // The checks of a series over so many inputs and outputs: 16, 12, 11.
+#[tactic(auto, using(crate::proofs::SeriesChecksLaws::hold_within), unfolding(crate::specs::SeriesChecks::series_fault))]
 pub fn check_series(
     inputs: u16,
     outputs: u16,
-    hold: u32,
-    intervals: u32,
-    fresh: &[u8],
-    start: &[u8],
+    series: Series,
     results: usize,
     end: usize,
-) -> Answer
-    ensures { answer_number result ≡ series_fault inputs outputs hold intervals fresh.now start.now results end }
+) -> Result<(), Fault>
+    ensures { answer_number result ≡ series_fault inputs outputs series.entry.hold series.entry.intervals series.entry.fresh.now series.entry.start.now results end }
 {
-    match check_hold(inputs, outputs, hold, intervals) {
-        Answer::Refused(f) => Answer::Refused(f),
-        Answer::Done => match check_series_contacts(inputs, hold, intervals, fresh, start) {
-            Answer::Refused(f) => Answer::Refused(f),
-            Answer::Done => check_series_rooms(outputs, hold, intervals, results, end),
-        },
-    }
+    check_hold(inputs, outputs, series)?;
+    check_series_contacts(inputs, series)?;
+    check_series_rooms(outputs, series, results, end)
 }
 
 // 16: a hold count above the inputs or the outputs, or too many intervals.
-fn check_hold(inputs: u16, outputs: u16, hold: u32, intervals: u32) -> Answer
-    ensures { answer_number result ≡ hold_fault inputs outputs hold intervals }
+#[tactic(auto, unfolding(crate::specs::SeriesChecks::hold_fault))]
+fn check_hold(inputs: u16, outputs: u16, series: Series) -> Result<(), Fault>
+    ensures { answer_number result ≡ hold_fault inputs outputs series.entry.hold series.entry.intervals }
 {
-    if (inputs as u32) < hold {
-        return Answer::Refused(Fault::Hold);
+    if u32::from(inputs.min(outputs)) < series.hold || MAX_INTERVALS < series.intervals {
+        return Err(Fault::Hold);
     }
-    if (outputs as u32) < hold {
-        return Answer::Refused(Fault::Hold);
-    }
-    if MAX_INTERVALS < intervals {
-        return Answer::Refused(Fault::Hold);
-    }
-    Answer::Done
+    Ok(())
 }
 
 // 12: the fresh rows, then the start state.
-fn check_series_contacts(
-    inputs: u16,
-    hold: u32,
-    intervals: u32,
-    fresh: &[u8],
-    start: &[u8],
-) -> Answer
-    requires { (hold ≤ inputs) × (intervals ≤ max_intervals) }
-    ensures { answer_number result ≡ series_contact_fault inputs hold intervals fresh.now start.now }
+#[tactic(auto, using(crate::proofs::SeriesChecksLaws::entries_fit))]
+fn check_series_contacts(inputs: u16, series: Series) -> Result<(), Fault>
+    requires { (series.hold ≤ inputs) × (series.intervals ≤ max_intervals) }
+    ensures { answer_number result ≡ series_contact_fault inputs series.entry.hold series.entry.intervals series.entry.fresh.now series.entry.start.now }
 {
-    let row = inputs as usize - hold as usize;
-    match contact_fault(intervals as usize * row, fresh) {
-        Answer::Refused(f) => Answer::Refused(f),
-        Answer::Done => contact_fault(hold as usize, start),
-    }
+    let row = usize::from(inputs) - series.hold as usize;
+    contact_fault(series.intervals as usize * row, series.fresh)?;
+    contact_fault(series.hold as usize, series.start)
 }
 
 // 11: the output rows, then the end state.
-fn check_series_rooms(outputs: u16, hold: u32, intervals: u32, results: usize, end: usize) -> Answer
-    requires { intervals ≤ max_intervals }
-    ensures { answer_number result ≡ series_room_fault outputs hold intervals results end }
+#[tactic(auto, using(crate::proofs::SeriesChecksLaws::entries_fit), unfolding(fault::specs::Checks::room_fault))]
+fn check_series_rooms(outputs: u16, series: Series, results: usize, end: usize) -> Result<(), Fault>
+    requires { series.intervals ≤ max_intervals }
+    ensures { answer_number result ≡ series_room_fault outputs series.entry.hold series.entry.intervals results end }
 {
-    if results < intervals as usize * outputs as usize {
-        return Answer::Refused(Fault::Short);
+    if results < series.intervals as usize * usize::from(outputs) || end < series.hold as usize {
+        return Err(Fault::Short);
     }
-    if end < hold as usize {
-        return Answer::Refused(Fault::Short);
-    }
-    Answer::Done
+    Ok(())
 }

@@ -33,10 +33,6 @@ ceil_log-is k m hk below = first-is k m hk below k 0 (omega arith) (enough m ref
     enough zero e = omega arith
     enough (suc i) e = omega (arith, below i (omega arith), below_power i)
 
--- the same from two bounds on the power itself
-pub ceil_log_between : (k m : ℕ) → k ≤ 2 ^ m → 2 ^ m < 2 * k → ceil_log k ≡ m
-ceil_log_between k m hk hm = ceil_log-is k m hk (λ j hj. omega (arith, pow-suc 2 j, pow_mono hj))
-
 -- every k has one: from some exponent that fits down to the first
 first_below : (k b : ℕ) → k ≤ 2 ^ b → (m : ℕ) × (k ≤ 2 ^ m) × ((j : ℕ) → j < m → 2 ^ j < k)
 first_below k zero h = (0, h, λ j hj. absurd (omega arith))

@@ -6,13 +6,11 @@ ghost use Rattle.std.specs.Prelude.{◌≡◌};
 ghost use Rattle.powers.specs.Powers.{ceil_log, ceil_power};
 
 // The logarithm of the smallest power of two not below k: the bits of k - 1.
+// Kept: a count of leading zeros, and no ilog2 and next_power_of_two: document 01 names this form.
 pub fn ceil_log(k: u32) -> u32
     ensures { result ≡ ceil_log k }
 {
-    if k == 0 {
-        return 0;
-    }
-    32 - u32::leading_zeros(k - 1)
+    u32::BITS - k.saturating_sub(1).leading_zeros()
 }
 
 // The smallest power of two not below k: document 01's K of k.

@@ -1,12 +1,15 @@
 -- Stores of one list into another: one entry more, those that have no room, and what stands afterwards.
 use mathlib.Core.Path.{◌≡◌, refl, sym, ap, ◌∙◌}
 use mathlib.Core.List.{List, [], ◌∷◌, ◌++◌, append_assoc, append-nil}
-use Prim.Native.Nat.{ℕ, ◌+◌, ◌-◌, ◌≤◌, ◌<◌, min}
+use Prim.Native.Nat.{ℕ, ◌+◌, ◌-◌, ◌≤◌, min}
 use native.Mathlib.Numerals.{add-one}
 use native.Mathlib.Omega.{arith}
 use native.Mathlib.Decide.{dec_le}
-use lib.ListN.{length, get_or, take, drop, set, length-append, length-drop, take-append-drop}
-use lib.Seq.{sets, sets-eq, set_out, length-sets, take-suc, take_at, take-length, length-take-le, drop-append-le, drop-append-add}
+use borrow.Rule.Slice.PartMut.{put_mid}
+use lib.ListN.{length, take, drop, set, length-append, length-drop, length-take, take-append-drop}
+use lib.Seq.{sets, sets-eq, set_out, length-sets, take_at, take-length, length-take-le, drop-append-le, drop-append-add}
+use Rattle.std.proofs.lemmas.List.{take-take}
+use Rattle.std.proofs.lemmas.Slice.{put_mid-paste}
 use Rattle.lists.specs.Lists.{list_of}
 use Rattle.lists.proofs.ListsLaws.{sets_append, length-list_of}
 use Rattle.fault.specs.Buffers.{over}
@@ -27,15 +30,6 @@ module _ {A : Type 0} where
   pub sets_both : {l₁ l₂ : List A} (l a b : List A) {n : ℕ} → n ≡ length a → length a + length b ≤ length l → l₁ ≡ sets l 0 a → l₂ ≡ sets l₁ n b
       → l₂ ≡ over (a ++ b) l
   sets_both l a b e room e₁ e₂ = rw (e₂, e₁, e, sets_over [] l a (omega arith)) (sets_over a l b room)
-
-  -- one entry more
-  pub sets_more : (from to : List A) (at i : ℕ) (d : A) → i < length from → set (sets to at (take i from)) (at + i) (get_or from i d) ≡ sets to at (take (i + 1) from)
-  sets_more from to at i d h =
-      let l = length-take-le i from (omega arith) in
-      sym (ap (λ n. sets to at (take n from)) (add-one i)
-      ∙ ap (sets to at) (take-suc from i d h)
-      ∙ sets_append (take i from) (get_or from i d ∷ []) to at
-      ∙ ap (λ n. set (sets to at (take i from)) (at + n) (get_or from i d)) l)
 
   -- one entry more of a list that is given place by place, with what stands there and what is stored given by equations
   pub sets_list_more : {now : List A} {x : A} (to : List A) (at j : ℕ) (f : ℕ → A) → now ≡ sets to at (list_of j f) → x ≡ f j
@@ -60,6 +54,27 @@ module _ {A : Type 0} where
         sym (ap (sets to at) (sym (take-append-drop n from)) ∙ sets_append (take n from) (drop n from) to at
         ∙ sets_past (drop n from) (sets to at (take n from)) _ (omega arith))
   ]
+
+  -- so many entries of a list from a place on, as many as both lists have from their places on, written over a part of the other
+  module _ (from to : List A) (start count at n : ℕ) (e : n ≡ min (min count (length from - start)) (length to - at)) where
+    abbrev part : List A
+    part = take count (drop start from)
+
+    count_room : n ≡ min (length part) (length to - at)
+    count_room = omega (arith, length-take count (drop start from), length-drop start from)
+
+    pub copied : {k m : ℕ} {new : List A} → k ≡ n → m ≡ n → at + n ≤ length to → new ≡ take m (drop start from) → put_mid at k to new ≡ sets to at part
+    copied {k} {m} {new} size count_is room copy =
+        let front = take n part in
+        let whole : n ≡ length front = omega (arith, length-take n part, count_room) in
+        let same = ap (λ j. take j (drop start from)) count_is ∙ sym (take-take n count (drop start from) (omega (arith, count_room))) in
+        put_mid-paste at k to new front n (copy ∙ same) (sym size) whole
+        ∙ ap (λ l. take at to ++ l ++ drop (at + n) to) (take-take n n part (omega arith)) ∙ ap (λ j. take at to ++ front ++ drop (at + j) to) whole
+        ∙ sym (sets-eq front to at (omega arith)) ∙ sets_room part to at n count_room
+
+    -- where there is none
+    pub none_copied : n ≡ 0 → to ≡ sets to at part
+    none_copied none = ap (λ m. sets to at (take m part)) (sym none) ∙ sets_room part to at n count_room
 
   -- the last h of v values that are stored
   pub last_stored : (l out : List A) (at h v : ℕ) → length out ≡ v → h ≤ v → at + v ≤ length l → take h (drop (at + v - h) (sets l at out)) ≡ last_of h out

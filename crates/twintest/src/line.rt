@@ -7,6 +7,7 @@ use plan::Plan;
 const LENGTH: usize = Plan::MAX_INPUTS + 2 * Plan::MAX_OUTPUTS + 3;
 
 // The bytes of a line.
+// Kept: an array, whose text's length is beside it, as `console` takes it.
 pub(crate) type Line = [u8; LENGTH];
 
 // A line with nothing put.
@@ -17,25 +18,10 @@ pub(crate) fn blank() -> Line {
 // The first `count` entries of a row, each as its digit.
 pub(crate) fn put_entries(line: &mut [u8], at: usize, row: &[u8], count: usize) -> usize {
     let mut next = at;
-    let mut i: usize = 0;
-    while i < count {
-        next = put_entry(line, next, row, i);
-        i += 1;
+    for &entry in row.iter().take(count) {
+        next = put_number(line, next, u64::from(entry));
     }
     next
-}
-
-// Entry i of a row as its digit; nothing past its end.
-fn put_entry(line: &mut [u8], at: usize, row: &[u8], i: usize) -> usize {
-    if i < row.len() {
-        return put_number(line, at, entry_number(row[i]));
-    }
-    at
-}
-
-// An entry as a number.
-fn entry_number(entry: u8) -> u64 {
-    entry as u64
 }
 
 // Ends the line at the place `at` and writes it.

@@ -10,12 +10,11 @@ mod line;
 mod rows;
 
 use console::{put_byte, put_named, put_refusal, read_input, read_small_plan};
-use elements::{CountAnswer, Counts};
+use elements::Counts;
 use fabric::count_fabric;
 use fault::Fault;
 use line::{Line, blank};
 use plan::Plan;
-use plan_reading::ReadAnswer;
 use rows::print_rows;
 
 // The buffer is longer than the longest plan file, of 1,670 bytes, so a tail is seen.
@@ -27,30 +26,24 @@ fn main() {
 
 // What the program writes for a file.
 fn print_file(file: &[u8]) {
-    let read = read_small_plan(file);
-    let answer = read.answer;
-    let plan = read.plan;
-    match answer {
-        ReadAnswer::Refused(x) => {
-            let fault = x.fault;
-            print_refusal(fault, x.at as u64);
-        }
-        ReadAnswer::Accepted => print_plan(plan),
+    match read_small_plan(file) {
+        Ok(plan) => print_plan(plan),
+        Err(refusal) => print_refusal(refusal.fault, refusal.at as u64),
     }
 }
 
 // The counts, and the rows below them.
 fn print_plan(plan: Plan) {
     match count_fabric(
-        plan.inputs as u32,
-        plan.gate_count as u32,
-        plan.output_count as u32,
+        u32::from(plan.inputs),
+        u32::from(plan.gate_count),
+        u32::from(plan.output_count),
     ) {
-        CountAnswer::Refused(f) => print_refusal(f, 0),
-        CountAnswer::Counted(c) => {
-            print_counts(plan.inputs, plan.gate_count, plan.output_count, c);
+        Ok(counts) => {
+            print_counts(plan.inputs, plan.gate_count, plan.output_count, counts);
             print_rows(plan);
         }
+        Err(fault) => print_refusal(fault, 0),
     }
 }
 
@@ -62,16 +55,17 @@ fn print_counts(u: u16, k: u16, v: u16, c: Counts) {
 }
 
 // Line one, whole.
+// Kept: three numbers and no PlanCounts: the definition `counts_line` takes the three.
 fn put_counts(line: &mut Line, u: u16, k: u16, v: u16, c: Counts) -> usize
     ensures put { Puts line.old 0 (counts_line u k v c) line.new result }
     ensures whole { take result line.new ≡ counts_line u k v c }
 {
-    let mut n = put_named(line, 0, b"u ", u as u64);
-    n = put_named(line, n, b" k ", k as u64);
-    n = put_named(line, n, b" v ", v as u64);
-    n = put_named(line, n, b" rows ", c.rows as u64);
-    n = put_named(line, n, b" wires ", c.wires as u64);
-    n = put_named(line, n, b" bits ", c.bits as u64);
+    let mut n = put_named(line, 0, b"u ", u64::from(u));
+    n = put_named(line, n, b" k ", u64::from(k));
+    n = put_named(line, n, b" v ", u64::from(v));
+    n = put_named(line, n, b" rows ", u64::from(c.rows));
+    n = put_named(line, n, b" wires ", u64::from(c.wires));
+    n = put_named(line, n, b" bits ", u64::from(c.bits));
     put_byte(line, n, b'\n')
 }
 

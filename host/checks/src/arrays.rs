@@ -17,7 +17,7 @@ use crate::listing::{self, Listed};
 use crate::rattle::is_word;
 use crate::Report;
 use held::Holding;
-use library::{Library, Standing};
+use library::{Instance, Library, Standing};
 use syntax::Function;
 use tokens::Failure;
 
@@ -126,10 +126,10 @@ fn arrays(crates: &[Listed], files: &[File]) -> Arrays {
         Ok(library) => library,
         Err(problem) => return refused(vec![problem]),
     };
-    let public = library.functions_that(|function| function.is_public);
-    let exports = library.functions_that(|function| function.is_export);
+    let public = library.instances_that(|function| function.is_public);
+    let exports = library.instances_that(|function| function.is_export);
     let programming = |function: &Function| function.is_public && says_program(function);
-    let programming = library.functions_that(programming);
+    let programming = library.instances_that(programming);
     let mut calls = Calls {
         library: &library,
         held: BTreeMap::new(),
@@ -141,11 +141,11 @@ fn arrays(crates: &[Listed], files: &[File]) -> Arrays {
         }
     }
     for at in public.iter().chain(&exports) {
-        calls.follow(*at, &mut problems);
+        calls.follow(at, &mut problems);
     }
-    for at in public {
-        let programs = |at: &usize| says_program(&library.functions[*at].item);
-        let is_known = programs(&at) || PROGRAM_MORE.contains(&&*library.function_name(at));
+    for at in &public {
+        let programs = |at: &Instance| says_program(&library.functions[at.function].item);
+        let is_known = programs(at) || PROGRAM_MORE.contains(&&*library.function_name(at.function));
         if !is_known && calls.under(at).iter().any(programs) {
             problems.push(calls.problem(at, "programs P, and its contract does not say so"));
         }
@@ -155,22 +155,30 @@ fn arrays(crates: &[Listed], files: &[File]) -> Arrays {
         return refused(problems);
     }
     let most = calls.most();
+    for holding in calls.held.values() {
+        for at in &holding.lent {
+            if most[at].0 > 0 {
+                let problem = "holds arrays, and a closure that is lent calls it";
+                problems.push(calls.problem(at, problem));
+            }
+        }
+    }
     for at in &programming {
         let bytes = most[at].0;
         if bytes > MOST {
-            let path = calls.path(&most, *at);
+            let path = calls.path(&most, at);
             let held: Vec<String> = path.map(|at| calls.shown(at)).collect();
             let held = held.join("; ");
             let problem = format!("holds {bytes} bytes of arrays at one time: {held}");
-            problems.push(calls.problem(*at, &problem));
+            problems.push(calls.problem(at, &problem));
         }
     }
-    let fullest = |at: &usize| {
-        let step = |at| (library.function_name(at), calls.held[&at].bytes());
+    let fullest = |at: &Instance| {
+        let step = |at: &Instance| (library.function_name(at.function), calls.held[at].bytes());
         Fullest {
-            call: library.function_name(*at),
+            call: library.function_name(at.function),
             bytes: most[at].0,
-            path: calls.path(&most, *at).map(step).collect(),
+            path: calls.path(&most, at).map(step).collect(),
         }
     };
     Arrays {
@@ -189,53 +197,58 @@ fn says_program(function: &Function) -> bool {
 /// Functions with what they hold and call.
 struct Calls<'a> {
     library: &'a Library,
-    held: BTreeMap<usize, Holding>,
+    held: BTreeMap<Instance, Holding>,
 }
 
 /// For each function the most that is held from it on, and the callee that this goes on with.
-type Most = BTreeMap<usize, (u64, Option<usize>)>;
+type Most = BTreeMap<Instance, (u64, Option<Instance>)>;
 
 impl Calls<'_> {
     /// Takes up a function and all under it.
-    fn follow(&mut self, at: usize, problems: &mut Vec<String>) {
-        if self.held.contains_key(&at) {
+    fn follow(&mut self, at: &Instance, problems: &mut Vec<String>) {
+        if self.held.contains_key(at) {
             return;
         }
         let holding = held::holding(self.library, at).unwrap_or_else(|failure| {
-            let module = self.library.functions[at].place.module;
-            problems.push(self.library.located(module, failure));
+            let module = self.library.functions[at.function].place.module;
+            let problem = self.library.located(module, failure);
+            // Each instance of a generic function has the same one.
+            if !problems.contains(&problem) {
+                problems.push(problem);
+            }
             Holding::default()
         });
         let under = holding.calls.clone();
-        self.held.insert(at, holding);
-        for at in under {
+        self.held.insert(at.clone(), holding);
+        for at in &under {
             self.follow(at, problems);
         }
     }
 
     /// A problem of a function, at its place.
-    fn problem(&self, at: usize, problem: &str) -> String {
-        let Standing { item, place } = &self.library.functions[at];
-        let problem = format!("{} {problem}", self.library.function_name(at));
+    fn problem(&self, at: &Instance, problem: &str) -> String {
+        let Standing { item, place } = &self.library.functions[at.function];
+        let problem = format!("{} {problem}", self.library.function_name(at.function));
         let line = item.line;
         self.library
             .located(place.module, Failure { line, problem })
     }
 
     /// A function with all that it holds.
-    fn shown(&self, at: usize) -> String {
-        let held = self.held[&at].held.iter();
+    fn shown(&self, at: &Instance) -> String {
+        let held = self.held[at].held.iter();
         let held = held.map(|held| format!("{} {}", held.what, held.bytes));
         let held: Vec<String> = held.collect();
-        format!("{} has {}", self.library.function_name(at), held.join(", "))
+        let name = self.library.function_name(at.function);
+        format!("{name} has {}", held.join(", "))
     }
 
     /// All that a function calls, and what these call.
-    fn under(&self, at: usize) -> BTreeSet<usize> {
+    fn under(&self, at: &Instance) -> BTreeSet<Instance> {
         let (mut under, mut open) = (BTreeSet::new(), vec![at]);
         while let Some(next) = open.pop() {
-            let new = self.held[&next].calls.iter();
-            open.extend(new.filter(|callee| under.insert(**callee)));
+            let new = self.held[next].calls.iter();
+            open.extend(new.filter(|callee| under.insert((*callee).clone())));
         }
         under
     }
@@ -244,9 +257,9 @@ impl Calls<'_> {
     fn held_in_recursion(&self) -> Vec<String> {
         let mut found = Vec::new();
         for (at, holding) in &self.held {
-            if holding.bytes() > 0 && self.under(*at).contains(at) {
-                let problem = format!("holds arrays inside a recursion: {}", self.shown(*at));
-                found.push(self.problem(*at, &problem));
+            if holding.bytes() > 0 && self.under(at).contains(at) {
+                let problem = format!("holds arrays inside a recursion: {}", self.shown(at));
+                found.push(self.problem(at, &problem));
             }
         }
         found
@@ -255,7 +268,7 @@ impl Calls<'_> {
     /// The most that is held from each function on: its own arrays, and the most of a callee. No
     /// recursion adds to it, so that this comes to an end.
     fn most(&self) -> Most {
-        let own = |(at, holding): (&usize, &Holding)| (*at, (holding.bytes(), None));
+        let own = |(at, holding): (&Instance, &Holding)| (at.clone(), (holding.bytes(), None));
         let mut most: Most = self.held.iter().map(own).collect();
         let mut has_grown = true;
         while has_grown {
@@ -264,7 +277,7 @@ impl Calls<'_> {
                 for callee in &holding.calls {
                     let through = holding.bytes().saturating_add(most[callee].0);
                     if through > most[at].0 {
-                        most.insert(*at, (through, Some(*callee)));
+                        most.insert(at.clone(), (through, Some(callee.clone())));
                         has_grown = true;
                     }
                 }
@@ -274,8 +287,12 @@ impl Calls<'_> {
     }
 
     /// The functions that hold arrays on the path on which most is held.
-    fn path<'b>(&'b self, most: &'b Most, from: usize) -> impl Iterator<Item = usize> + 'b {
-        let path = iter::successors(Some(from), |at| most[at].1);
+    fn path<'b>(
+        &'b self,
+        most: &'b Most,
+        from: &'b Instance,
+    ) -> impl Iterator<Item = &'b Instance> {
+        let path = iter::successors(Some(from), |at| most[*at].1.as_ref());
         path.filter(|at| self.held[at].bytes() > 0)
     }
 }

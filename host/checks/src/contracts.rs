@@ -1,5 +1,6 @@
 //! The check of public contracts: every `pub` function of a crate's source, methods and exports
-//! included, has an `ensures` and no `requires`, and crates.txt lists every folder of crates/.
+//! included, has an `ensures` and no `requires`, but that a closure which it is lent can be called,
+//! and crates.txt lists every folder of crates/.
 
 use std::io;
 use std::path::Path;
@@ -84,11 +85,12 @@ fn clauses_from(text: &str, name_at: usize) -> Clauses {
         match (next, word) {
             ('{', _) if keyword.is_empty() => break,
             ('{', _) => {
-                at = past_group(text, at, '{', '}');
+                let end = past_group(text, at, '{', '}');
+                clauses.requires |= keyword == "requires" && !asks_to_call(&text[at..end]);
+                at = end;
                 keyword = "";
             }
             (_, "requires" | "ensures" | "ghost") => {
-                clauses.requires |= word == "requires";
                 clauses.ensures |= word == "ensures";
                 keyword = word;
                 at += word.len();
@@ -97,6 +99,14 @@ fn clauses_from(text: &str, name_at: usize) -> Clauses {
         }
     }
     clauses
+}
+
+/// Whether what a clause asks, behind its premises, is that a closure can be called: `F.pre f x`.
+fn asks_to_call(clause: &str) -> bool {
+    let clause = clause.trim_start_matches('{').trim_end_matches('}');
+    let asked = clause.rsplit('→').next().unwrap_or(clause).trim();
+    let kind = word_at(asked, 0);
+    kind.starts_with(char::is_uppercase) && asked[kind.len()..].starts_with(".pre ")
 }
 
 fn word_at(text: &str, at: usize) -> &str {
@@ -182,6 +192,15 @@ mod tests {
     fn a_requires_is_found() {
         let source = "pub fn f(x: u8) -> u8\n    requires { x < 9 }\n    ensures { result ≡ x }\n{\n    x\n}\n";
         assert_eq!(problems_of(source), [(1, "has a requires")]);
+        // That a closure can be called is no such clause, whatever else is one.
+        let head = "pub fn f<F: Fn(u8) -> u8>(n: u8, f: F)\n    requires called { (k : ℕ) → k < n → F.pre f k }\n";
+        let body = "    ensures { result ≡ 0 }\n{\n}\n";
+        assert_eq!(problems_of(&format!("{head}{body}")), []);
+        let more = "    requires { F.pre f 0 → n < 9 }\n";
+        assert_eq!(
+            problems_of(&format!("{head}{more}{body}")),
+            [(1, "has a requires")]
+        );
     }
 
     #[test]

@@ -37,7 +37,8 @@ pub fn past_group(text: &str, at: usize, open: char, close: char) -> usize {
 #[derive(Debug, PartialEq, Eq)]
 pub struct Item {
     pub line: usize,
-    /// A method or associated constant has its type before it, as in `Plan::zero`.
+    /// A method or associated constant has its type before it, as in `Plan::zero`; a function of a
+    /// trait the name that rt gives its `impl` block, as in `U32FromFault::from`.
     pub name: String,
     pub is_public: bool,
     pub is_function: bool,
@@ -47,16 +48,18 @@ pub struct Item {
 const INSIDE: &str = "    ";
 
 /// The items of a source in rt's layout: each begins a line, at its start or inside an `impl` block.
-/// `pub(crate)` is not public; `use` and `mod` declare nothing.
+/// `pub(crate)` is not public, what a trait asks for is; `use` and `mod` declare nothing, and a type
+/// in a trait's `impl` block is the trait's.
 pub fn items(source: &str) -> Vec<Item> {
     let text = without_comments(source);
     let mut found = Vec::new();
-    // The type whose `impl` block is open.
-    let mut of: Option<&str> = None;
+    // The type whose `impl` block is open, and whether that is a trait's.
+    let mut of: Option<String> = None;
+    let mut of_trait = false;
     for (line, text) in (1..).zip(text.lines()) {
-        if let Some(head) = text.strip_prefix("impl ") {
-            let head = head.rsplit(" for ").next().unwrap_or(head);
-            of = head.split(|c| !is_word(c)).next();
+        if text.starts_with("impl ") || text.starts_with("impl<") {
+            let (name, is_trait) = block_name(text);
+            (of, of_trait) = (Some(name), is_trait);
             continue;
         }
         if text.starts_with('}') {
@@ -67,15 +70,41 @@ pub fn items(source: &str) -> Vec<Item> {
             None => text,
         };
         if let Some((kind, name)) = kind_and_name(code) {
+            if of_trait && kind == "type" {
+                continue;
+            }
+            let inside = |of: &String| format!("{of}::{name}");
             found.push(Item {
                 line,
-                name: of.map_or(name.to_string(), |of| format!("{of}::{name}")),
-                is_public: code.starts_with("pub "),
+                name: of.as_ref().map_or(name.to_string(), inside),
+                is_public: of_trait || code.starts_with("pub "),
                 is_function: kind == "fn",
             });
         }
     }
     found
+}
+
+/// The name of an `impl` block by its first line, and whether it is a trait's: the type, or what rt
+/// calls the block, the type, the trait and what this is given, as in `KindTryFromU16`.
+fn block_name(head: &str) -> (String, bool) {
+    let head = head.trim_start_matches("impl").trim_end_matches('{');
+    let head = match head.starts_with('<') {
+        true => &head[past_group(head, 0, '<', '>')..],
+        false => head,
+    };
+    let words = |text: &str| -> Vec<String> {
+        let words = text.split(|c| !is_word(c)).filter(|word| !word.is_empty());
+        words.map(str::to_string).collect()
+    };
+    match head.split_once(" for ") {
+        None => (words(head).swap_remove(0), false),
+        Some((of_trait, of)) => {
+            let capital = |word: String| word[..1].to_uppercase() + &word[1..];
+            let all = words(of).into_iter().chain(words(of_trait));
+            (all.map(capital).collect(), true)
+        }
+    }
 }
 
 /// The keyword and the name of the item that begins a line.
@@ -123,6 +152,16 @@ impl Plan {
         fn helper() {}
     }
 }
+impl TryFrom<u8> for Plan {
+    type Error = Step;
+
+    ghost try_from_gives = { Named };
+
+    fn try_from(number: u8) -> Result<Plan, Step> {}
+}
+impl<'a> Parts<'a> {
+    fn first(self) -> u8 {}
+}
 #[unsafe(no_mangle)]
 pub extern \"C\" fn mkd_run() {}
 fn inner(
@@ -147,9 +186,11 @@ pub const fn folded() {}
                 "15 Line",
                 "17 pub Plan::NONE",
                 "18 pub Plan::zero()",
-                "25 pub mkd_run()",
-                "26 inner()",
-                "31 pub folded()",
+                "29 pub PlanTryFromU8::try_from()",
+                "32 Parts::first()",
+                "35 pub mkd_run()",
+                "36 inner()",
+                "41 pub folded()",
             ]
         );
     }

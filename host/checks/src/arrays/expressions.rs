@@ -2,7 +2,7 @@
 
 use super::parser::{Parsed, Parser};
 use super::statements::ends_in_block;
-use super::syntax::{Expression, ExpressionForm as Of, Path, Pattern};
+use super::syntax::{Argument, Expression, ExpressionForm as Of, Path, Pattern};
 use super::tokens::{fail, Token};
 
 /// Binary operators, the loosest first; those of one row bind alike.
@@ -129,12 +129,17 @@ impl Parser {
                 let index = Box::new(self.expression()?);
                 self.expect("]")?;
                 Of::Index(Box::new(value), index)
+            } else if self.symbol("?") {
+                Of::Try(Box::new(value))
             } else if self.symbol(".") {
                 let name = match self.next() {
                     Some(Token::Word(name)) => name,
                     Some(Token::Number(place, None)) => place.to_string(),
                     _ => return fail(line, "not read: a field or a method is expected"),
                 };
+                if self.symbol("::") {
+                    self.arguments_of_type()?;
+                }
                 if self.is_symbol("(") {
                     let arguments = self.listed("(", ")", Parser::expression)?;
                     Of::Method(Box::new(value), name, arguments)
@@ -155,9 +160,25 @@ impl Parser {
             return Ok(Expression { line, form });
         }
         if self.symbol("(") {
-            let value = self.expression()?;
-            self.expect(")")?;
-            return Ok(value);
+            let mut values = Vec::new();
+            let mut is_tuple = false;
+            while !self.symbol(")") {
+                values.push(self.expression()?);
+                if self.symbol(",") {
+                    is_tuple = true;
+                } else if !self.is_symbol(")") {
+                    return self.unread(", is expected");
+                }
+            }
+            let form = match values.pop() {
+                Some(value) if !is_tuple => return Ok(value),
+                last => Of::Tuple(values.into_iter().chain(last).collect()),
+            };
+            return Ok(Expression { line, form });
+        }
+        if self.word("move") || self.is_symbol("|") || self.is_symbol("||") {
+            let form = self.closure()?;
+            return Ok(Expression { line, form });
         }
         if self.symbol("[") {
             let form = self.list()?;
@@ -221,26 +242,31 @@ impl Parser {
             }
             "loop" => Of::Loop(self.block()?),
             "for" => {
-                let name = self.name()?;
+                let pattern = self.pattern()?;
                 if !self.word("in") {
                     return self.unread("in is expected");
                 }
                 let over = Box::new(self.condition()?);
-                Of::For(name, over, self.block()?)
+                Of::For(pattern, over, self.block()?)
             }
             "return" => Of::Return(self.given()?),
             "break" => Of::Break(self.given()?),
             "continue" => Of::Continue,
-            "unsafe" | "move" | "async" | "static" | "let" => {
+            "unsafe" | "async" | "static" | "let" => {
                 return fail(line, format!("not read: {word} in an expression"))
             }
             _ => {
-                let path = self.path_from(word, line)?;
+                let (path, given) = self.generic_path_from(word, line)?;
                 if self.is_symbol("(") {
-                    Of::Call(path, self.listed("(", ")", Parser::expression)?)
+                    Of::Call(path, given, self.listed("(", ")", Parser::expression)?)
                 } else if structs && self.is_symbol("{") {
                     let field = |parser: &mut Parser| {
                         let line = parser.line();
+                        // `..rest` is a place or a constant.
+                        if parser.symbol("..") {
+                            parser.expression()?;
+                            return Ok(None);
+                        }
                         let name = parser.name()?;
                         let value = if parser.symbol(":") {
                             parser.expression()?
@@ -249,9 +275,10 @@ impl Parser {
                             let form = Of::Path(Path { words, line });
                             Expression { line, form }
                         };
-                        Ok((name, value))
+                        Ok(Some((name, value)))
                     };
-                    Of::Struct(path, self.listed("{", "}", field)?)
+                    let fields = self.listed("{", "}", field)?;
+                    Of::Struct(path, fields.into_iter().flatten().collect())
                 } else if self.is_symbol("!") {
                     return fail(line, "not read: a macro");
                 } else {
@@ -259,6 +286,40 @@ impl Parser {
                 }
             }
         })
+    }
+
+    /// A closure, behind the word move.
+    fn closure(&mut self) -> Parsed<Of> {
+        let mut parameters = Vec::new();
+        if !self.symbol("||") {
+            parameters = self.listed("|", "|", |parser| {
+                let pattern = parser.single_pattern()?;
+                let of = if parser.symbol(":") {
+                    Some(parser.kind()?)
+                } else {
+                    None
+                };
+                Ok((pattern, of))
+            })?;
+        }
+        if self.symbol("->") {
+            self.kind()?;
+        }
+        Ok(Of::Closure(parameters, Box::new(self.expression()?)))
+    }
+
+    /// The rest of a path whose first word was read, and what stands between `<` and `>` in it.
+    fn generic_path_from(&mut self, first: String, line: usize) -> Parsed<(Path, Vec<Argument>)> {
+        let mut words = vec![first];
+        let mut given = Vec::new();
+        while self.symbol("::") {
+            if self.is_symbol("<") {
+                given.extend(self.arguments_of_type()?);
+            } else {
+                words.push(self.name()?);
+            }
+        }
+        Ok((Path { words, line }, given))
     }
 
     /// The value behind `return` or `break`, if there is one.
@@ -270,18 +331,23 @@ impl Parser {
         Ok(Some(Box::new(self.expression()?)))
     }
 
-    fn arms(&mut self) -> Parsed<Vec<(Pattern, Expression)>> {
+    fn arms(&mut self) -> Parsed<Vec<(Pattern, Option<Expression>, Expression)>> {
         self.expect("{")?;
         let mut arms = Vec::new();
         while !self.symbol("}") {
             let pattern = self.pattern()?;
+            let guard = if self.word("if") {
+                Some(self.condition()?)
+            } else {
+                None
+            };
             self.expect("=>")?;
             let value = self.statement()?;
             let ends = self.symbol(",") || self.is_symbol("}") || ends_in_block(&value);
             if !ends {
                 return self.unread(", is expected");
             }
-            arms.push((pattern, value));
+            arms.push((pattern, guard, value));
         }
         Ok(arms)
     }

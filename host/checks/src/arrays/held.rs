@@ -8,11 +8,12 @@
 
 use std::collections::HashMap;
 
-use super::library::{Entity, Library, Place, Standing};
+use super::library::{Entity, Instance, Library, Place, Standing};
 use super::syntax::{Binding, Block, Form, Path, Pattern, Statement, Written};
 use super::tokens::{fail, Failure};
 use super::types::Type;
 
+mod kit;
 mod values;
 
 /// Arrays that a function holds: in what, and how many bytes.
@@ -26,7 +27,9 @@ pub struct Held {
 #[derive(Default)]
 pub struct Holding {
     pub held: Vec<Held>,
-    pub calls: Vec<usize>,
+    pub calls: Vec<Instance>,
+    /// Those of them that stand in a closure which is lent to one of the others.
+    pub lent: Vec<Instance>,
 }
 
 impl Holding {
@@ -37,12 +40,16 @@ impl Holding {
 }
 
 /// What a function holds and calls.
-pub fn holding(library: &Library, function: usize) -> Result<Holding, Failure> {
-    let Standing { item, place } = &library.functions[function];
-    let result = library.kind(*place, &item.result, item.line)?;
+pub fn holding(library: &Library, at: &Instance) -> Result<Holding, Failure> {
+    let Standing { item, place } = &library.functions[at.function];
+    let place = Place {
+        meanings: &at.meanings,
+        ..*place
+    };
+    let result = library.kind(place, &item.result, item.line)?;
     let mut walk = Walk {
         library,
-        place: *place,
+        place,
         scopes: vec![HashMap::new()],
         loops: Vec::new(),
         result: result.clone(),
@@ -67,7 +74,7 @@ enum Counted {
 /// A walk through the body of a function.
 struct Walk<'a> {
     library: &'a Library,
-    place: Place,
+    place: Place<'a>,
     /// The locals of the blocks around.
     scopes: Vec<HashMap<String, Type>>,
     /// What the loops around give.
@@ -174,7 +181,7 @@ impl Walk<'_> {
             line: 0,
         };
         let named = self.library.entity(self.place, &path);
-        matches!(named, Ok(Entity::Constant(_) | Entity::Variant(..)))
+        name == "None" || matches!(named, Ok(Entity::Constant(_) | Entity::Variant(..)))
     }
 
     /// Binds the names of a pattern, which a value of this type is held to.
@@ -191,14 +198,50 @@ impl Walk<'_> {
                     self.take_apart(pattern, of.clone(), line)?;
                 }
             }
+            Pattern::Behind(pattern) => {
+                let Type::Reference(of) = of else {
+                    return fail(line, "& before something else than a reference");
+                };
+                self.take_apart(pattern, *of, line)?;
+            }
+            Pattern::List(patterns) => {
+                let (of, is_lent) = lent(of);
+                let (Type::Array(element, _) | Type::Slice(element)) = of else {
+                    return fail(line, "elements are expected");
+                };
+                for pattern in patterns {
+                    let element = relent(element.as_ref().clone(), is_lent);
+                    self.take_apart(pattern, element, line)?;
+                }
+            }
+            Pattern::Tuple(patterns) => {
+                let (of, is_lent) = lent(of);
+                let kinds = match of {
+                    Type::Unit => Vec::new(),
+                    Type::Tuple(kinds) => kinds,
+                    _ => return fail(line, "a tuple is expected"),
+                };
+                if kinds.len() != patterns.len() {
+                    return fail(line, "a tuple of another length");
+                }
+                for (pattern, of) in patterns.iter().zip(kinds) {
+                    self.take_apart(pattern, relent(of, is_lent), line)?;
+                }
+            }
             Pattern::Variant(path, inner) => {
-                let fields = match self.library.entity(self.place, path)? {
-                    Entity::Constant(_) if inner.is_empty() => return Ok(()),
-                    entity => self.made_of(entity, path.line)?.1,
+                let (of, is_lent) = lent(of);
+                let fields = match (
+                    self.library.entity(self.place, path),
+                    variant_of_kit(path, &of),
+                ) {
+                    (Ok(Entity::Constant(_)), _) if inner.is_empty() => return Ok(()),
+                    (Ok(entity), _) => self.made_of(entity, path.line)?.1,
+                    (Err(_), Some(fields)) => fields,
+                    (Err(failure), None) => return Err(failure),
                 };
                 for (name, pattern) in inner {
                     let field = field(&fields, name, path.line)?;
-                    self.take_apart(pattern, field, path.line)?;
+                    self.take_apart(pattern, relent(field, is_lent), path.line)?;
                 }
             }
         }
@@ -222,6 +265,36 @@ impl Walk<'_> {
             _ => return fail(line, "a struct or a variant is expected"),
         };
         Ok((of, self.library.fields(at, fields, line)?))
+    }
+}
+
+/// What a variant of the kit's enums has in it.
+fn variant_of_kit(path: &Path, of: &Type) -> Option<Vec<(String, Type)>> {
+    let [name] = path.words.as_slice() else {
+        return None;
+    };
+    let inner = match (name.as_str(), of) {
+        ("Some", Type::Option(of)) | ("Ok", Type::Result(of, _)) => of,
+        ("Err", Type::Result(_, of)) => of,
+        ("None", Type::Option(_)) => return Some(Vec::new()),
+        _ => return None,
+    };
+    Some(vec![("0".into(), inner.as_ref().clone())])
+}
+
+/// What stands behind a reference, and whether one was there.
+fn lent(of: Type) -> (Type, bool) {
+    match of {
+        Type::Reference(of) => (*of, true),
+        of => (of, false),
+    }
+}
+
+/// A part of what is lent is lent.
+fn relent(of: Type, is_lent: bool) -> Type {
+    match is_lent {
+        true => Type::Reference(Box::new(of)),
+        false => of,
     }
 }
 

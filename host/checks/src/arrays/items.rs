@@ -1,7 +1,7 @@
 //! The items of a source: modules, uses, constants, types, functions.
 
 use super::parser::{Parsed, Parser};
-use super::syntax::{Constant, Declared, Form, Function, Item, Path, Written};
+use super::syntax::{Argument, Constant, Declared, Form, Function, Item, Parameter, Path, Written};
 use super::tokens::Token;
 
 /// The items of a source.
@@ -32,7 +32,7 @@ impl Parser {
                 return Ok(());
             }
         }
-        if self.token(&Token::GhostUse) {
+        if self.token(&Token::Ghost) {
             return Ok(());
         }
         let mut is_public = self.word("pub");
@@ -50,13 +50,23 @@ impl Parser {
             return self.expect(";");
         }
         if self.word("impl") {
-            let of = self.path()?;
+            self.generics()?;
+            let mut of = self.kind()?;
+            let mut of_trait = None;
+            if self.word("for") {
+                of_trait = match of {
+                    Written::Named(path) | Written::Generic(path, _) => path.words.last().cloned(),
+                    _ => return self.unread("a trait is expected"),
+                };
+                of = self.kind()?;
+            }
             self.expect("{")?;
             let mut inside = Vec::new();
             while !self.symbol("}") {
                 self.item(&mut inside)?;
+                self.symbol(";");
             }
-            found.push(Item::Methods(of, inside));
+            found.push(Item::Methods(of_trait, of, inside));
             return Ok(());
         }
         if let Some(item) = self.declared()? {
@@ -125,6 +135,7 @@ impl Parser {
         }
         if self.word("struct") {
             let name = self.name()?;
+            self.generics()?;
             let form = Form::Struct(self.fields()?);
             self.symbol(";");
             return Ok(Some(Declared { name, line, form }));
@@ -154,12 +165,16 @@ impl Parser {
             Ok(())
         }
         if self.is_symbol("{") {
-            return self.listed("{", "}", |parser| {
+            let fields = self.listed("{", "}", |parser| {
                 visible(parser)?;
+                if parser.token(&Token::Ghost) {
+                    return Ok(None);
+                }
                 let name = parser.name()?;
                 parser.expect(":")?;
-                Ok((name, parser.kind()?))
-            });
+                Ok(Some((name, parser.kind()?)))
+            })?;
+            return Ok(fields.into_iter().flatten().collect());
         }
         if self.is_symbol("(") {
             let kinds = self.listed("(", ")", |parser| {
@@ -179,9 +194,12 @@ impl Parser {
         if self.symbol("&") {
             return self.referent();
         }
-        if self.symbol("(") {
-            self.expect(")")?;
-            return Ok(Written::Unit);
+        if self.is_symbol("(") {
+            let kinds = self.listed("(", ")", Parser::kind)?;
+            return Ok(match kinds.len() {
+                0 => Written::Unit,
+                _ => Written::Tuple(kinds),
+            });
         }
         if self.symbol("[") {
             let element = Box::new(self.kind()?);
@@ -193,7 +211,69 @@ impl Parser {
             self.expect("]")?;
             return Ok(of);
         }
-        Ok(Written::Named(self.path()?))
+        self.word("impl");
+        let path = self.path()?;
+        if matches!(
+            path.words.last().map(String::as_str),
+            Some("Fn" | "FnMut" | "FnOnce")
+        ) {
+            let parameters = self.listed("(", ")", Parser::kind)?;
+            let result = if self.symbol("->") {
+                self.kind()?
+            } else {
+                Written::Unit
+            };
+            return Ok(Written::Callable(parameters, Box::new(result)));
+        }
+        if self.is_symbol("<") {
+            let arguments = self.arguments_of_type()?;
+            if !arguments.is_empty() {
+                return Ok(Written::Generic(path, arguments));
+            }
+        }
+        Ok(Written::Named(path))
+    }
+
+    /// What stands between `<` and `>` behind a path; lifetimes are left out.
+    pub fn arguments_of_type(&mut self) -> Parsed<Vec<Argument>> {
+        let found = self.listed("<", ">", |parser| {
+            if parser.token(&Token::Lifetime) {
+                return Ok(None);
+            }
+            if parser.is_symbol("{") || matches!(parser.peek(), Some(Token::Number(..))) {
+                return Ok(Some(Argument::Constant(parser.primary(true)?)));
+            }
+            parser.kind().map(Argument::Type).map(Some)
+        })?;
+        Ok(found.into_iter().flatten().collect())
+    }
+
+    /// The parameters between `<` and `>` behind a name, if there are any; lifetimes are left out.
+    fn generics(&mut self) -> Parsed<Vec<Parameter>> {
+        if !self.is_symbol("<") {
+            return Ok(Vec::new());
+        }
+        let found = self.listed("<", ">", |parser| {
+            if parser.token(&Token::Lifetime) {
+                return Ok(None);
+            }
+            if parser.word("const") {
+                let name = parser.name()?;
+                parser.expect(":")?;
+                parser.kind()?;
+                return Ok(Some(Parameter::Constant(name)));
+            }
+            let name = parser.name()?;
+            if !parser.symbol(":") {
+                return parser.unread("a bound is expected");
+            }
+            let bound = parser.kind()?;
+            while parser.symbol("+") {
+                parser.kind()?;
+            }
+            Ok(Some(Parameter::Type(name, bound)))
+        })?;
+        Ok(found.into_iter().flatten().collect())
     }
 
     /// What a reference refers to, behind its `&`.
@@ -206,13 +286,7 @@ impl Parser {
     fn function(&mut self, is_public: bool, is_export: bool) -> Parsed<Function> {
         let line = self.line();
         let name = self.name()?;
-        if self.is_symbol("<") {
-            // Lifetimes.
-            self.listed("<", ">", |parser| match parser.next() {
-                Some(Token::Lifetime) => Ok(()),
-                _ => parser.unread("a lifetime is expected"),
-            })?;
-        }
+        let generics = self.generics()?;
         let parameters = self.listed("(", ")", Parser::parameter)?;
         let result = if self.symbol("->") {
             self.kind()?
@@ -230,6 +304,7 @@ impl Parser {
             line,
             is_public,
             is_export,
+            generics,
             parameters,
             result,
             contract,
@@ -244,6 +319,7 @@ impl Parser {
             Written::Named(Path { words, line })
         };
         if parser.symbol("&") {
+            parser.token(&Token::Lifetime);
             parser.word("mut");
             if parser.word("self") {
                 return Ok(("self".into(), Written::Reference(Box::new(own(line)))));

@@ -3,9 +3,9 @@
 use std::collections::HashMap;
 
 use super::items::items;
-use super::syntax::{Constant, Declared, Form, Function, Item, Path};
+use super::syntax::{Constant, Declared, Form, Function, Item, Parameter, Path, Written};
 use super::tokens::{fail, Failure};
-use super::types::width;
+use super::types::{width, Type};
 use crate::files::File;
 use crate::listing::Listed;
 
@@ -20,17 +20,36 @@ pub enum Entity {
     Constant(usize),
 }
 
-/// Where something stands: its module, and the type whose `impl` block it stands in.
+/// What a parameter between `<` and `>` stands for.
+#[derive(Clone, Debug, PartialEq, Eq, PartialOrd, Ord)]
+pub enum Meaning {
+    Worth(u64),
+    Type(Type),
+}
+
+/// Parameters with what they stand for.
+pub type Meanings = [(String, Meaning)];
+
+/// Where something stands: its module, the type whose `impl` block it stands in, and what the
+/// parameters of its function stand for.
 #[derive(Clone, Copy, Debug)]
-pub struct Place {
+pub struct Place<'a> {
     pub module: usize,
     pub own: Option<usize>,
+    pub meanings: &'a Meanings,
+}
+
+/// A function with what its parameters between `<` and `>` stand for.
+#[derive(Clone, Debug, PartialEq, Eq, PartialOrd, Ord)]
+pub struct Instance {
+    pub function: usize,
+    pub meanings: Vec<(String, Meaning)>,
 }
 
 /// Something declared, and where.
 pub struct Standing<T> {
     pub item: T,
-    pub place: Place,
+    pub place: Place<'static>,
 }
 
 struct Module {
@@ -53,6 +72,8 @@ pub struct Library {
     pub constants: Vec<Standing<Constant>>,
     /// What stands in the `impl` blocks of a type.
     members: HashMap<(usize, String), Entity>,
+    /// The functions of traits, each with the type that it is for.
+    implemented: Vec<(Written, usize)>,
 }
 
 /// How far one name may stand for another: longer chains go round.
@@ -95,12 +116,16 @@ impl Library {
             over: over.to_vec(),
         });
         let within = |failure: Failure| located(&file.path, failure);
-        let place = Place { module, own: None };
+        let place = Place {
+            module,
+            own: None,
+            meanings: &[],
+        };
         let mut methods = Vec::new();
         for item in items(&file.text).map_err(within)? {
             let (name, line, entity) = match item {
-                Item::Methods(of, inside) => {
-                    methods.push((of, inside));
+                Item::Methods(of_trait, of, inside) => {
+                    methods.push((of_trait, of, inside));
                     continue;
                 }
                 Item::Use(path, name) => {
@@ -132,14 +157,19 @@ impl Library {
                 return Err(within(twice(&name, line)));
             }
         }
-        for (of, inside) in methods {
-            self.methods(place, &of, inside).map_err(within)?;
+        for (of_trait, of, inside) in methods {
+            let of_trait = of_trait.is_some();
+            self.methods(place, of_trait, &of, inside).map_err(within)?;
         }
         Ok(module)
     }
 
     /// Takes up a type, a constant or a function: its name, its line, and what it is.
-    fn declare(&mut self, item: Item, place: Place) -> Result<(String, usize, Entity), Failure> {
+    fn declare(
+        &mut self,
+        item: Item,
+        place: Place<'static>,
+    ) -> Result<(String, usize, Entity), Failure> {
         Ok(match item {
             Item::Declared(item) => {
                 let (name, line) = (item.name.clone(), item.line);
@@ -157,35 +187,85 @@ impl Library {
                 self.functions.push(Standing { item, place });
                 (name, line, Entity::Function(self.functions.len() - 1))
             }
-            Item::Use(path, _) | Item::Methods(path, _) => {
-                return fail(path.line, "not read: this item in an impl block")
-            }
+            Item::Use(Path { line, .. }, _) => return fail(line, "not read: use in an impl block"),
+            Item::Methods(..) => return fail(1, "not read: an impl block in another"),
             Item::Module(_, line) => return fail(line, "not read: a module in an impl block"),
         })
     }
 
-    /// What stands in an `impl` block.
-    fn methods(&mut self, place: Place, of: &Path, inside: Vec<Item>) -> Result<(), Failure> {
-        let Entity::Declared(own) = self.entity(place, of)? else {
-            return fail(of.line, "an impl block of something that is no type");
+    /// What stands in an `impl` block. A trait's is for a type that may be a number's.
+    fn methods(
+        &mut self,
+        place: Place<'static>,
+        of_trait: bool,
+        of: &Written,
+        inside: Vec<Item>,
+    ) -> Result<(), Failure> {
+        let own = match of {
+            Written::Named(path) | Written::Generic(path, _) => match self.entity(place, path) {
+                Ok(Entity::Declared(own)) => Some(own),
+                _ if of_trait => None,
+                _ => return fail(path.line, "an impl block of something that is no type"),
+            },
+            _ => return fail(1, "an impl block of something that is no name"),
         };
-        let own_place = Place {
-            own: Some(own),
-            ..place
-        };
+        let own_place = Place { own, ..place };
         for item in inside {
+            // `type Error = ..;` of a trait
+            if matches!(&item, Item::Declared(Declared { form: Form::Alias(_), .. }) if of_trait) {
+                continue;
+            }
             let (name, line, entity) = self.declare(item, own_place)?;
-            if self.members.insert((own, name.clone()), entity).is_some() {
-                return Err(twice(&name, line));
+            if let (true, Entity::Function(function)) = (of_trait, entity) {
+                self.implemented.push((of.clone(), function));
+            } else if let Some(own) = own {
+                if self.members.insert((own, name.clone()), entity).is_some() {
+                    return Err(twice(&name, line));
+                }
             }
         }
         Ok(())
     }
 
-    /// The functions of which something holds.
-    pub fn functions_that(&self, is_so: impl Fn(&Function) -> bool) -> Vec<usize> {
-        let all = 0..self.functions.len();
-        all.filter(|at| is_so(&self.functions[*at].item)).collect()
+    /// The function of a trait with this name that is for a type and takes such a first argument.
+    pub fn implemented(&self, of: &Type, name: &str, first: &Type) -> Option<usize> {
+        let fits = |(target, function): &&(Written, usize)| {
+            let Standing { item, place } = &self.functions[*function];
+            let kind = |written| self.kind(*place, written, item.line).ok();
+            item.name == name
+                && kind(target).as_ref() == Some(of)
+                && item
+                    .parameters
+                    .first()
+                    .and_then(|(_, of)| kind(of))
+                    .as_ref()
+                    == Some(first)
+        };
+        self.implemented
+            .iter()
+            .find(fits)
+            .map(|(_, function)| *function)
+    }
+
+    /// The functions of which something holds, but for those with a constant parameter: what they
+    /// hold is counted where they are called.
+    pub fn instances_that(&self, is_so: impl Fn(&Function) -> bool) -> Vec<Instance> {
+        let all = (0..self.functions.len()).filter(|at| is_so(&self.functions[*at].item));
+        all.filter_map(|function| self.instance(function)).collect()
+    }
+
+    /// A function whose parameters between `<` and `>` are types that are called alone.
+    fn instance(&self, function: usize) -> Option<Instance> {
+        let Standing { item, place } = &self.functions[function];
+        let meaning = |parameter: &Parameter| match parameter {
+            Parameter::Constant(_) => None,
+            Parameter::Type(name, bound) => {
+                let of = self.kind(*place, bound, item.line).ok()?;
+                Some((name.clone(), Meaning::Type(of)))
+            }
+        };
+        let meanings = item.generics.iter().map(meaning).collect::<Option<_>>()?;
+        Some(Instance { function, meanings })
     }
 
     /// A function's name; a method has its type before it.
@@ -258,7 +338,11 @@ impl Library {
         let Some(path) = uses.get(name) else {
             return Ok(None);
         };
-        let place = Place { module, own: None };
+        let place = Place {
+            module,
+            own: None,
+            meanings: &[],
+        };
         self.follow(place, path, chain - 1).map(Some)
     }
 

@@ -101,13 +101,20 @@ impl Parser {
     ) -> Parsed<Vec<T>> {
         self.expect(open)?;
         let mut found = Vec::new();
-        while !self.symbol(close) {
+        loop {
+            // `>>` may end two lists.
+            if close == ">" && self.is_symbol(">>") {
+                self.tokens[self.at].0 = Token::Symbol(">");
+                return Ok(found);
+            }
+            if self.symbol(close) {
+                return Ok(found);
+            }
             found.push(element(self)?);
-            if !self.symbol(",") && !self.is_symbol(close) {
+            if !self.symbol(",") && ![close, ">>"].iter().any(|end| self.is_symbol(end)) {
                 return self.unread(", is expected");
             }
         }
-        Ok(found)
     }
 
     /// The rest of a path whose first word was read.

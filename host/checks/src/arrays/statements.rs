@@ -83,7 +83,7 @@ impl Parser {
         Ok(Pattern::Either(either))
     }
 
-    fn single_pattern(&mut self) -> Parsed<Pattern> {
+    pub fn single_pattern(&mut self) -> Parsed<Pattern> {
         let line = self.line();
         let is_number =
             |token: Option<&Token>| matches!(token, Some(Token::Number(..) | Token::Byte));
@@ -103,6 +103,20 @@ impl Parser {
         if self.word("_") || self.word("true") || self.word("false") {
             return Ok(Pattern::Nothing);
         }
+        if self.symbol("&") {
+            return Ok(Pattern::Behind(Box::new(self.single_pattern()?)));
+        }
+        if self.is_symbol("(") {
+            let patterns = self.listed("(", ")", Parser::pattern)?;
+            return Ok(Pattern::Tuple(patterns));
+        }
+        if self.is_symbol("[") {
+            let patterns = self.listed("[", "]", |parser| match parser.symbol("..") {
+                true => Ok(Pattern::Nothing),
+                false => parser.pattern(),
+            })?;
+            return Ok(Pattern::List(patterns));
+        }
         let is_mut = self.word("mut");
         let first = self.name()?;
         if first == "ref" {
@@ -117,14 +131,19 @@ impl Parser {
         }
         if self.is_symbol("{") {
             let fields = self.listed("{", "}", |parser| {
+                // `..` binds nothing.
+                if parser.symbol("..") {
+                    return Ok(None);
+                }
                 let name = parser.name()?;
                 let pattern = if parser.symbol(":") {
                     parser.pattern()?
                 } else {
                     Pattern::Name(name.clone())
                 };
-                Ok((name, pattern))
+                Ok(Some((name, pattern)))
             })?;
+            let fields = fields.into_iter().flatten().collect();
             return Ok(Pattern::Variant(path, fields));
         }
         match path.words.as_slice() {

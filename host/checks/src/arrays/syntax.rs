@@ -7,6 +7,23 @@ pub struct Path {
     pub line: usize,
 }
 
+/// What stands between `<` and `>` behind a path.
+#[derive(Clone, Debug)]
+pub enum Argument {
+    Type(Written),
+    /// A constant in braces, or a number.
+    Constant(Expression),
+}
+
+/// A parameter between `<` and `>` behind a function's name; lifetimes are left out.
+#[derive(Clone, Debug)]
+pub enum Parameter {
+    /// `const NAME: usize`
+    Constant(String),
+    /// `NAME: bound`
+    Type(String, Written),
+}
+
 #[derive(Clone, Debug)]
 pub enum Item {
     /// `use path;` or `use path as name;`, public or not.
@@ -16,8 +33,8 @@ pub enum Item {
     Constant(Constant),
     Declared(Declared),
     Function(Function),
-    /// `impl name { .. }`
-    Methods(Path, Vec<Item>),
+    /// `impl name { .. }`, or `impl trait<type> for name { .. }`, with the trait's name
+    Methods(Option<String>, Written, Vec<Item>),
 }
 
 #[derive(Clone, Debug)]
@@ -53,6 +70,7 @@ pub struct Function {
     pub is_public: bool,
     /// Whether it is marked `#[unsafe(no_mangle)]`.
     pub is_export: bool,
+    pub generics: Vec<Parameter>,
     pub parameters: Vec<(String, Written)>,
     pub result: Written,
     /// The text of its contracts.
@@ -67,6 +85,11 @@ pub enum Written {
     Array(Box<Written>, Box<Expression>),
     Slice(Box<Written>),
     Reference(Box<Written>),
+    Tuple(Vec<Written>),
+    /// `name<argument, ..>`
+    Generic(Path, Vec<Argument>),
+    /// `impl Fn(type, ..) -> type`, also as the bound of a parameter
+    Callable(Vec<Written>, Box<Written>),
     Unit,
 }
 
@@ -102,6 +125,12 @@ pub enum Pattern {
     /// A path alone, or with the patterns of its fields.
     Variant(Path, Vec<(String, Pattern)>),
     Either(Vec<Pattern>),
+    /// `(pattern, ..)`
+    Tuple(Vec<Pattern>),
+    /// `[pattern, ..]`
+    List(Vec<Pattern>),
+    /// `&pattern`
+    Behind(Box<Pattern>),
 }
 
 #[derive(Clone, Debug)]
@@ -124,7 +153,12 @@ pub enum ExpressionForm {
     Struct(Path, Vec<(String, Expression)>),
     List(Vec<Expression>),
     Repeat(Box<Expression>, Box<Expression>),
-    Call(Path, Vec<Expression>),
+    Call(Path, Vec<Argument>, Vec<Expression>),
+    Tuple(Vec<Expression>),
+    /// `value?`
+    Try(Box<Expression>),
+    /// `|pattern, ..| value`
+    Closure(Vec<(Pattern, Option<Written>)>, Box<Expression>),
     Method(Box<Expression>, String, Vec<Expression>),
     Field(Box<Expression>, String),
     Index(Box<Expression>, Box<Expression>),
@@ -140,10 +174,14 @@ pub enum ExpressionForm {
     /// `let pattern = value` in a condition
     Matches(Pattern, Box<Expression>),
     If(Box<Expression>, Block, Option<Box<Expression>>),
-    Match(Box<Expression>, Vec<(Pattern, Expression)>),
+    /// The arms: a pattern, a guard, a value.
+    Match(
+        Box<Expression>,
+        Vec<(Pattern, Option<Expression>, Expression)>,
+    ),
     While(Box<Expression>, Block),
     Loop(Block),
-    For(String, Box<Expression>, Block),
+    For(Pattern, Box<Expression>, Block),
     Block(Block),
     Return(Option<Box<Expression>>),
     Break(Option<Box<Expression>>),

@@ -8,7 +8,7 @@ const DOOR: &str = "crates/block_permutation_bits/src/lib.rt";
 const FIELDS: &str = "crates/block_bits/src/fields.rt";
 
 /// The line behind which locals are planted beside P's three arrays.
-const BESIDE: &str = "    let mut mark = [0u8; MAX_PLACES];\n";
+const BESIDE: &str = "    let mut mark = [0u8; N];\n";
 
 /// The repository's sources.
 fn sources() -> (Vec<Listed>, Vec<File>) {
@@ -102,13 +102,13 @@ fn programming_p_holds_its_three_arrays() {
     );
     for call in &found.programming {
         assert_eq!(call.bytes, 2_560);
-        assert_eq!(call.path, [("program_large".to_string(), 2_560)]);
+        assert_eq!(call.path, [("program_in".to_string(), 2_560)]);
     }
     let mut exports = found.exports.iter();
     let selection = exports.find(|one| one.call == "mkd_selection_program");
     assert_eq!(
         selection.map(Fullest::line).as_deref(),
-        Some("mkd_selection_program     5632  store_large 3072 + program_large 2560")
+        Some("mkd_selection_program     5632  store_in 3072 + program_in 2560")
     );
 }
 
@@ -118,20 +118,16 @@ fn a_fourth_array_is_counted() {
     is_above(
         &found,
         2_561,
-        "program_large has perm 1024, inverse 1024, mark 512, spare 1",
+        "program_in has perm 1024, scratch 1024, mark 512, spare 1",
     );
     // In the check for 9 there is room for it: that returns before.
     let check = "crates/block_program_checks/src/permutation.rt";
-    let old = "    let mut mark = [0u8; MAX_PLACES];\n";
+    let old = "    let mut came = [false; N];\n";
     let more = format!("{old}    let mut spare = [0u8; 2048];\n");
     let found = planted(&[(check, old, &more)]);
     assert_eq!((bytes(&found), found.problems.len()), (2_560, 0));
     let more = format!("{old}    let mut spare = [0u8; 2049];\n");
-    is_above(
-        &planted(&[(check, old, &more)]),
-        2_561,
-        "check_once_large has",
-    );
+    is_above(&planted(&[(check, old, &more)]), 2_561, "check_once_in has");
 }
 
 #[test]
@@ -146,37 +142,45 @@ fn a_sum_does_not_wrap() {
 fn marks_of_16_bits_are_counted() {
     let marks = (
         PROGRAMMING,
-        "let mut mark = [0u8; MAX_PLACES]",
-        "let mut mark = [0u16; MAX_PLACES]",
+        "let mut mark = [0u8; N]",
+        "let mut mark = [0u16; N]",
     );
     is_above(&planted(&[marks]), 3_072, "mark 1024");
 }
 
 #[test]
 fn an_array_inside_the_recursion_is_refused() {
-    let half = "    let end = at + perm.len() / 2;\n";
+    let half = "    let half = perm.len() / 2;\n";
     let more = format!("{half}    let own = [0u8; 1];\n");
     let found = planted(&[(BLOCK, half, &more)]);
-    let problem = "holds arrays inside a recursion: program_half has own 1";
+    let problem = "holds arrays inside a recursion: program_halves has own 1";
     let is_there = |one: &String| one.starts_with(BLOCK) && one.ends_with(problem);
     assert!(found.problems.iter().any(is_there), "{:?}", found.problems);
     // By value through a parameter, too.
     let found = planted(&[
         (
             BLOCK,
-            "fn program_few(perm",
-            "fn program_few(own: [u8; 1], perm",
+            "fn program_halves(\n    perm",
+            "fn program_halves(\n    own: [u8; 1],\n    perm",
         ),
         (
             BLOCK,
-            "program_few(perm, program",
-            "program_few([0u8], perm, program",
+            "program_halves(perm, scratch",
+            "program_halves([0u8], perm, scratch",
         ),
-        (BLOCK, "program_few(&perm", "program_few([0u8], &perm"),
+        (
+            BLOCK,
+            "program_halves(upper, room",
+            "program_halves([0u8], upper, room",
+        ),
+        (
+            BLOCK,
+            "program_halves(lower, room",
+            "program_halves([0u8], lower, room",
+        ),
     ]);
-    let line = line_of(BLOCK, "program_few(perm, program");
-    let problem = format!("program_block has a value in line {line} 1");
-    let is_there = |one: &String| one.ends_with(&problem);
+    let problem = "program_halves has own 1, a value in line";
+    let is_there = |one: &String| one.contains(problem);
     assert!(found.problems.iter().any(is_there), "{:?}", found.problems);
 }
 
@@ -249,7 +253,8 @@ fn a_function_of_the_same_name_is_told_apart() {
     let (crates, mut files) = sources();
     files.push(File {
         path: "crates/block_permutation_bits/src/other.rt".into(),
-        text: "pub fn level_of(n: u32) -> usize { let spare = [n; 4]; 0 }\n".into(),
+        text: "pub fn load_mapping(wanted: &[u16], perm: &mut [u16]) { let spare = [0u32; 4]; }\n"
+            .into(),
     });
     put(
         &mut files,
@@ -260,28 +265,28 @@ fn a_function_of_the_same_name_is_told_apart() {
     let found = arrays(&crates, &files);
     assert_eq!((bytes(&found), found.problems.len()), (2_560, 0));
     let call = (
-        "        level_of(n),\n",
-        "        crate::other::level_of(n),\n",
+        "    load_mapping(wanted, &mut perm);\n",
+        "    crate::other::load_mapping(wanted, &mut perm);\n",
     );
     put(&mut files, PROGRAMMING, call.0, call.1);
-    is_above(&arrays(&crates, &files), 2_576, "level_of has spare 16");
-    let above = "        super::other::level_of(n),\n";
+    is_above(&arrays(&crates, &files), 2_576, "load_mapping has spare 16");
+    let above = "    super::other::load_mapping(wanted, &mut perm);\n";
     put(&mut files, PROGRAMMING, call.1, above);
-    is_above(&arrays(&crates, &files), 2_576, "level_of has spare 16");
+    is_above(&arrays(&crates, &files), 2_576, "load_mapping has spare 16");
     // The same through a public name of another word.
     put(
         &mut files,
         DOOR,
         "pub use programming::{program_permutation, program_permutation_at};\n",
-        "pub use other::level_of as other_level;\npub use programming::{program_permutation, program_permutation_at};\n",
+        "pub use other::load_mapping as load_other;\npub use programming::{program_permutation, program_permutation_at};\n",
     );
     put(
         &mut files,
         PROGRAMMING,
         above,
-        "        crate::other_level(n),\n",
+        "    crate::load_other(wanted, &mut perm);\n",
     );
-    is_above(&arrays(&crates, &files), 2_576, "level_of has spare 16");
+    is_above(&arrays(&crates, &files), 2_576, "load_mapping has spare 16");
 }
 
 #[test]
@@ -289,7 +294,7 @@ fn comments_and_contracts_hold_nothing() {
     let comment = "    // let spare = [0u8; 512];";
     let found = beside(comment, "// const SPARE: [u8; 4] = [0; 4];\n");
     assert_eq!((bytes(&found), found.problems.len()), (2_560, 0));
-    let contract = "    requires wanted { Wanted (length wanted.now) wanted.now }\n";
+    let contract = "    requires wanted_in_bounds { length wanted.now ≤ length perm.old }\n";
     let more = format!("{contract}    requires named {{ held {{ list = [0u8; 512] }} }}\n");
     let found = planted(&[(PROGRAMMING, contract, &more)]);
     assert_eq!((bytes(&found), found.problems.len()), (2_560, 0));
@@ -322,8 +327,8 @@ fn comments_and_contracts_hold_nothing() {
 #[test]
 fn what_is_borrowed_is_not_held() {
     let found = beside(
-        "    lent(&mut perm, &inverse[..4], b\"text\");",
-        "fn lent(a: &mut [u16; MAX_PLACES], b: &[u16], c: &[u8; 4]) {}\n",
+        "    lent(&mut perm, &scratch[..4], b\"text\");",
+        "fn lent(a: &mut [u16], b: &[u16], c: &[u8; 4]) {}\n",
     );
     assert_eq!((bytes(&found), found.problems.len()), (2_560, 0));
     // What is made to be lent is held.
@@ -333,13 +338,29 @@ fn what_is_borrowed_is_not_held() {
 }
 
 #[test]
+fn an_array_under_a_closure_that_is_lent_is_refused() {
+    let lend = "fn lend<F: Fn(usize) -> u8>(f: F) -> u8 { f(0) }\n";
+    let callee = "fn callee(i: usize) -> u8 { let own = [0u8; 1]; 0 }\n";
+    let found = beside("    lend(|i| callee(i));", &format!("{lend}{callee}"));
+    let (_, below) = planted_lines();
+    let line = below + 1;
+    let problem = "callee holds arrays, and a closure that is lent calls it";
+    let problem = format!("{PROGRAMMING}:{line}: {problem}");
+    assert!(found.problems.contains(&problem), "{:?}", found.problems);
+    // The closure's own are the caller's.
+    let found = beside("    lend(|i| [0u8; 3][i]);", lend);
+    let (line, _) = planted_lines();
+    is_above(&found, 2_563, &format!("a value in line {line} 3"));
+}
+
+#[test]
 fn what_is_not_resolved_is_refused() {
     let (line, below) = planted_lines();
     for (local, problem) in [
-        ("unknown(n);", "what unknown names was not found"),
+        ("unknown(start);", "what unknown names was not found"),
         ("io::buffer();", "what io::buffer names was not found"),
         (
-            "std::num::spread(n);",
+            "std::num::spread(start);",
             "what std::num::spread names was not found",
         ),
         ("perm.sorted();", "the method sorted was not found"),
@@ -348,8 +369,8 @@ fn what_is_not_resolved_is_refused() {
             "what UNKNOWN names was not found",
         ),
         (
-            "let spare = [0u8; n as usize];",
-            "what n names was not found",
+            "let spare = [0u8; start];",
+            "what start names was not found",
         ),
         (
             "let spare = [0u8; MAX_PLACES - 513];",
@@ -364,18 +385,15 @@ fn what_is_not_resolved_is_refused() {
             "the width of an array's elements is not written",
         ),
         (
-            "let spare = [Answer::Done; 4];",
+            "let spare = [Fault::Stub; 4];",
             "how large an enum is inside an array is not known",
         ),
         ("let spare = wanted.first;", "the field first of no struct"),
         ("let spare = room![4];", "not read: a macro"),
-        (
-            "let spare = |n| n;",
-            "not read: an expression is expected, Symbol(\"|\") was found",
-        ),
+        ("let spare = |i| i;", "what a closure takes is not written"),
         ("/* let spare = 0; */", "not read: a comment of this form"),
         (
-            "let spare = n /* // */; let",
+            "let spare = start /* // */; let",
             "not read: a comment of this form",
         ),
         (
@@ -387,7 +405,7 @@ fn what_is_not_resolved_is_refused() {
             "not read: an expression is expected, Lifetime was found",
         ),
         (
-            "let spare = if n == 0 { 1u8; } else { [0u8; 9] };",
+            "let spare = if start == 0 { 1u8; } else { [0u8; 9] };",
             "two types of one value",
         ),
         ("let spare = return;", "the type of a local is not written"),
@@ -417,8 +435,8 @@ fn what_is_not_resolved_is_refused() {
     for (item, problem) in [
         ("mod inside { }", "not read: ; is expected, Symbol(\"{\") was found"),
         ("use powers::*;", "not read: a name is expected, Symbol(\"*\") was found"),
-        ("fn level_of(n: u32) {}", "level_of is declared twice here"),
-        ("fn any<T>(x: T) {}", "not read: a lifetime is expected, Symbol(\">\") was found"),
+        ("fn load_mapping() {}", "load_mapping is declared twice here"),
+        ("fn any<T>(x: T) {}", "not read: a bound is expected, Symbol(\">\") was found"),
         ("static LIST: [u8; 4] = [0; 4];", "not read: an item is expected, Word(\"static\") was found"),
         ("mod missing;", "the module missing has no file crates/block_permutation_bits/src/programming/missing.rt"),
     ] {
@@ -430,7 +448,7 @@ fn what_is_not_resolved_is_refused() {
 #[test]
 fn every_call_that_programs_p_is_found() {
     let call = "\
-pub fn program_more(n: u32, wanted: &[u16], program: &mut [u8]) -> Answer
+pub fn program_more(n: u32, wanted: &[u16], program: &mut [u8]) -> Result<(), Fault>
     ensures { more }
 {
     let spare = [0u8; 1];
@@ -446,7 +464,7 @@ pub fn program_more(n: u32, wanted: &[u16], program: &mut [u8]) -> Answer
     };
     assert!(
         problem.ends_with(
-            "program_more has spare 1; program_large has perm 1024, inverse 1024, mark 512"
+            "program_more has spare 1; program_in has perm 1024, scratch 1024, mark 512"
         ),
         "{problem}"
     );
@@ -475,7 +493,7 @@ fn the_page_has_every_line() {
     );
     let page = format!("# Arrays\n{}\nEnd\n", lines.join("\n"));
     assert!(found.are_shown(&page));
-    assert!(!found.are_shown(&page.replace("program_large 2560", "program_large 2561")));
+    assert!(!found.are_shown(&page.replace("program_in 2560", "program_in 2561")));
     assert!(!found.are_shown(&page.replace(&format!("{}\n", lines[4]), "")));
     assert!(!found.are_shown(&page.replace("End", "").replace('\n', "")));
 }
@@ -511,12 +529,12 @@ fn held_in(source: &str) -> String {
         Ok(library) => library,
         Err(problem) => return problem,
     };
-    let at = (0..library.functions.len()).find(|at| library.function_name(*at).ends_with("held"));
-    match held::holding(&library, at.expect("held is there")) {
+    let all = library.instances_that(|function| function.name == "held");
+    match held::holding(&library, all.first().expect("held is there")) {
         Err(failure) => library.located(0, failure),
-        Ok(Holding { held, calls }) => {
+        Ok(Holding { held, calls, .. }) => {
             let held = held.iter().map(|one| format!("{} {}", one.what, one.bytes));
-            let calls = calls.iter().map(|at| library.function_name(*at));
+            let calls = calls.iter().map(|at| library.function_name(at.function));
             held.chain(calls).collect::<Vec<String>>().join(", ")
         }
     }
@@ -582,6 +600,21 @@ fn values_of_every_form_are_counted() {
         ("fn held() { let a = if true { loop { return; } } else { [0u8; 9] }; }", "a 9"),
         ("fn held(x: u8) { let a = match x { 0 => { match x { _ => return } } -1..=9 => [0u8; 9], _ => [1; 9] }; }", "a 9"),
         ("fn held() { let a = loop { while true { break; } break [0u8; 6]; }; }", "a 6"),
+        ("fn held() { inner::<4>(); } fn inner<const N: usize>() { let a = [0u8; N]; }", "inner"),
+        ("fn held() { inner(); } fn inner<const N: usize>() { let a = [0u8; N]; }", "crates/one/src/lib.rt:11: what a parameter stands for is not written"),
+        ("fn held(x: &[u8]) { for (i, y) in x.iter().enumerate() { let a = [*y; 3]; } }", "a 3"),
+        ("fn held(x: &[u8]) { for &y in x { let a = [y; 3]; } }", "a 3"),
+        ("fn held(x: &[u8]) { x.iter().map(|y| [*y; 3]).count(); }", "a value in line 11 3, a value in line 11 3"),
+        ("fn held(x: u8) -> Option<[u8; 3]> { Some([x; 3]) }", "the result 3"),
+        ("fn held(x: u8) { let a = Some([x; 3]); }", "a 3"),
+        ("fn held(x: u8) -> Result<[u8; 3], u8> { let a = made(x)?; Ok(a) } fn made(x: u8) -> Result<[u8; 3], u8> { Err(x) }", "the result 3, a 3, made"),
+        ("fn held(x: u8) { let a = made(x).map(|b| b).unwrap(); } fn made(x: u8) -> Result<[u8; 3], u8> { Err(x) }", "a value in line 11 3, b 3, a value in line 11 3, a 3, made"),
+        ("fn held(x: u8) { if let Some(a) = maybe(x) {} } fn maybe(x: u8) -> Option<[u8; 3]> { None }", "a value in line 11 3, a 3, maybe"),
+        ("fn held() { let (a, b) = ([0u8; 2], 1u8); }", "a value in line 11 2, a value in line 11 2, a 2"),
+        ("fn held() -> u8 { u8::from(Two::zero()) } impl From<Two> for u8 { ghost from_gives = { any }; fn from(two: Two) -> u8 { 0 } }", "a value in line 11 2, Two::zero, from"),
+        ("fn held() -> u8 { lend(|i| [0u8; 3][i]) } fn lend<F: Fn(usize) -> u8>(f: F) -> u8 { f(0) }", "a value in line 11 3, lend"),
+        ("fn held(x: u8) { x.to_le_bytes(); x.min(3).count_ones(); }", "a value in line 11 1"),
+        ("fn held(x: &[u8]) { x.sort(); }", "crates/one/src/lib.rt:11: the method sort was not found"),
         ("fn held(x: One) {} type One = Other; type Other = One;", "crates/one/src/lib.rt:11: a type that stands for itself"),
         ("fn held() { let a = [0u8; ONE]; } const ONE: usize = 1 + ONE;", "crates/one/src/lib.rt:11: a constant that stands for itself"),
         ("fn held() {} type u64 = u8;", "crates/one/src/lib.rt:11: u64 is the name of a number's type"),

@@ -36,8 +36,8 @@ pub enum Token {
     Lifetime,
     /// `requires { .. }` or `ensures { .. }`, with its text.
     Contract(String),
-    /// `ghost use ..;`
-    GhostUse,
+    /// `ghost use ..;`, or a ghost member of a type or an impl block
+    Ghost,
     Symbol(&'static str),
 }
 
@@ -128,7 +128,7 @@ impl<'a> Reader<'a> {
             if CONTRACTS.contains(&word) {
                 self.contract()?
             } else if word == "ghost" {
-                self.ghost_use()?
+                self.ghost()?
             } else {
                 Token::Word(word.to_string())
             }
@@ -197,17 +197,24 @@ impl<'a> Reader<'a> {
         }
     }
 
-    /// What a contract's text may name, behind the word ghost.
-    fn ghost_use(&mut self) -> Result<Token, Failure> {
+    /// What a contract's text may name, or a ghost member with its text in braces, behind the word
+    /// ghost.
+    fn ghost(&mut self) -> Result<Token, Failure> {
         let line = self.line;
         self.skip_blanks();
-        match (self.take_while(is_word), self.rest.find(';')) {
-            ("use", Some(end)) => {
-                self.antt(end + 1)?;
-                Ok(Token::GhostUse)
-            }
-            _ => fail(line, "not read: something else than use behind ghost"),
+        if self.take_while(is_word) == "use" {
+            let Some(end) = self.rest.find(';') else {
+                return fail(line, "ghost use has no end");
+            };
+            self.antt(end + 1)?;
+            return Ok(Token::Ghost);
         }
+        self.take_while(|c| is_word(c) || c.is_whitespace() || c == ':' || c == '=');
+        if !self.rest.starts_with('{') {
+            return fail(line, "a ghost member has no braces");
+        }
+        self.antt(past_group(self.rest, 0, '{', '}'))?;
+        Ok(Token::Ghost)
     }
 
     /// A contract behind its first word: a name, if it has one, and a group in braces.

@@ -1,11 +1,11 @@
 //! What a written type is, what a constant is worth, and how many bytes of arrays a value has in it.
 
-use super::library::{Entity, Library, Place, Standing, CHAIN};
-use super::syntax::{Expression, ExpressionForm as Of, Form, Path, Written};
+use super::library::{Entity, Library, Meaning, Place, Standing, CHAIN};
+use super::syntax::{Argument, Expression, ExpressionForm as Of, Form, Path, Written};
 use super::tokens::{fail, Failure};
 
 /// A type. The width of a number is known unless it is a literal's that nothing settles yet.
-#[derive(Clone, Debug, PartialEq, Eq)]
+#[derive(Clone, Debug, PartialEq, Eq, PartialOrd, Ord)]
 pub enum Type {
     Number(Option<u64>),
     Unit,
@@ -15,6 +15,15 @@ pub enum Type {
     Slice(Box<Type>),
     Reference(Box<Type>),
     Declared(usize),
+    Tuple(Vec<Type>),
+    Option(Box<Type>),
+    Result(Box<Type>, Box<Type>),
+    /// A range or an iterator over what is lent, with what it gives.
+    Steps(Box<Type>),
+    /// What can be called, with its parameters and its result.
+    Callable(Vec<Type>, Box<Type>),
+    /// What nothing said yet, of a value of which another part is known.
+    Open,
 }
 
 /// The bytes of a number of this name.
@@ -25,6 +34,17 @@ pub fn width(name: &str) -> Option<u64> {
         "u32" | "i32" | "f32" => Some(4),
         "u64" | "i64" | "f64" | "usize" | "isize" => Some(8),
         _ => None,
+    }
+}
+
+impl<'a> Place<'a> {
+    /// What a path means that is a parameter's name.
+    pub fn meaning(self, path: &Path) -> Option<&'a Meaning> {
+        let [name] = path.words.as_slice() else {
+            return None;
+        };
+        let mut meanings = self.meanings.iter();
+        meanings.find_map(|(one, meaning)| (one == name).then_some(meaning))
     }
 }
 
@@ -44,7 +64,32 @@ impl Library {
             }
             Written::Slice(element) => Type::Slice(inner(element)?),
             Written::Reference(to) => Type::Reference(inner(to)?),
+            Written::Tuple(kinds) => {
+                let kinds = kinds.iter().map(|of| self.kind_within(place, of, chain));
+                Type::Tuple(kinds.collect::<Result<_, _>>()?)
+            }
+            Written::Callable(parameters, result) => {
+                let parameters = parameters.iter();
+                let parameters = parameters.map(|of| self.kind_within(place, of, chain));
+                Type::Callable(parameters.collect::<Result<_, _>>()?, inner(result)?)
+            }
+            Written::Generic(path, arguments) => {
+                let kinds = arguments.iter().map(|argument| match argument {
+                    Argument::Type(of) => inner(of),
+                    Argument::Constant(_) => fail(path.line, "a type with a constant argument"),
+                });
+                let mut kinds = kinds.collect::<Result<Vec<_>, _>>()?.into_iter();
+                let name = path.words.last().map(String::as_str);
+                match (name, kinds.next(), kinds.next(), kinds.next()) {
+                    (Some("Option"), Some(of), None, None) => Type::Option(of),
+                    (Some("Result"), Some(of), Some(or), None) => Type::Result(of, or),
+                    _ => return fail(path.line, "not read: a type with these arguments"),
+                }
+            }
             Written::Named(path) => {
+                if let Some(Meaning::Type(of)) = place.meaning(path) {
+                    return Ok(of.clone());
+                }
                 if let Some(bytes) = number(path) {
                     return Ok(Type::Number(Some(bytes)));
                 }
@@ -99,6 +144,12 @@ impl Library {
         let worth = match &value.form {
             Of::Number(value, None) => Some(*value),
             Of::Number(value, Some(of)) => width(of).map(|_| *value),
+            Of::Path(path) if matches!(place.meaning(path), Some(Meaning::Worth(_))) => {
+                match place.meaning(path) {
+                    Some(Meaning::Worth(worth)) => Some(*worth),
+                    _ => None,
+                }
+            }
             Of::Path(path) => {
                 let Entity::Constant(at) = self.entity(place, path)? else {
                     return fail(line, "a constant is expected");
@@ -168,9 +219,23 @@ impl Library {
                 }
                 Ok(sum)
             }
-            Type::Number(_) | Type::Unit | Type::Never | Type::Slice(_) | Type::Reference(_) => {
-                Ok(0)
+            Type::Tuple(kinds) => {
+                let bytes = kinds.iter().map(|of| self.array_bytes(of, line));
+                bytes.sum()
             }
+            Type::Option(of) => self.array_bytes(of, line),
+            Type::Result(of, or) => {
+                let bytes = self.array_bytes(of, line)?;
+                Ok(bytes.saturating_add(self.array_bytes(or, line)?))
+            }
+            Type::Steps(of) => self.array_bytes(of, line),
+            Type::Number(_)
+            | Type::Unit
+            | Type::Never
+            | Type::Slice(_)
+            | Type::Reference(_)
+            | Type::Callable(..)
+            | Type::Open => Ok(0),
         }
     }
 

@@ -2,9 +2,12 @@
 
 use std::collections::HashMap;
 
+use super::kit::{of_kit, steps};
 use super::{field, Counted, Held, Walk, Walked};
-use crate::arrays::library::{Entity, Standing};
-use crate::arrays::syntax::{Block, Expression, ExpressionForm as Of, Form, Path, Pattern};
+use crate::arrays::library::{Entity, Instance, Meaning, Place, Standing};
+use crate::arrays::syntax::{
+    Argument, Block, Expression, ExpressionForm as Of, Form, Parameter, Path, Pattern, Written,
+};
 use crate::arrays::tokens::fail;
 use crate::arrays::types::{width, Type};
 
@@ -31,7 +34,7 @@ impl Walk<'_> {
                 let bytes = Type::Array(Box::new(Type::Number(Some(1))), *length);
                 Type::Reference(Box::new(bytes))
             }
-            Of::Path(path) => self.path(path, counted)?,
+            Of::Path(path) => self.path(path, expected, counted)?,
             Of::Struct(path, given) => {
                 let entity = self.library.entity(self.place, path)?;
                 let (of, fields) = self.made_of(entity, line)?;
@@ -58,27 +61,68 @@ impl Walk<'_> {
                 let length = self.library.worth(self.place, length)?;
                 self.made(Type::Array(Box::new(of), length), counted, line)?
             }
-            Of::Call(path, arguments) => {
-                let of = self.called(path, arguments, line)?;
+            Of::Call(path, given, arguments) => {
+                let of = self.called(path, given, arguments, expected, line)?;
                 self.made(of, counted, line)?
             }
+            Of::Tuple(values) => {
+                let mut kinds = Vec::new();
+                for (i, value) in values.iter().enumerate() {
+                    let expected = match expected {
+                        Some(Type::Tuple(kinds)) => kinds.get(i),
+                        _ => None,
+                    };
+                    kinds.push(self.value(value, expected, Counted::Here)?);
+                }
+                match kinds.is_empty() {
+                    true => Type::Unit,
+                    false => self.made(Type::Tuple(kinds), counted, line)?,
+                }
+            }
+            Of::Try(of) => match self.value(of, None, Counted::Elsewhere)? {
+                Type::Option(of) | Type::Result(of, _) => self.made(*of, counted, line)?,
+                _ => return fail(line, "? behind something else than an Option or a Result"),
+            },
+            Of::Closure(patterns, _) => {
+                let written = |(_, of): &(Pattern, Option<Written>)| {
+                    of.as_ref().and_then(|of| self.kind(of, line).ok())
+                };
+                let parameters = match expected {
+                    Some(Type::Callable(parameters, _)) => Some(parameters.clone()),
+                    _ => patterns.iter().map(written).collect(),
+                };
+                let Some(parameters) = parameters else {
+                    return fail(line, "what a closure takes is not written");
+                };
+                let first = self.found.calls.len();
+                let result = self.closure(value, &parameters)?;
+                // Whatever it is lent to calls them.
+                let called = self.found.calls[first..].to_vec();
+                self.found.lent.extend(called);
+                Type::Callable(parameters, Box::new(result))
+            }
             Of::Method(of, name, arguments) => {
-                let of = referent(self.value(of, None, Counted::Here)?);
-                match of {
-                    Type::Array(..) | Type::Slice(_) if name == "len" => Type::Number(Some(8)),
+                let of = self.value(of, None, Counted::Here)?;
+                let of = match referent(of.clone()) {
                     Type::Declared(at) => {
                         let Some(Entity::Function(function)) = self.library.member(at, name) else {
                             return fail(line, format!("the method {name} was not found"));
                         };
-                        let of = self.call(function, arguments, 1, line)?;
-                        self.made(of, counted, line)?
+                        self.call(function, &[], arguments, 1, line)?
                     }
-                    _ => return fail(line, format!("the method {name} was not found")),
-                }
+                    _ => self.method_of_kit(of, name, arguments, expected, line)?,
+                };
+                self.made(of, counted, line)?
             }
             Of::Field(of, name) => {
-                let Type::Declared(at) = referent(self.value(of, None, Counted::Here)?) else {
-                    return fail(line, format!("the field {name} of no struct"));
+                let at = match referent(self.value(of, None, Counted::Here)?) {
+                    Type::Declared(at) => at,
+                    Type::Tuple(kinds) => match name.parse().ok().and_then(|i: usize| kinds.get(i))
+                    {
+                        Some(of) => return Ok(of.clone()),
+                        None => return fail(line, format!("the field {name} of no tuple")),
+                    },
+                    _ => return fail(line, format!("the field {name} of no struct")),
                 };
                 let Form::Struct(fields) = &self.library.declared[at].item.form else {
                     return fail(line, format!("the field {name} of no struct"));
@@ -102,7 +146,7 @@ impl Walk<'_> {
                     let end = self.value(end, expected, Counted::Here)?;
                     of = settled(of, end, line)?;
                 }
-                of
+                Type::Steps(Box::new(of))
             }
             Of::Borrow(of) => {
                 let expected = match expected {
@@ -155,10 +199,11 @@ impl Walk<'_> {
                 self.scopes.pop();
                 Type::Unit
             }
-            Of::For(name, over, body) => {
+            Of::For(pattern, over, body) => {
                 let of = self.value(over, None, Counted::Here)?;
+                let of = steps(of, line)?;
                 self.scopes.push(HashMap::new());
-                self.bind(name, of, line)?;
+                self.take_apart(pattern, of, line)?;
                 self.repeated(body, Type::Unit)?;
                 self.scopes.pop();
                 Type::Unit
@@ -221,15 +266,18 @@ impl Walk<'_> {
     fn matched(
         &mut self,
         value: &Expression,
-        arms: &[(Pattern, Expression)],
+        arms: &[(Pattern, Option<Expression>, Expression)],
         expected: Option<&Type>,
         counted: Counted,
     ) -> Walked<Type> {
         let of = self.value(value, None, Counted::Here)?;
         let mut given = Type::Never;
-        for (pattern, arm) in arms {
+        for (pattern, guard, arm) in arms {
             self.scopes.push(HashMap::new());
             self.take_apart(pattern, of.clone(), value.line)?;
+            if let Some(guard) = guard {
+                self.value(guard, None, Counted::Here)?;
+            }
             let arm = self.value(arm, expected, Counted::Elsewhere)?;
             given = settled(given, arm, value.line)?;
             self.scopes.pop();
@@ -245,27 +293,60 @@ impl Walk<'_> {
     }
 
     /// The value that a path names.
-    fn path(&mut self, path: &Path, counted: Counted) -> Walked<Type> {
+    fn path(&mut self, path: &Path, expected: Option<&Type>, counted: Counted) -> Walked<Type> {
         if let [name] = path.words.as_slice() {
             if let Some(of) = self.local(name) {
                 return Ok(of.clone());
             }
         }
-        let of = match self.library.entity(self.place, path)? {
-            Entity::Constant(at) => {
+        if let Some(Meaning::Worth(_)) = self.place.meaning(path) {
+            return Ok(Type::Number(Some(8)));
+        }
+        let of = match self.library.entity(self.place, path) {
+            Ok(Entity::Constant(at)) => {
                 let Standing { item, place } = &self.library.constants[at];
                 self.library.kind(*place, &item.of, path.line)?
             }
-            Entity::Variant(of, _) => Type::Declared(of),
-            _ => return fail(path.line, "a value is expected"),
+            Ok(Entity::Variant(of, _)) => Type::Declared(of),
+            Ok(_) => return fail(path.line, "a value is expected"),
+            Err(failure) => match (path.words.as_slice(), expected) {
+                ([none], Some(Type::Option(of))) if none == "None" => Type::Option(of.clone()),
+                ([none], _) if none == "None" => Type::Option(Box::new(Type::Open)),
+                ([of, limit], _) if limit == "MAX" || limit == "MIN" || limit == "BITS" => {
+                    match width(of) {
+                        Some(_) if limit == "BITS" => Type::Number(Some(4)),
+                        Some(bytes) => Type::Number(Some(bytes)),
+                        None => return Err(failure),
+                    }
+                }
+                _ => return Err(failure),
+            },
         };
         self.made(of, counted, path.line)
     }
 
-    /// What a call gives: of a function, of a struct's name or a variant, or of the kit.
-    fn called(&mut self, path: &Path, arguments: &[Expression], line: usize) -> Walked<Type> {
+    /// What a call gives: of a local that can be called, of a function, of a struct's name or a
+    /// variant, or of the kit.
+    fn called(
+        &mut self,
+        path: &Path,
+        given: &[Argument],
+        arguments: &[Expression],
+        expected: Option<&Type>,
+        line: usize,
+    ) -> Walked<Type> {
+        if let [name] = path.words.as_slice() {
+            let local = self.local(name).cloned().map(referent);
+            if let Some(Type::Callable(parameters, result)) = local {
+                self.arguments(arguments, &parameters, line)?;
+                return Ok(*result);
+            }
+            if let Some(of) = self.variant_of_kit(name, arguments, expected, line)? {
+                return Ok(of);
+            }
+        }
         match self.library.entity(self.place, path) {
-            Ok(Entity::Function(function)) => self.call(function, arguments, 0, line),
+            Ok(Entity::Function(function)) => self.call(function, given, arguments, 0, line),
             Ok(entity) => {
                 let (of, fields) = self.made_of(entity, line)?;
                 let fields: Vec<Type> = fields.into_iter().map(|(_, of)| of).collect();
@@ -273,6 +354,9 @@ impl Walk<'_> {
                 Ok(of)
             }
             Err(failure) => {
+                if let Some(of) = self.of_trait(path, arguments, line)? {
+                    return Ok(of);
+                }
                 let Some((of, bytes)) = of_kit(&path.words) else {
                     return Err(failure);
                 };
@@ -288,26 +372,128 @@ impl Walk<'_> {
         }
     }
 
+    /// A call of a trait's function by the name of the type that it is for: one of the sources, or
+    /// a number made of a number.
+    fn of_trait(
+        &mut self,
+        path: &Path,
+        arguments: &[Expression],
+        line: usize,
+    ) -> Walked<Option<Type>> {
+        let ([of, name], [argument]) = (path.words.as_slice(), arguments) else {
+            return Ok(None);
+        };
+        if !["from", "try_from", "from_le_bytes"].contains(&name.as_str()) {
+            return Ok(None);
+        }
+        let words = vec![of.clone()];
+        let Ok(of) = self.kind(&Written::Named(Path { words, line }), line) else {
+            return Ok(None);
+        };
+        let first = self.value(argument, None, Counted::Here)?;
+        if let Some(function) = self.library.implemented(&of, name, &first) {
+            let Standing { item, place } = &self.library.functions[function];
+            self.found.calls.push(Instance {
+                function,
+                meanings: Vec::new(),
+            });
+            return self.library.kind(*place, &item.result, line).map(Some);
+        }
+        Ok(match (&of, name.as_str(), first) {
+            (Type::Number(_), "from", Type::Number(_)) => Some(of),
+            (Type::Number(_), "from_le_bytes", Type::Array(..)) => Some(of),
+            _ => None,
+        })
+    }
+
     /// A call of a function, whose first parameters, if it is a method, were walked already.
-    fn call(
+    pub fn call(
         &mut self,
         function: usize,
+        given: &[Argument],
         arguments: &[Expression],
         before: usize,
         line: usize,
     ) -> Walked<Type> {
         let Standing { item, place } = &self.library.functions[function];
-        let kind = |written| self.library.kind(*place, written, line);
+        let mut meanings = Vec::new();
+        let mut given = given.iter();
+        for parameter in &item.generics {
+            let (name, meaning) = match (parameter, given.next()) {
+                (Parameter::Constant(name), Some(argument)) => {
+                    (name, Meaning::Worth(self.constant(argument, line)?))
+                }
+                // The length of an array that is handed over says it.
+                (Parameter::Constant(name), None) => {
+                    let is_it = |of: &Written| is_array_of(of, name);
+                    let parameters = item.parameters.iter().skip(before).zip(arguments);
+                    let Some((_, argument)) = { parameters }.find(|((_, of), _)| is_it(of)) else {
+                        return fail(line, "what a parameter stands for is not written");
+                    };
+                    match referent(self.type_of(argument)?) {
+                        Type::Array(_, length) => (name, Meaning::Worth(length)),
+                        _ => return fail(line, "an array is expected"),
+                    }
+                }
+                (Parameter::Type(name, bound @ Written::Callable(..)), None) => {
+                    let place = Place {
+                        meanings: &meanings,
+                        ..*place
+                    };
+                    (name, Meaning::Type(self.library.kind(place, bound, line)?))
+                }
+                (Parameter::Type(name, _), None) => {
+                    let is_it = |(_, of): &&(String, Written)| matches!(of, Written::Named(path) if path.words == [name.clone()]);
+                    let parameters = item.parameters.iter().skip(before).zip(arguments);
+                    let Some((_, argument)) = { parameters }.find(|(one, _)| is_it(one)) else {
+                        return fail(line, "what a parameter stands for is not written");
+                    };
+                    (name, Meaning::Type(self.type_of(argument)?))
+                }
+                _ => return fail(line, "what a parameter stands for is not written"),
+            };
+            meanings.push((name.clone(), meaning));
+        }
+        let place = Place {
+            meanings: &meanings,
+            ..*place
+        };
+        let kind = |written| self.library.kind(place, written, line);
         let result = kind(&item.result)?;
         let types = item.parameters.iter().skip(before);
         let types: Walked<Vec<Type>> = types.map(|(_, written)| kind(written)).collect();
-        self.found.calls.push(function);
-        self.arguments(arguments, &types?, line)?;
+        let types = types?;
+        self.found.calls.push(Instance {
+            function,
+            meanings: meanings.clone(),
+        });
+        self.arguments(arguments, &types, line)?;
         Ok(result)
     }
 
+    /// The type of a value that is counted where it stands.
+    fn type_of(&mut self, value: &Expression) -> Walked<Type> {
+        let (held, calls) = (self.found.held.len(), self.found.calls.len());
+        let of = self.value(value, None, Counted::Elsewhere)?;
+        self.found.held.truncate(held);
+        self.found.calls.truncate(calls);
+        Ok(of)
+    }
+
+    /// What a constant between `<` and `>` is worth.
+    fn constant(&self, argument: &Argument, line: usize) -> Walked<u64> {
+        match argument {
+            Argument::Constant(value) => self.library.worth(self.place, value),
+            Argument::Type(Written::Named(path)) => {
+                let form = Of::Path(path.clone());
+                self.library.worth(self.place, &Expression { line, form })
+            }
+            Argument::Type(_) => fail(line, "a constant is expected"),
+        }
+    }
+
     /// Arguments of these types.
-    fn arguments(&mut self, given: &[Expression], types: &[Type], line: usize) -> Walked<()> {
+    pub fn arguments(&mut self, given: &[Expression], types: &[Type], line: usize) -> Walked<()> {
         if given.len() != types.len() {
             return fail(line, "a call with more or fewer arguments than parameters");
         }
@@ -316,29 +502,72 @@ impl Walk<'_> {
         }
         Ok(())
     }
+
+    /// A closure, or a function by its name, that is lent to what calls it with these: its result.
+    pub fn closure(&mut self, value: &Expression, parameters: &[Type]) -> Walked<Type> {
+        let line = value.line;
+        match &value.form {
+            Of::Closure(patterns, body) => {
+                if patterns.len() != parameters.len() {
+                    return fail(line, "a closure with more or fewer parameters");
+                }
+                self.scopes.push(HashMap::new());
+                for ((pattern, written), of) in patterns.iter().zip(parameters) {
+                    let of = match written {
+                        Some(written) => self.kind(written, line)?,
+                        None => of.clone(),
+                    };
+                    self.take_apart(pattern, of, line)?;
+                }
+                let result = self.value(body, None, Counted::Here)?;
+                self.scopes.pop();
+                Ok(result)
+            }
+            Of::Path(path) => {
+                if let [name] = path.words.as_slice() {
+                    let local = self.local(name).cloned().map(referent);
+                    if let Some(Type::Callable(_, result)) = local {
+                        return Ok(*result);
+                    }
+                }
+                match self.library.entity(self.place, path) {
+                    Ok(Entity::Function(function)) => {
+                        let Standing { item, place } = &self.library.functions[function];
+                        self.found.calls.push(Instance {
+                            function,
+                            meanings: Vec::new(),
+                        });
+                        self.library.kind(*place, &item.result, line)
+                    }
+                    Ok(Entity::Variant(of, _) | Entity::Declared(of)) => {
+                        self.library.unaliased(of, line)
+                    }
+                    _ => match path.words.as_slice() {
+                        [of, from] if from == "from" && width(of).is_some() => {
+                            Ok(Type::Number(width(of)))
+                        }
+                        _ => fail(line, "what is lent to be called was not found"),
+                    },
+                }
+            }
+            _ => fail(line, "a closure is expected"),
+        }
+    }
 }
 
-/// What a call of the kit gives, and the bytes of arrays that it holds with the calls under it. Of
-/// `read_full` these are the two buffers of 4,096 bytes that an older kit's held; today's has none.
-fn of_kit(words: &[String]) -> Option<(Type, u64)> {
-    let words: Vec<&str> = words.iter().map(String::as_str).collect();
-    match words.as_slice() {
-        ["std", "num", call] => {
-            let mut names = ["wrapping_add_", "wrapping_sub_"].iter();
-            let of = names.find_map(|name| call.strip_prefix(name))?;
-            width(of).map(|bytes| (Type::Number(Some(bytes)), 0))
+/// Whether a written type is an array whose length is this parameter, or a reference to one.
+fn is_array_of(of: &Written, name: &str) -> bool {
+    match of {
+        Written::Reference(of) => is_array_of(of, name),
+        Written::Array(_, length) => {
+            matches!(&length.form, Of::Path(path) if path.words == [name.to_string()])
         }
-        [of, "leading_zeros" | "trailing_zeros" | "count_ones"] => {
-            width(of).map(|_| (Type::Number(Some(4)), 0))
-        }
-        ["io", "decimal"] => Some((Type::Number(Some(8)), 0)),
-        ["io", "read_full"] => Some((Type::Number(Some(8)), 2 * 4096)),
-        _ => None,
+        _ => false,
     }
 }
 
 /// What stands behind references.
-fn referent(of: Type) -> Type {
+pub fn referent(of: Type) -> Type {
     match of {
         Type::Reference(of) => referent(*of),
         of => of,
@@ -354,11 +583,24 @@ fn element(expected: Option<&Type>) -> Option<&Type> {
 }
 
 /// The type of two ways to one value: what one leaves open, the other says.
-fn settled(first: Type, second: Type, line: usize) -> Walked<Type> {
+pub fn settled(first: Type, second: Type, line: usize) -> Walked<Type> {
     Ok(match (first, second) {
         (Type::Never, of) | (of, Type::Never) => of,
         (Type::Number(None), Type::Number(bytes)) | (Type::Number(bytes), Type::Number(None)) => {
             Type::Number(bytes)
+        }
+        (Type::Open, of) | (of, Type::Open) => of,
+        (Type::Option(first), Type::Option(second)) => {
+            Type::Option(Box::new(settled(*first, *second, line)?))
+        }
+        (Type::Result(first, or), Type::Result(second, other)) => {
+            let first = settled(*first, *second, line)?;
+            Type::Result(Box::new(first), Box::new(settled(*or, *other, line)?))
+        }
+        (Type::Tuple(first), Type::Tuple(second)) if first.len() == second.len() => {
+            let both = first.into_iter().zip(second);
+            let kinds = both.map(|(first, second)| settled(first, second, line));
+            Type::Tuple(kinds.collect::<Walked<_>>()?)
         }
         (Type::Array(first, length), Type::Array(second, other)) if length == other => {
             Type::Array(Box::new(settled(*first, *second, line)?), length)
