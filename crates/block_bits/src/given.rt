@@ -1,4 +1,4 @@
-// Program bits that a closure gives, bit 1 where it says true, for 0, 1, .. one after another, eight at a time.
+// Program bits that a value tells, bit 1 where it says true, for 0, 1, .. one after another, eight at a time.
 // Kept: `program` and `start` are two parameters: each part has its own start, and the program is wanted again behind it.
 ghost use Rattle.std.specs.Prelude.{◌≡◌, ℕ, Bool, ◌+◌, ◌^◌, ◌<◌, ◌≤◌, length};
 ghost use Rattle.lists.specs.Lists.{list_of, Gives};
@@ -9,24 +9,30 @@ ghost use Rattle.block_bits.specs.Stores.{number_of};
 use crate::fields::store_field;
 use crate::{BYTE_BITS, bit_byte, bit_place, bytes_for};
 
-// Makes the bits from bit `start` on those that the closure gives for 0 to count - 1; past the program's end nothing changes.
-pub fn store_bits_by<F: Fn(usize) -> bool>(
-    program: &mut [u8],
-    start: usize,
-    count: usize,
-    is_one: F,
-)
-    requires { (k : ℕ) → k < count → F.pre is_one k }
-    ensures { (test : ℕ → Bool) → Gives (F.post is_one) count test
-        → program.new ≡ store_bits program.old start (list_of count (λ k. one_if (test k))) }
+// What tells for every k whether bit k is 1.
+pub trait TellsBits {
+    ghost told: { Self → ℕ → Bool };
+
+    fn is_one(&self, k: usize) -> bool
+        ensures { result ≡ told self.now k };
+}
+
+// Makes the bits from bit `start` on those that are told for 0 to count - 1; past the program's end nothing changes.
+pub fn store_bits_by<T: TellsBits>(program: &mut [u8], start: usize, count: usize, bits: &T)
+    ensures { program.new ≡ store_bits program.old start (list_of count (λ k. one_if (T.told bits.now k))) }
 {
     let byte = bit_byte(start);
     if byte < program.len() {
-        store_in_part(&mut program[byte..], bit_place(start), count, &is_one);
+        store_in_part(
+            &mut program[byte..],
+            bit_place(start),
+            count,
+            &|k| bits.is_one(k),
+        );
     }
 }
 
-// The same from a place of the first byte on.
+// The same from a place of the first byte on, for the bits that a closure gives.
 fn store_in_part<F: Fn(usize) -> bool>(program: &mut [u8], place: usize, count: usize, is_one: &F)
     requires callable { (k : ℕ) → k < count → F.pre is_one.now k }
     requires place_bound { place < bits_held 1 }

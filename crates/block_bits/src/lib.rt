@@ -11,7 +11,7 @@ mod given;
 mod packing;
 
 pub use fields::store_field;
-pub use given::store_bits_by;
+pub use given::{TellsBits, store_bits_by};
 pub use packing::store_bits;
 
 // The bits of a byte.

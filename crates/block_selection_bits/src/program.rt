@@ -2,7 +2,7 @@
 // takes a copy to each output. The call holds three arrays, 384 bytes for a small block and 3,072 for another, and lends them to all that
 // works under it.
 // Kept: `program` and `start` are two parameters: each part has its own start, and the program is wanted again behind it.
-ghost use Rattle.std.specs.Prelude.{◌≡◌, ◌-◌, ◌^◌, ◌<◌, ◌≤◌, length};
+ghost use Rattle.std.specs.Prelude.{◌≡◌, ◌-◌, ◌^◌, ◌<◌, ◌≤◌, length, get_or};
 ghost use Rattle.block_elements.specs.Bits.{bits_held, store_bits};
 ghost use Rattle.block_networks.specs.Wanted.{Wanted};
 ghost use Rattle.block_networks.specs.Selection.{selection_level, selection_bits};
@@ -13,7 +13,7 @@ ghost use Rattle.block_selection_bits.specs.Arrays.{is_counted, NetworkRoom, net
 use crate::copies::list_copies;
 use crate::counting::count_wanted;
 use crate::positions::{place_heads, place_idle};
-use block_bits::store_bits_by;
+use block_bits::{TellsBits, store_bits_by};
 use block_permutation_bits::program_permutation_at;
 use block_sizes::{MAX_PLACES, SMALL_PLACES, permutation_count, selection_positions};
 
@@ -59,16 +59,32 @@ fn store_chain(counts: &[u16], list: &[u16], program: &mut [u8], start: usize)
     requires { Wanted (length list.now) list.now × (1 ≤ length list.now) × (length list.now ≤ length counts.now) }
     ensures { program.new ≡ store_bits program.old start (chain_bits_by counts.now list.now) }
 {
-    let rows = list.len() - 1;
-    store_bits_by(program, start, rows, |i| is_wanted(counts, list[i + 1]));
+    let list = &list[1..];
+    let chain = Chain { counts, list };
+    store_bits_by(program, start, list.len(), &chain);
+}
+
+// The bits of a chain: how many outputs want each input, and the inputs behind the first, whose position has no Y.
+#[derive(Clone, Copy)]
+struct Chain<'a> {
+    counts: &'a [u16],
+    list: &'a [u16],
+}
+
+impl TellsBits for Chain<'_> {
+    ghost told = { λ chain k. is_counted chain.counts.now (get_or chain.list.now k 0 - 1) };
+
+    fn is_one(&self, k: usize) -> bool {
+        is_wanted(self.counts, self.list.get(k).copied().unwrap_or(0))
+    }
 }
 
 // Whether some output wants an input, counted from 1.
 fn is_wanted(counts: &[u16], input: u16) -> bool
-    requires { (1 ≤ input) × (input ≤ length counts.now) }
     ensures { result ≡ is_counted counts.now (input - 1) }
 {
-    counts[usize::from(input) - 1] != 0
+    let j = usize::from(input.saturating_sub(1));
+    counts.get(j).copied().unwrap_or(0) != 0
 }
 
 // P's bits for a list that names each of its inputs once, from bit `start` on. P's call has nothing to refuse.

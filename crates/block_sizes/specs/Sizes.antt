@@ -12,10 +12,6 @@ max_size = 512
 abbrev pub max_level : ℕ
 max_level = 9
 
--- the most positions of a small block, which is worked on in smaller arrays
-abbrev pub small_size : ℕ
-small_size = 64
-
 -- P may have N positions: a power of two from 1 to 512
 unfoldable pub size_allowed : ℕ → Bool
 size_allowed N = leb 1 N && (leb N max_size && eqb (ceil_power N) N)

@@ -4,7 +4,7 @@
 #![tactic(auto)]
 
 pub use block_bits::{
-    BYTE_BITS, bytes_for, fill_bytes, read_bit, store_bit, store_bits_by, store_field,
+    BYTE_BITS, TellsBits, bytes_for, fill_bytes, read_bit, store_bit, store_bits_by, store_field,
 };
 pub use block_counts::{count_permutation, count_selection};
 pub use block_permutation_bits::{program_permutation, program_permutation_at};

@@ -17,7 +17,7 @@ use Rattle.plan.proofs.FaultsLaws.{accepted-counts}
 use Rattle.fabric_universal.specs.Fabric.{spare_gate, padded_gate}
 use Rattle.fabric_universal.proofs.PlanValues.{padded-own, padded_spare}
 use Rattle.fabric_lists.specs.GateLists.{loaded_list}
-use Rattle.fabric_lists.proofs.GateListsLaws.{all-loaded}
+use Rattle.fabric_lists.proofs.GateListsLaws.{all-listed}
 use Rattle.fabric_sizes.proofs.PartsLaws.{few-places, plan-places, all-placed}
 
 -- entries that are there already need not be written
@@ -55,7 +55,7 @@ module _ (p : Plan) (accepted : Accepted p) where
       let spare = replicate p.gate_places spare_gate in
       let few = (accepted-counts p accepted).gates in
       let room = all-placed p accepted in
-      let all = all-loaded k (length spare) few (omega (arith, length-replicate p.gate_places spare_gate)) in
+      let all = all-listed k (length spare) few (omega (arith, length-replicate p.gate_places spare_gate)) in
       e ∙ ap (λ n. over (list_of n (gate_at p)) spare) all
       ∙ ap (λ l. over l spare) (list_of_ext k _ _ (λ i l. sym (padded-own p i l)))
       ∙ already k p.gate_places (padded_gate p) spare_gate room (λ i h l. padded_spare p i h)

@@ -25,8 +25,8 @@ use Rattle.fabric_universal.proofs.UniversalLaws.{length-universal_bits}
 use Rattle.fabric_universal.specs.Fabric.{gate_level, fabric_takes, padded_gate, plan_gates, wanted_input, wanted_inputs, wanted_outputs, plan_bits}
 use Rattle.fabric_universal.proofs.FabricLaws.{fabric_within}
 use Rattle.fabric_universal.proofs.FabricRun.{inputs-selected, outputs-selected}
-use Rattle.fabric_lists.specs.GateLists.{listed_gates}
-use Rattle.fabric_lists.specs.WantedLists.{inputs_wanted}
+use Rattle.fabric_lists.specs.GateLists.{gates_listed}
+use Rattle.fabric_lists.specs.WantedLists.{pins_wanted}
 use Rattle.fabric_sizes.proofs.PartsLaws.{few-places, same-level, plan-places}
 use Rattle.fabric_sizes.specs.Parts.{max_pins}
 use Rattle.fabric_bits.specs.ProgramParts.{bit_limit, gates_program, UniversalProgramRoom, GatesRoom}
@@ -39,9 +39,9 @@ pub length_gates : (u : ℕ) (list : List Gate)
 unfolding gates_program
 length_gates u list =
     let pins : ℕ = operands * length list in
-    length-append (selection_bits u pins (inputs_wanted u list)) _
-    ∙ ap₂ (λ a b. a + b) (length-selection_bits u pins (inputs_wanted u list))
-    (length-universal_bits selection selection-shape (listed_gates u list) (gate_level (length list)) 0)
+    length-append (selection_bits u pins (pins_wanted u list)) _
+    ∙ ap₂ (λ a b. a + b) (length-selection_bits u pins (pins_wanted u list))
+    (length-universal_bits selection selection-shape (gates_listed u list) (gate_level (length list)) 0)
 
 -- ---- S(u, 2K), then U(K)
 
@@ -52,16 +52,16 @@ pub room_behind : {before gates wanted start room wanted' start' room' : ℕ}
 room_behind R ew es er = rw (ew, es, er) R
 
 pub gates_stored : (u : ℕ) (list : List Gate) (s₀ : List ℕ) {next : ℕ} {s₁ s₂ : List ℕ}
-    → s₁ ≡ store_bits s₀ 0 (selection_bits u (operands * length list) (inputs_wanted u list))
+    → s₁ ≡ store_bits s₀ 0 (selection_bits u (operands * length list) (pins_wanted u list))
     → next ≡ selection_count u (operands * length list)
-    → s₂ ≡ store_bits s₁ next (universal_bits selection (listed_gates u list) (gate_level (length list)) 0)
+    → s₂ ≡ store_bits s₁ next (universal_bits selection (gates_listed u list) (gate_level (length list)) 0)
     → s₂ ≡ store_bits s₀ 0 (gates_program u list)
 unfolding gates_program
 gates_stored u list s₀ {next} e₁ en e₂ =
     let pins : ℕ = operands * length list in
-    let I = selection_bits u pins (inputs_wanted u list) in
-    let G = universal_bits selection (listed_gates u list) (gate_level (length list)) 0 in
-    let at : next ≡ 0 + length I = omega (arith, length-selection_bits u pins (inputs_wanted u list)) in
+    let I = selection_bits u pins (pins_wanted u list) in
+    let G = universal_bits selection (gates_listed u list) (gate_level (length list)) 0 in
+    let at : next ≡ 0 + length I = omega (arith, length-selection_bits u pins (pins_wanted u list)) in
     e₂ ∙ ap₂ (λ s q. store_bits s q G) e₁ at ∙ sym (store_bits-append s₀ 0 I G)
 
 -- ---- the list of a plan's gates
@@ -77,17 +77,17 @@ module _ (p : Plan) (accepted : Accepted p) {list : List Gate} (L : list ≡ lis
   loaded-gate : (g : ℕ) → g < 2 ^ gate_level p.gate_count → get_or list g zero_gate ≡ padded_gate p g
   loaded-gate g l = ap (λ s. get_or s g zero_gate) L ∙ get_or-list_of p.gate_places _ g zero_gate (omega (arith, held-places))
 
-  loaded-operand : (q : ℕ) → q < pin_count (gate_level p.gate_count) → (listed_gates p.inputs list).operand q ≡ (plan_gates p).operand q
+  loaded-operand : (q : ℕ) → q < pin_count (gate_level p.gate_count) → (gates_listed p.inputs list).operand q ≡ (plan_gates p).operand q
   unfolding choose
   loaded-operand q l = ap (λ g. choose (q % operands) g.first.0 g.second.0) (loaded-gate (q / operands) (omega arith))
 
-  loaded-wanted : inputs_wanted p.inputs list ≡ wanted_inputs p
-  unfolding inputs_wanted wanted_inputs
+  loaded-wanted : pins_wanted p.inputs list ≡ wanted_inputs p
+  unfolding pins_wanted wanted_inputs
   loaded-wanted =
       rw length-loaded
       (list_of_ext (pin_count (gate_level p.gate_count)) _ _ (λ q l. ap (wanted_input p.inputs) (loaded-operand q l)))
 
-  loaded-bits : universal_bits selection (listed_gates p.inputs list) (gate_level p.gate_count) 0 ≡ universal_bits selection (plan_gates p) (gate_level p.gate_count) 0
+  loaded-bits : universal_bits selection (gates_listed p.inputs list) (gate_level p.gate_count) 0 ≡ universal_bits selection (plan_gates p) (gate_level p.gate_count) 0
   loaded-bits =
       let n : ℕ = gate_level p.gate_count in
       moved-bits p.inputs 0 (2 ^ n) (λ g. get_or list g zero_gate) (padded_gate p) (λ g l.

@@ -1,6 +1,6 @@
--- U's bits by its halves: how many they are, that what the halves and the part between them store is U's, and that they depend on the gates of U
--- alone, wherever these stand in a list.
-use mathlib.Core.Path.{◌≡◌, sym, ap, ap₂, ◌∙◌}
+-- U's bits by its halves: how many they are, that what the halves and the part between them store is U's, and that they depend on the operands and
+-- tables of U's own gates alone, wherever these stand.
+use mathlib.Core.Path.{◌≡◌, refl, sym, ap, ap₂, ◌∙◌}
 use mathlib.Core.List.{List, ◌++◌, append_assoc}
 use Prim.Native.Nat.{ℕ, zero, suc, ◌+◌, ◌*◌, ◌/◌, ◌%◌, ◌^◌, ◌≤◌, ◌<◌}
 use native.Mathlib.Omega.{arith}
@@ -23,7 +23,8 @@ use Rattle.fabric_universal.specs.Universal.{Gates, universal_takes, table_progr
 use Rattle.fabric_universal.proofs.UniversalLaws.{length-universal_bits}
 use Rattle.fabric_universal.proofs.UniversalProgram.{wanted-selected, length-mix_bits}
 use Rattle.fabric_universal.specs.Fabric.{gate_level, gates_of}
-use Rattle.fabric_lists.specs.GateLists.{listed_gates}
+use Rattle.fabric_lists.specs.GateLists.{gates_listed}
+use Rattle.fabric_lists.specs.WantedLists.{listed_gates, listed_operands}
 use Rattle.fabric_sizes.proofs.PartsLaws.{one-gate, Halved, halved}
 use Rattle.fabric_bits.specs.ProgramParts.{between_bits, BetweenRoom, UniversalProgramRoom}
 
@@ -107,35 +108,34 @@ between_stored G base h start s₀ {choices} {wanted} {s₁} {s₂} ew e₁ ec e
     let at : choices ≡ start + length S = ec ∙ ap (λ n. start + n) (sym (length-selection_bits h (2 * h) (wanted_gates G base h))) in
     e₂ ∙ ap₂ (λ s p. store_bits s p (mix_bits G base h)) first at ∙ sym (store_bits-append s₀ start S (mix_bits G base h))
 
--- ---- the same gates from another place on: those of f are those of g from `from` on, below a limit
+-- the tables do not matter there
+pub between_listed : (before : ℕ) (operandList tables : List ℕ) (base h : ℕ)
+    → between_bits (listed_operands before operandList) base h ≡ between_bits (listed_gates before operandList tables) base h
+unfolding between_bits wanted_gates wanted_gate mix_bits is_of
+between_listed before operandList tables base h = refl
 
-module _ (u from limit : ℕ) (f g : ℕ → Gate) (same : (i : ℕ) → i < limit → f i ≡ g (from + i)) where
-  abbrev F : Gates
-  F = gates_of (u + from) f
+-- ---- gates past U's own never matter, nor where its own stand
 
-  abbrev G : Gates
-  G = gates_of u g
-
-  shifted-operand : (q : ℕ) → q < operands * limit → F.operand q ≡ G.operand (operands * from + q)
-  unfolding choose
-  shifted-operand q l =
-      let m : (operands * from + q) % operands ≡ q % operands = omega arith in
-      let d : (operands * from + q) / operands ≡ from + q / operands = omega arith in
-      rw (m, d) (ap (λ x. choose (q % operands) x.first.0 x.second.0) (same (q / operands) (omega arith)))
-
+-- the gates of F are those of G from `from` on, below a limit
+module _ (from limit : ℕ) (F G : Gates) (before : F.before ≡ G.before + from)
+    (pin : (q : ℕ) → q < operands * limit → F.operand q ≡ G.operand (operands * from + q))
+    (own : (g : ℕ) → g < limit → F.table g ≡ G.table (from + g)) where
   shifted-pin : (base h j : ℕ) → base + (h + h) ≤ limit → j < operands * h
       → F.operand (operands * (base + h) + j) ≡ G.operand (operands * (from + base + h) + j)
   shifted-pin base h j l m =
       let e : operands * from + (operands * (base + h) + j) ≡ operands * (from + base + h) + j = omega arith in
-      shifted-operand (operands * (base + h) + j) (omega arith) ∙ ap G.operand e
+      pin (operands * (base + h) + j) (omega arith) ∙ ap G.operand e
+
+  shifted-place : (base : ℕ) → F.before + base ≡ G.before + (from + base)
+  shifted-place base = omega (arith, before)
 
   shifted-is : (base h w : ℕ) → is_of F base h w ≡ is_of G (from + base) h w
   unfolding is_of
-  shifted-is base h w = let e : u + from + base ≡ u + (from + base) = omega arith in rw e
+  shifted-is base h w = rw (shifted-place base) refl
 
   shifted-wants : (base h w : ℕ) → wanted_gate F base h w ≡ wanted_gate G (from + base) h w
   unfolding wanted_gate is_of
-  shifted-wants base h w = let e : u + from + base ≡ u + (from + base) = omega arith in rw e
+  shifted-wants base h w = rw (shifted-place base) refl
 
   shifted-wanted : (base h : ℕ) → base + (h + h) ≤ limit → wanted_gates F base h ≡ wanted_gates G (from + base) h
   unfolding wanted_gates
@@ -149,7 +149,7 @@ module _ (u from limit : ℕ) (f g : ℕ → Gate) (same : (i : ℕ) → i < lim
 
   shifted-bits : (n base : ℕ) → base + 2 ^ n ≤ limit → universal_bits selection F n base ≡ universal_bits selection G n (from + base)
   unfolding universal_bits
-  shifted-bits zero base l = ap (λ x. table_program x.table) (same base (omega arith))
+  shifted-bits zero base l = ap table_program (own base (omega arith))
   shifted-bits (suc n) base l =
       let half : base + (2 ^ n + 2 ^ n) ≤ limit = omega (arith, double n) in
       let behind : from + (base + 2 ^ n) ≡ from + base + 2 ^ n = omega arith in
@@ -161,17 +161,41 @@ module _ (u from limit : ℕ) (f g : ℕ → Gate) (same : (i : ℕ) → i < lim
         behind,
       )
 
-  -- a whole U
+-- gates that agree on all operands and tables below a limit
+pub record SameGates (limit : ℕ) (G H : Gates) : Type 0 where
+  pub before : G.before ≡ H.before
+  pub operand : (q : ℕ) → q < operands * limit → G.operand q ≡ H.operand q
+  pub table : (g : ℕ) → g < limit → G.table g ≡ H.table g
+
+module _ (limit : ℕ) (G H : Gates) (same : SameGates limit G H) where
+  pub universal_same : (n base : ℕ) → base + 2 ^ n ≤ limit → universal_bits selection G n base ≡ universal_bits selection H n base
+  universal_same n base l =
+      let at : (i : ℕ) → 0 + i ≡ i = λ i. omega arith in
+      let pin : (q : ℕ) → operands * 0 + q ≡ q = λ q. omega arith in
+      shifted-bits 0 limit G H (omega (arith, same.before)) (λ q m. same.operand q m ∙ ap H.operand (sym (pin q)))
+      (λ g m. same.table g m ∙ ap H.table (sym (at g))) n base l
+      ∙ ap (universal_bits selection H n) (at base)
+
+-- a whole U of gates that are those of g from `from` on, below a limit
+module _ (u from limit : ℕ) (f g : ℕ → Gate) (same : (i : ℕ) → i < limit → f i ≡ g (from + i)) where
+  shifted-operand : (q : ℕ) → q < operands * limit → (gates_of (u + from) f).operand q ≡ (gates_of u g).operand (operands * from + q)
+  unfolding choose
+  shifted-operand q l =
+      let m : (operands * from + q) % operands ≡ q % operands = omega arith in
+      let d : (operands * from + q) / operands ≡ from + q / operands = omega arith in
+      rw (m, d) (ap (λ x. choose (q % operands) x.first.0 x.second.0) (same (q / operands) (omega arith)))
+
   pub moved-bits : (n : ℕ) {b base : ℕ} → b ≡ u + from → base ≡ from → 2 ^ n ≤ limit
-      → universal_bits selection (gates_of b f) n 0 ≡ universal_bits selection G n base
+      → universal_bits selection (gates_of b f) n 0 ≡ universal_bits selection (gates_of u g) n base
   moved-bits n eb ebase l =
       let at : from + 0 ≡ from = omega arith in
-      rw (eb, ebase) (shifted-bits n 0 (omega arith) ∙ ap (universal_bits selection G n) at)
+      let moved = shifted-bits from limit (gates_of (u + from) f) (gates_of u g) refl shifted-operand (λ i m. ap (λ x. x.table) (same i m)) in
+      rw (eb, ebase) (moved n 0 (omega arith) ∙ ap (universal_bits selection (gates_of u g) n) at)
 
 -- h gates of a list from one on
 part-bits : (before from h : ℕ) (list part : List Gate) {b : ℕ} → b ≡ before + from → length part ≡ h → h ≡ 2 ^ gate_level h
     → ((i : ℕ) → i < h → get_or part i zero_gate ≡ get_or list (from + i) zero_gate)
-    → universal_bits selection (listed_gates b part) (gate_level (length part)) 0 ≡ universal_bits selection (listed_gates before list) (gate_level h) (0 + from)
+    → universal_bits selection (gates_listed b part) (gate_level (length part)) 0 ≡ universal_bits selection (gates_listed before list) (gate_level h) (0 + from)
 part-bits before from h list part {b} eb size power same =
     rw size
     (moved-bits before from h (λ i. get_or part i zero_gate) (λ i. get_or list i zero_gate) same (gate_level h) eb (omega arith) (omega arith))
@@ -185,14 +209,14 @@ length-lower list {h = h} H ep = ap length ep ∙ length-drop h list ∙ omega (
 
 module _ (before : ℕ) (list : List Gate) {part : List Gate} {b h : ℕ} (H : Halved (length list) h) where
   pub upper-bits : b ≡ before → part ≡ take h list
-      → universal_bits selection (listed_gates b part) (gate_level (length part)) 0 ≡ universal_bits selection (listed_gates before list) (gate_level h) 0
+      → universal_bits selection (gates_listed b part) (gate_level (length part)) 0 ≡ universal_bits selection (gates_listed before list) (gate_level h) 0
   upper-bits eb ep =
       part-bits before 0 h list part (omega arith) (length-upper list H ep) H.power (λ i l.
       let same : i ≡ 0 + i = omega arith in
       ap (λ p. get_or p i zero_gate) ep ∙ get_or-take h list i zero_gate l ∙ ap (λ k. get_or list k zero_gate) same)
 
   pub lower-bits : b ≡ before + h → part ≡ drop h list
-      → universal_bits selection (listed_gates b part) (gate_level (length part)) 0 ≡ universal_bits selection (listed_gates before list) (gate_level h) (0 + h)
+      → universal_bits selection (gates_listed b part) (gate_level (length part)) 0 ≡ universal_bits selection (gates_listed before list) (gate_level h) (0 + h)
   lower-bits eb ep =
       part-bits before h h list part eb (length-lower list H ep) H.power (λ i l.
       ap (λ p. get_or p i zero_gate) ep ∙ get_or-drop h list i zero_gate)

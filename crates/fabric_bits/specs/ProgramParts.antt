@@ -8,8 +8,8 @@ use Rattle.plan.specs.Record.{max_gates}
 use Rattle.fabric_universal.specs.Selector.{selection}
 use Rattle.fabric_universal.specs.Universal.{Gates, universal_takes, wanted_gates, mix_bits, universal_bits}
 use Rattle.fabric_universal.specs.Fabric.{gate_level}
-use Rattle.fabric_lists.specs.GateLists.{listed_gates}
-use Rattle.fabric_lists.specs.WantedLists.{inputs_wanted}
+use Rattle.fabric_lists.specs.GateLists.{gates_listed}
+use Rattle.fabric_lists.specs.WantedLists.{pins_wanted}
 
 -- above the program bits of every plan: the fabric of 64, 256, 64 takes 32,257
 abbrev pub bit_limit : ℕ
@@ -24,8 +24,8 @@ between_bits G base h = selection_bits h (operands * h) (wanted_gates G base h) 
 -- S(u, 2K) and U(K) for K gates behind u inputs
 unfoldable pub gates_program : ℕ → List Gate → List ℕ
 gates_program u gates =
-    selection_bits u (operands * length gates) (inputs_wanted u gates)
-    ++ universal_bits selection (listed_gates u gates) (gate_level (length gates)) 0
+    selection_bits u (operands * length gates) (pins_wanted u gates)
+    ++ universal_bits selection (gates_listed u gates) (gate_level (length gates)) 0
 
 -- ---- what fits
 
@@ -48,5 +48,5 @@ pub record UniversalProgramRoom (before gates wanted start room : ℕ) : Type 0 
 
 -- S(u, 2K) and U(K) for the gates of a list
 pub record GatesRoom (u : ℕ) (list : List Gate) (wanted room : ℕ) : Type 0 where
-  pub inputs : SelectionPasses u (operands * length list) (inputs_wanted u list) 0 room
+  pub inputs : SelectionPasses u (operands * length list) (pins_wanted u list) 0 room
   pub gates : UniversalProgramRoom u (length list) wanted (selection_count u (operands * length list)) room

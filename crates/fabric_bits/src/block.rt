@@ -6,12 +6,12 @@ ghost use Rattle.blocks.specs.Calls.{SelectionPasses};
 ghost use Rattle.fabric_universal.specs.Selector.{selection};
 ghost use Rattle.fabric_universal.specs.Universal.{universal_takes, universal_bits};
 ghost use Rattle.fabric_universal.specs.Fabric.{gate_level};
-ghost use Rattle.fabric_lists.specs.GateLists.{listed_gates};
+ghost use Rattle.fabric_lists.specs.GateLists.{gates_listed};
 ghost use Rattle.fabric_bits.specs.ProgramParts.{bit_limit, between_bits, BetweenRoom, UniversalProgramRoom};
 
 use blocks::{program_selection_at, selection_count};
 use elements::GATE_BITS;
-use fabric_lists::{GateList, list_gates, store_choices, store_table};
+use fabric_lists::{GateList, store_table};
 
 // The bits of U for the gates of the list, a power of two of them, stored from bit `start` on; `wanted` is room to work in. Gives the bit behind
 // them.
@@ -24,7 +24,7 @@ pub(crate) fn program_universal(
 ) -> u32
     requires { UniversalProgramRoom list.before (length list.gates.now) (length wanted.old) start (length program.old) }
     ensures behind { result ≡ start + universal_takes selection (gate_level (length list.entry.gates.now)) }
-    ensures stored { program.new ≡ store_bits program.old start (universal_bits selection (listed_gates list.entry.before list.entry.gates.now) (gate_level (length list.entry.gates.now)) 0) }
+    ensures stored { program.new ≡ store_bits program.old start (universal_bits selection (gates_listed list.entry.before list.entry.gates.now) (gate_level (length list.entry.gates.now)) 0) }
 {
     if list.gates.len() == 1 {
         store_table(list.gates[0].table, program, start);
@@ -59,13 +59,13 @@ fn halves(list: GateList) -> (GateList, GateList)
 // Between the halves: the bits of S(half, 2 half) for what the lower half's pins want, then those of the Y rows. Gives the bit behind them.
 fn program_between(list: GateList, wanted: &mut [u16], program: &mut [u8], start: u32) -> u32
     requires { BetweenRoom (length list.gates.now / 2) (length wanted.old) start (length program.old) }
-    ensures behind { result ≡ start + length (between_bits (listed_gates list.entry.before list.entry.gates.now) 0 (length list.entry.gates.now / 2)) }
-    ensures stored { program.new ≡ store_bits program.old start (between_bits (listed_gates list.entry.before list.entry.gates.now) 0 (length list.entry.gates.now / 2)) }
+    ensures behind { result ≡ start + length (between_bits (gates_listed list.entry.before list.entry.gates.now) 0 (length list.entry.gates.now / 2)) }
+    ensures stored { program.new ≡ store_bits program.old start (between_bits (gates_listed list.entry.before list.entry.gates.now) 0 (length list.entry.gates.now / 2)) }
 {
     let half = (list.gates.len() / 2) as u32;
-    list_gates(list, wanted);
+    list.list_gates(wanted);
     let choices = store_selection(half, 2 * half, wanted, program, start);
-    store_choices(list, program, choices);
+    list.store_choices(program, choices);
     choices + 2 * half
 }
 

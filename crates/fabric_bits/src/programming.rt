@@ -8,7 +8,7 @@ ghost use Rattle.blocks.specs.Elements.{store_bits};
 ghost use Rattle.blocks.specs.Networks.{selection_count, selection_bits};
 ghost use Rattle.plan.specs.Faults.{Accepted};
 ghost use Rattle.fabric_universal.specs.Fabric.{gate_level, fabric_takes, padded_gate, wanted_outputs, plan_bits};
-ghost use Rattle.fabric_lists.specs.WantedLists.{inputs_wanted};
+ghost use Rattle.fabric_lists.specs.WantedLists.{pins_wanted};
 ghost use Rattle.fabric_sizes.specs.FabricChecks.{plan_program_fault};
 ghost use Rattle.fabric_sizes.specs.Parts.{max_pins};
 ghost use Rattle.fabric_bits.specs.ProgramCalls.{plan_program_result};
@@ -16,7 +16,7 @@ ghost use Rattle.fabric_bits.specs.ProgramParts.{bit_limit, gates_program, Gates
 
 use crate::block::{program_universal, store_selection};
 use blocks::fill_bytes;
-use fabric_lists::{GateList, list_inputs, list_outputs, load_gates};
+use fabric_lists::{GateList, list_outputs, load_list};
 use fabric_sizes::{MAX_PINS, check_plan_program};
 use fault::Fault;
 use plan::{Gate, Plan, PlanWire};
@@ -73,7 +73,7 @@ fn load_padded(plan: Plan, gates: &mut [Gate])
     ensures { gates.new ≡ list_of plan.gate_places (padded_gate plan) }
 {
     gates.fill(SPARE_GATE);
-    load_gates(plan, gates);
+    load_list(plan, gates);
 }
 
 // The bits of S(u, 2K) and of U(K) for the gates of the list, K of them, stored from bit 0 on. Gives the bit behind them.
@@ -91,10 +91,10 @@ fn store_gates(list: GateList, wanted: &mut [u16], program: &mut [u8]) -> u32
 fn store_inputs(list: GateList, wanted: &mut [u16], program: &mut [u8]) -> u32
     requires { GatesRoom list.before list.gates.now (length wanted.old) (length program.old) }
     ensures behind { result ≡ selection_count list.entry.before (2 * length list.entry.gates.now) }
-    ensures stored { program.new ≡ store_bits program.old 0 (selection_bits list.entry.before (2 * length list.entry.gates.now) (inputs_wanted list.entry.before list.entry.gates.now)) }
+    ensures stored { program.new ≡ store_bits program.old 0 (selection_bits list.entry.before (2 * length list.entry.gates.now) (pins_wanted list.entry.before list.entry.gates.now)) }
 {
     let pins = 2 * list.gates.len() as u32;
-    list_inputs(list, wanted);
+    list.list_inputs(wanted);
     store_selection(list.before, pins, wanted, program, 0)
 }
 

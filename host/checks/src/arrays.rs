@@ -5,8 +5,9 @@
 //! under which P is programmed, and whose contract says something else, has to be known here. Of
 //! each, and of every export, the check finds the path of calls on which most is held: a function's
 //! own arrays, as `held` says, and the most that a function which it calls comes to. What a caller
-//! lends is not counted. A function that calls itself, by whatever way, holds no array. What cannot
-//! be resolved is a problem: nothing is left out.
+//! lends is not counted. A function that calls itself, by whatever way, holds no array. A function
+//! with a bound is counted for each type that has its traits, with what their `impl` blocks hold.
+//! What cannot be resolved is a problem: nothing is left out.
 
 use std::collections::{BTreeMap, BTreeSet};
 use std::path::Path;

@@ -1,6 +1,6 @@
 //! The check of public contracts: every `pub` function of a crate's source, methods and exports
-//! included, has an `ensures` and no `requires`, but that a closure which it is lent can be called,
-//! and crates.txt lists every folder of crates/.
+//! included, and every function of a `pub` trait, has an `ensures` and no `requires`, and crates.txt
+//! lists every folder of crates/.
 
 use std::io;
 use std::path::Path;
@@ -48,7 +48,8 @@ pub fn findings(source: &str) -> Vec<Finding> {
     found
 }
 
-/// Where each `pub` function starts, and where its name does. `pub(crate)` is not public.
+/// Where each `pub` function starts, and where its name does. `pub(crate)` is not public, what a
+/// `pub` trait asks for is.
 fn public_functions(text: &str) -> Vec<(usize, usize)> {
     let mut places = Vec::new();
     let mut from = 0;
@@ -65,14 +66,32 @@ fn public_functions(text: &str) -> Vec<(usize, usize)> {
         {
             at = skip_blanks(text, past_word_or_string(text, at));
         }
-        if word_at(text, at) == "fn" {
-            places.push((start, skip_blanks(text, at + 2)));
+        match word_at(text, at) {
+            "fn" => places.push((start, skip_blanks(text, at + 2))),
+            "trait" => places.extend(asked_functions(text, at)),
+            _ => {}
         }
     }
     places
 }
 
-/// The clauses of the function whose name starts at `name_at`: what stands before its body's brace.
+/// The same of the functions of a trait, from its word on.
+fn asked_functions(text: &str, at: usize) -> Vec<(usize, usize)> {
+    let open = at + text[at..].find('{').unwrap_or(0);
+    let end = past_group(text, open, '{', '}');
+    let mut places = Vec::new();
+    for (found, _) in text[open..end].match_indices("fn") {
+        let start = open + found;
+        let name_at = skip_blanks(text, start + 2);
+        if !text[..start].ends_with(is_word) && name_at > start + 2 {
+            places.push((start, name_at));
+        }
+    }
+    places
+}
+
+/// The clauses of the function whose name starts at `name_at`: what stands before its body's brace,
+/// or before its semicolon, where a trait gives it none.
 fn clauses_from(text: &str, name_at: usize) -> Clauses {
     let mut clauses = Clauses::default();
     let mut at = name_at + word_at(text, name_at).len();
@@ -83,14 +102,15 @@ fn clauses_from(text: &str, name_at: usize) -> Clauses {
     while let Some(next) = text[at..].chars().next() {
         let word = word_at(text, at);
         match (next, word) {
-            ('{', _) if keyword.is_empty() => break,
+            ('{' | ';', _) if keyword.is_empty() => break,
+            // `[u8; 4]`
+            ('[', _) => at = past_group(text, at, '[', ']'),
             ('{', _) => {
-                let end = past_group(text, at, '{', '}');
-                clauses.requires |= keyword == "requires" && !asks_to_call(&text[at..end]);
-                at = end;
+                at = past_group(text, at, '{', '}');
                 keyword = "";
             }
             (_, "requires" | "ensures" | "ghost") => {
+                clauses.requires |= word == "requires";
                 clauses.ensures |= word == "ensures";
                 keyword = word;
                 at += word.len();
@@ -99,14 +119,6 @@ fn clauses_from(text: &str, name_at: usize) -> Clauses {
         }
     }
     clauses
-}
-
-/// Whether what a clause asks, behind its premises, is that a closure can be called: `F.pre f x`.
-fn asks_to_call(clause: &str) -> bool {
-    let clause = clause.trim_start_matches('{').trim_end_matches('}');
-    let asked = clause.rsplit('→').next().unwrap_or(clause).trim();
-    let kind = word_at(asked, 0);
-    kind.starts_with(char::is_uppercase) && asked[kind.len()..].starts_with(".pre ")
 }
 
 fn word_at(text: &str, at: usize) -> &str {
@@ -192,15 +204,6 @@ mod tests {
     fn a_requires_is_found() {
         let source = "pub fn f(x: u8) -> u8\n    requires { x < 9 }\n    ensures { result ≡ x }\n{\n    x\n}\n";
         assert_eq!(problems_of(source), [(1, "has a requires")]);
-        // That a closure can be called is no such clause, whatever else is one.
-        let head = "pub fn f<F: Fn(u8) -> u8>(n: u8, f: F)\n    requires called { (k : ℕ) → k < n → F.pre f k }\n";
-        let body = "    ensures { result ≡ 0 }\n{\n}\n";
-        assert_eq!(problems_of(&format!("{head}{body}")), []);
-        let more = "    requires { F.pre f 0 → n < 9 }\n";
-        assert_eq!(
-            problems_of(&format!("{head}{more}{body}")),
-            [(1, "has a requires")]
-        );
     }
 
     #[test]
@@ -212,6 +215,16 @@ mod tests {
             problems_of(export),
             [(2, "has a requires"), (2, "has no ensures")]
         );
+    }
+
+    #[test]
+    fn what_a_public_trait_asks_for_counts() {
+        let of_trait = "trait Tells {\n    ghost told: { Self → ℕ };\n\n    fn one(&self) -> [u8; 2]\n        requires { any }\n        ensures { told };\n    fn two(&self);\n    fn three(&self) -> u8\n        ensures { told }\n    {\n        1\n    }\n}\n";
+        assert_eq!(
+            problems_of(&format!("pub {of_trait}")),
+            [(4, "has a requires"), (7, "has no ensures")]
+        );
+        assert_eq!(problems_of(of_trait), []);
     }
 
     #[test]

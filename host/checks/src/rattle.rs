@@ -33,37 +33,39 @@ pub fn past_group(text: &str, at: usize, open: char, close: char) -> usize {
     text.len()
 }
 
-/// A function, type or constant that a source declares.
+/// A function, type, trait or constant that a source declares.
 #[derive(Debug, PartialEq, Eq)]
 pub struct Item {
     pub line: usize,
-    /// A method or associated constant has its type before it, as in `Plan::zero`; a function of a
-    /// trait the name that rt gives its `impl` block, as in `U32FromFault::from`.
+    /// A method or associated constant has its type before it, as in `Plan::zero`, or its trait; a
+    /// function in a trait's `impl` block the name that rt gives this, as in `U32FromFault::from`.
     pub name: String,
     pub is_public: bool,
     pub is_function: bool,
 }
 
-/// The indentation of what stands in an `impl` block.
+/// The indentation of what stands in an `impl` block or a trait.
 const INSIDE: &str = "    ";
 
-/// The items of a source in rt's layout: each begins a line, at its start or inside an `impl` block.
-/// `pub(crate)` is not public, what a trait asks for is; `use` and `mod` declare nothing, and a type
-/// in a trait's `impl` block is the trait's.
+/// The items of a source in rt's layout: each begins a line, at its start or inside an `impl` block
+/// or a trait. `pub(crate)` is not public, what a trait asks for is, as far as the trait is; `use`
+/// and `mod` declare nothing, and a type in a trait's `impl` block is the trait's.
 pub fn items(source: &str) -> Vec<Item> {
     let text = without_comments(source);
     let mut found = Vec::new();
-    // The type whose `impl` block is open, and whether that is a trait's.
+    // What is open: the type of an `impl` block or a trait, and whether all in it is public.
     let mut of: Option<String> = None;
     let mut of_trait = false;
     for (line, text) in (1..).zip(text.lines()) {
+        // `impl name for name {}`
+        let is_open = !text.trim_end().ends_with('}');
         if text.starts_with("impl ") || text.starts_with("impl<") {
             let (name, is_trait) = block_name(text);
-            (of, of_trait) = (Some(name), is_trait);
+            (of, of_trait) = (is_open.then_some(name), is_open && is_trait);
             continue;
         }
         if text.starts_with('}') {
-            of = None;
+            (of, of_trait) = (None, false);
         }
         let code = match of {
             Some(_) => text.strip_prefix(INSIDE).unwrap_or_default(),
@@ -80,6 +82,9 @@ pub fn items(source: &str) -> Vec<Item> {
                 is_public: of_trait || code.starts_with("pub "),
                 is_function: kind == "fn",
             });
+            if kind == "trait" && is_open {
+                (of, of_trait) = (Some(name.to_string()), code.starts_with("pub "));
+            }
         }
     }
     found
@@ -94,7 +99,9 @@ fn block_name(head: &str) -> (String, bool) {
         false => head,
     };
     let words = |text: &str| -> Vec<String> {
-        let words = text.split(|c| !is_word(c)).filter(|word| !word.is_empty());
+        let words = text.split(|c| !is_word(c) && c != '\'');
+        // A lifetime is none.
+        let words = words.filter(|word| !word.is_empty() && !word.starts_with('\''));
         words.map(str::to_string).collect()
     };
     match head.split_once(" for ") {
@@ -117,7 +124,9 @@ fn kind_and_name(code: &str) -> Option<(&str, &str)> {
     let mut words = words.skip_while(mark);
     match (words.next()?, words.next()?) {
         ("const", "fn") => words.next().map(|name| ("fn", name)),
-        (kind @ ("fn" | "struct" | "enum" | "const" | "type"), name) => Some((kind, name)),
+        (kind @ ("fn" | "struct" | "enum" | "trait" | "const" | "type"), name) => {
+            Some((kind, name))
+        }
         _ => None,
     }
 }
@@ -162,6 +171,24 @@ impl TryFrom<u8> for Plan {
 impl<'a> Parts<'a> {
     fn first(self) -> u8 {}
 }
+pub trait Tells {
+    ghost told: { Self → ℕ };
+
+    fn one(&self) -> u8
+        ensures { result ≡ told self.now };
+}
+impl Tells for Parts<'_> {
+    ghost told = { λ parts. 1 };
+
+    fn one(&self) -> u8 {}
+}
+fn behind() {}
+trait Inside {
+    fn two(&self);
+}
+pub trait Empty {}
+impl Empty for Parts<'_> {}
+fn last() {}
 #[unsafe(no_mangle)]
 pub extern \"C\" fn mkd_run() {}
 fn inner(
@@ -188,9 +215,17 @@ pub const fn folded() {}
                 "18 pub Plan::zero()",
                 "29 pub PlanTryFromU8::try_from()",
                 "32 Parts::first()",
-                "35 pub mkd_run()",
-                "36 inner()",
-                "41 pub folded()",
+                "34 pub Tells",
+                "37 pub Tells::one()",
+                "43 pub PartsTells::one()",
+                "45 behind()",
+                "46 Inside",
+                "47 Inside::two()",
+                "49 pub Empty",
+                "51 last()",
+                "53 pub mkd_run()",
+                "54 inner()",
+                "59 pub folded()",
             ]
         );
     }

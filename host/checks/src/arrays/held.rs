@@ -47,6 +47,9 @@ pub fn holding(library: &Library, at: &Instance) -> Result<Holding, Failure> {
         ..*place
     };
     let result = library.kind(place, &item.result, item.line)?;
+    let Some(body) = &item.body else {
+        return fail(item.line, "a function without a body");
+    };
     let mut walk = Walk {
         library,
         place,
@@ -60,7 +63,7 @@ pub fn holding(library: &Library, at: &Instance) -> Result<Holding, Failure> {
         walk.bind(name, of, item.line)?;
     }
     walk.hold("the result", &result, item.line)?;
-    walk.block(&item.body, Some(&result), Counted::Elsewhere)?;
+    walk.block(body, Some(&result), Counted::Elsewhere)?;
     Ok(walk.found)
 }
 

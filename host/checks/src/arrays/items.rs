@@ -1,7 +1,9 @@
-//! The items of a source: modules, uses, constants, types, functions.
+//! The items of a source: modules, uses, constants, types, traits, functions.
 
 use super::parser::{Parsed, Parser};
-use super::syntax::{Argument, Constant, Declared, Form, Function, Item, Parameter, Path, Written};
+use super::syntax::{
+    Argument, Constant, Declared, Form, Function, Item, Parameter, Path, Trait, Written,
+};
 use super::tokens::Token;
 
 /// The items of a source.
@@ -55,7 +57,7 @@ impl Parser {
             let mut of_trait = None;
             if self.word("for") {
                 of_trait = match of {
-                    Written::Named(path) | Written::Generic(path, _) => path.words.last().cloned(),
+                    Written::Named(_) | Written::Generic(..) => Some(of),
                     _ => return self.unread("a trait is expected"),
                 };
                 of = self.kind()?;
@@ -67,6 +69,10 @@ impl Parser {
                 self.symbol(";");
             }
             found.push(Item::Methods(of_trait, of, inside));
+            return Ok(());
+        }
+        if self.word("trait") {
+            found.push(Item::Trait(self.asked(is_public)?));
             return Ok(());
         }
         if let Some(item) = self.declared()? {
@@ -267,11 +273,11 @@ impl Parser {
             if !parser.symbol(":") {
                 return parser.unread("a bound is expected");
             }
-            let bound = parser.kind()?;
+            let mut bounds = vec![parser.kind()?];
             while parser.symbol("+") {
-                parser.kind()?;
+                bounds.push(parser.kind()?);
             }
-            Ok(Some(Parameter::Type(name, bound)))
+            Ok(Some(Parameter::Type(name, bounds)))
         })?;
         Ok(found.into_iter().flatten().collect())
     }
@@ -283,7 +289,41 @@ impl Parser {
         Ok(Written::Reference(Box::new(self.kind()?)))
     }
 
+    /// A trait behind its word: ghost members, and functions with a body or without.
+    fn asked(&mut self, is_public: bool) -> Parsed<Trait> {
+        let line = self.line();
+        let name = self.name()?;
+        self.expect("{")?;
+        let mut functions = Vec::new();
+        while !self.symbol("}") {
+            if self.token(&Token::Ghost) {
+                self.symbol(";");
+                continue;
+            }
+            if !self.word("fn") {
+                return self.unread("a function is expected");
+            }
+            let mut function = self.head(is_public, false)?;
+            if !self.symbol(";") {
+                function.body = Some(self.block()?);
+            }
+            functions.push(function);
+        }
+        Ok(Trait {
+            name,
+            line,
+            functions,
+        })
+    }
+
     fn function(&mut self, is_public: bool, is_export: bool) -> Parsed<Function> {
+        let mut function = self.head(is_public, is_export)?;
+        function.body = Some(self.block()?);
+        Ok(function)
+    }
+
+    /// A function up to its body.
+    fn head(&mut self, is_public: bool, is_export: bool) -> Parsed<Function> {
         let line = self.line();
         let name = self.name()?;
         let generics = self.generics()?;
@@ -298,7 +338,6 @@ impl Parser {
             contract.push_str(text);
             self.next();
         }
-        let body = self.block()?;
         Ok(Function {
             name,
             line,
@@ -308,7 +347,7 @@ impl Parser {
             parameters,
             result,
             contract,
-            body,
+            body: None,
         })
     }
 

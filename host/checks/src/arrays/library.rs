@@ -1,13 +1,16 @@
 //! The sources of all crates together, and what a path names in them.
 
 use std::collections::HashMap;
+use std::mem;
 
 use super::items::items;
-use super::syntax::{Constant, Declared, Form, Function, Item, Parameter, Path, Written};
+use super::syntax::{Constant, Declared, Form, Function, Item, Path, Trait, Written};
 use super::tokens::{fail, Failure};
 use super::types::{width, Type};
 use crate::files::File;
 use crate::listing::Listed;
+
+mod traits;
 
 /// What a path names: a place in one of the library's lists.
 #[derive(Clone, Copy, Debug, PartialEq, Eq)]
@@ -18,6 +21,7 @@ pub enum Entity {
     Variant(usize, usize),
     Function(usize),
     Constant(usize),
+    Trait(usize),
 }
 
 /// What a parameter between `<` and `>` stands for.
@@ -70,11 +74,19 @@ pub struct Library {
     pub declared: Vec<Standing<Declared>>,
     pub functions: Vec<Standing<Function>>,
     pub constants: Vec<Standing<Constant>>,
-    /// What stands in the `impl` blocks of a type.
+    traits: Vec<Standing<Trait>>,
+    /// The `impl` blocks, until all that they may name is known.
+    blocks: Vec<Standing<Block>>,
+    /// What stands in the `impl` blocks of a type, and of the traits of the sources that it has.
     members: HashMap<(usize, String), Entity>,
-    /// The functions of traits, each with the type that it is for.
+    /// The traits of the sources, each with a type that has it.
+    has: Vec<(usize, usize)>,
+    /// The functions of the kit's traits, each with the type that it is for.
     implemented: Vec<(Written, usize)>,
 }
+
+/// An `impl` block: its trait, if it is a trait's, the type that it is for, and what stands in it.
+type Block = (Option<Written>, Written, Vec<Item>);
 
 /// How far one name may stand for another: longer chains go round.
 pub const CHAIN: usize = 100;
@@ -95,6 +107,11 @@ impl Library {
             library.roots.insert(listed.name.clone(), root);
             library.module(file, files, root, None, &listed.over)?;
         }
+        for Standing { item, place } in mem::take(&mut library.blocks) {
+            let taken = library.methods(place, item);
+            taken.map_err(|failure| library.located(place.module, failure))?;
+        }
+        library.traits_are_known()?;
         Ok(library)
     }
 
@@ -121,11 +138,11 @@ impl Library {
             own: None,
             meanings: &[],
         };
-        let mut methods = Vec::new();
         for item in items(&file.text).map_err(within)? {
             let (name, line, entity) = match item {
                 Item::Methods(of_trait, of, inside) => {
-                    methods.push((of_trait, of, inside));
+                    let item = (of_trait, of, inside);
+                    self.blocks.push(Standing { item, place });
                     continue;
                 }
                 Item::Use(path, name) => {
@@ -157,14 +174,10 @@ impl Library {
                 return Err(within(twice(&name, line)));
             }
         }
-        for (of_trait, of, inside) in methods {
-            let of_trait = of_trait.is_some();
-            self.methods(place, of_trait, &of, inside).map_err(within)?;
-        }
         Ok(module)
     }
 
-    /// Takes up a type, a constant or a function: its name, its line, and what it is.
+    /// Takes up a type, a constant, a function or a trait: its name, its line, and what it is.
     fn declare(
         &mut self,
         item: Item,
@@ -187,47 +200,71 @@ impl Library {
                 self.functions.push(Standing { item, place });
                 (name, line, Entity::Function(self.functions.len() - 1))
             }
+            Item::Trait(item) => {
+                let (name, line) = (item.name.clone(), item.line);
+                no_number(&name, line)?;
+                self.traits.push(Standing { item, place });
+                (name, line, Entity::Trait(self.traits.len() - 1))
+            }
             Item::Use(Path { line, .. }, _) => return fail(line, "not read: use in an impl block"),
             Item::Methods(..) => return fail(1, "not read: an impl block in another"),
             Item::Module(_, line) => return fail(line, "not read: a module in an impl block"),
         })
     }
 
-    /// What stands in an `impl` block. A trait's is for a type that may be a number's.
+    /// What stands in an `impl` block. One of the kit's traits is for a type that may be a number's.
     fn methods(
         &mut self,
         place: Place<'static>,
-        of_trait: bool,
-        of: &Written,
-        inside: Vec<Item>,
+        (of_trait, of, mut inside): Block,
     ) -> Result<(), Failure> {
-        let own = match of {
-            Written::Named(path) | Written::Generic(path, _) => match self.entity(place, path) {
-                Ok(Entity::Declared(own)) => Some(own),
-                _ if of_trait => None,
-                _ => return fail(path.line, "an impl block of something that is no type"),
-            },
-            _ => return fail(1, "an impl block of something that is no name"),
+        let at = match &of_trait {
+            Some(of_trait) => self.of_trait(place, of_trait)?,
+            None => None,
         };
+        let of_kit = of_trait.is_some() && at.is_none();
+        let (Written::Named(path) | Written::Generic(path, _)) = &of else {
+            return fail(1, "an impl block of something that is no name");
+        };
+        let own = match self.entity(place, path) {
+            Ok(Entity::Declared(own)) => Some(own),
+            _ if of_kit => None,
+            _ => return fail(path.line, "an impl block of something that is no type"),
+        };
+        if let (Some(at), Some(own)) = (at, own) {
+            self.take_trait(at, own, &mut inside, path.line)?;
+        }
         let own_place = Place { own, ..place };
         for item in inside {
             // `type Error = ..;` of a trait
-            if matches!(&item, Item::Declared(Declared { form: Form::Alias(_), .. }) if of_trait) {
+            if matches!(&item, Item::Declared(Declared { form: Form::Alias(_), .. }) if of_kit) {
                 continue;
             }
             let (name, line, entity) = self.declare(item, own_place)?;
-            if let (true, Entity::Function(function)) = (of_trait, entity) {
+            if let (true, Entity::Function(function)) = (of_kit, entity) {
                 self.implemented.push((of.clone(), function));
             } else if let Some(own) = own {
-                if self.members.insert((own, name.clone()), entity).is_some() {
-                    return Err(twice(&name, line));
-                }
+                self.add_member(own, name, line, entity)?;
             }
         }
         Ok(())
     }
 
-    /// The function of a trait with this name that is for a type and takes such a first argument.
+    fn add_member(
+        &mut self,
+        own: usize,
+        name: String,
+        line: usize,
+        entity: Entity,
+    ) -> Result<(), Failure> {
+        match self.members.insert((own, name.clone()), entity) {
+            Some(_) => Err(twice(&name, line)),
+            None => Ok(()),
+        }
+    }
+
+    /// The function of a kit's trait with this name that is for a type and takes such a first
+    /// argument.
     pub fn implemented(&self, of: &Type, name: &str, first: &Type) -> Option<usize> {
         let fits = |(target, function): &&(Written, usize)| {
             let Standing { item, place } = &self.functions[*function];
@@ -247,25 +284,11 @@ impl Library {
             .map(|(_, function)| *function)
     }
 
-    /// The functions of which something holds, but for those with a constant parameter: what they
-    /// hold is counted where they are called.
+    /// The functions of which something holds, for each type that their bounds tell, but for those
+    /// with a constant parameter or one of any type: what they hold is counted where they are called.
     pub fn instances_that(&self, is_so: impl Fn(&Function) -> bool) -> Vec<Instance> {
         let all = (0..self.functions.len()).filter(|at| is_so(&self.functions[*at].item));
-        all.filter_map(|function| self.instance(function)).collect()
-    }
-
-    /// A function whose parameters between `<` and `>` are types that are called alone.
-    fn instance(&self, function: usize) -> Option<Instance> {
-        let Standing { item, place } = &self.functions[function];
-        let meaning = |parameter: &Parameter| match parameter {
-            Parameter::Constant(_) => None,
-            Parameter::Type(name, bound) => {
-                let of = self.kind(*place, bound, item.line).ok()?;
-                Some((name.clone(), Meaning::Type(of)))
-            }
-        };
-        let meanings = item.generics.iter().map(meaning).collect::<Option<_>>()?;
-        Some(Instance { function, meanings })
+        all.flat_map(|function| self.instances(function)).collect()
     }
 
     /// A function's name; a method has its type before it.

@@ -20,8 +20,8 @@ pub enum Argument {
 pub enum Parameter {
     /// `const NAME: usize`
     Constant(String),
-    /// `NAME: bound`
-    Type(String, Written),
+    /// `NAME: bound + ..`
+    Type(String, Vec<Written>),
 }
 
 #[derive(Clone, Debug)]
@@ -33,8 +33,9 @@ pub enum Item {
     Constant(Constant),
     Declared(Declared),
     Function(Function),
-    /// `impl name { .. }`, or `impl trait<type> for name { .. }`, with the trait's name
-    Methods(Option<String>, Written, Vec<Item>),
+    Trait(Trait),
+    /// `impl name { .. }`, or `impl trait<type> for name { .. }`, with the trait
+    Methods(Option<Written>, Written, Vec<Item>),
 }
 
 #[derive(Clone, Debug)]
@@ -63,6 +64,14 @@ pub enum Form {
     Enum(Vec<(String, Vec<(String, Written)>)>),
 }
 
+/// `trait name { .. }`, with its functions: each is as public as the trait.
+#[derive(Clone, Debug)]
+pub struct Trait {
+    pub name: String,
+    pub line: usize,
+    pub functions: Vec<Function>,
+}
+
 #[derive(Clone, Debug)]
 pub struct Function {
     pub name: String,
@@ -75,7 +84,8 @@ pub struct Function {
     pub result: Written,
     /// The text of its contracts.
     pub contract: String,
-    pub body: Block,
+    /// None where a trait leaves it to its `impl` blocks.
+    pub body: Option<Block>,
 }
 
 /// A type as it is written.

@@ -353,6 +353,143 @@ fn an_array_under_a_closure_that_is_lent_is_refused() {
     is_above(&found, 2_563, &format!("a value in line {line} 3"));
 }
 
+/// A trait, a type that has it, whose first function holds three bytes, and a call by the bound.
+const TELLS: &str = "\
+pub trait Tells {
+    ghost told: { Self → ℕ };
+
+    fn first(&self, k: usize) -> u8
+        requires { k < 3 }
+        ensures { result ≡ told self.now }
+        ensures small { result < 9 };
+    fn second(&self) -> u8 { self.first(2) }
+}
+struct Row<'a> { wires: &'a [u16] }
+impl<'a> Tells for Row<'a> {
+    ghost told = { λ row. 0 };
+
+    fn first(&self, k: usize) -> u8 { [0u8; 3][k] }
+}
+fn ask<T: Tells>(count: usize, bits: &T) -> u8 { bits.first(count) }
+";
+
+#[test]
+fn a_method_of_a_trait_is_counted() {
+    let (_, below) = planted_lines();
+    let words = format!("Row::first has a value in line {} 3", below + 13);
+    let more = "\
+struct Other { one: u8 }
+impl Tells for Other {
+    ghost told = { λ other. 0 };
+    fn first(&self, k: usize) -> u8 { 0 }
+}
+fn ask_more<T: Copy + Tells>(bits: T) -> u8 { ask(0, &bits) }
+";
+    let items = format!("{TELLS}{more}");
+    // Through a bound, through two of them, by the type itself, by the trait's own body.
+    for call in [
+        "ask(4, &Row { wires: wanted });",
+        "let row = Row { wires: wanted }; ask_more(row);",
+        "let row = &Row { wires: wanted }; ask(1, row);",
+        "Row { wires: wanted }.first(0);",
+        "Row { wires: wanted }.second();",
+    ] {
+        let found = beside(&format!("    {call}"), &items);
+        is_above(&found, 2_563, &words);
+    }
+    // The trait of a module that comes later, by a public name.
+    let (of_trait, rest) = TELLS.split_at(TELLS.find("struct").expect("a struct is there"));
+    let (crates, mut files) = sources();
+    files.push(File {
+        path: "crates/block_permutation_bits/src/tells.rt".into(),
+        text: of_trait.into(),
+    });
+    let modules = "mod programming;\nmod tells;\npub use tells::Tells as Says;\n";
+    put(&mut files, DOOR, "mod programming;\n", modules);
+    let more = format!("{BESIDE}    ask(4, &Row {{ wires: wanted }});\n");
+    put(&mut files, PROGRAMMING, BESIDE, &more);
+    text(&mut files, PROGRAMMING).push_str(&format!("use crate::Says as Tells;\n{rest}"));
+    is_above(&arrays(&crates, &files), 2_563, "Row::first has");
+    // Another type's holds nothing.
+    for call in ["ask(4, &Other { one: 1 });", "Other { one: 1 }.second();"] {
+        let found = beside(&format!("    {call}"), &items);
+        assert_eq!((bytes(&found), found.problems.len()), (2_560, 0), "{call}");
+    }
+}
+
+#[test]
+fn a_method_of_a_trait_under_a_closure_that_is_lent_is_refused() {
+    let lend = "\
+fn lend<F: Fn(usize) -> u8>(f: &F) -> u8 { f(0) }
+fn ask_by<T: Tells>(bits: &T) -> u8 { lend(&|k| bits.first(k)) }
+";
+    let call = "    ask_by(&Row { wires: wanted });";
+    let found = beside(call, &format!("{TELLS}{lend}"));
+    let (_, below) = planted_lines();
+    let problem = "Row::first holds arrays, and a closure that is lent calls it";
+    let problem = format!("{PROGRAMMING}:{}: {problem}", below + 13);
+    assert!(found.problems.contains(&problem), "{:?}", found.problems);
+    // The repository's own, of a trait of another crate, and through the door of the blocks.
+    for (path, old, name) in [
+        (
+            "crates/block_selection_bits/src/program.rt",
+            "        is_wanted(self.counts, ",
+            "Chain",
+        ),
+        (
+            "crates/fabric_lists/src/wanted.rt",
+            "        is_among(self.before, self.half, operand(self.lower, ",
+            "Choices",
+        ),
+    ] {
+        let more = format!("        let spare = [0u8; 1];\n{old}");
+        let problem = format!("{name}::is_one holds arrays, and a closure that is lent calls it");
+        let line = line_of(path, old) - 1;
+        is_refused(
+            &planted(&[(path, old, &more)]),
+            &format!("{path}:{line}: {problem}"),
+        );
+    }
+}
+
+#[test]
+fn a_trait_that_is_not_resolved_is_refused() {
+    let (_, below) = planted_lines();
+    let line = below + TELLS.matches('\n').count();
+    for (item, problem) in [
+        ("fn any<T: Unknown>(x: T) {}", "what Unknown names was not found"),
+        ("fn any<T: Tells + Unknown>(x: T) {}", "what Unknown names was not found"),
+        ("fn any<F: Fn(u8) -> u8 + Unknown>(f: F) {}", "what Unknown names was not found"),
+        ("fn any<T: Row>(x: T) {}", "a trait is expected"),
+        ("impl Unknown for Row<'_> {}", "what Unknown names was not found"),
+        ("impl Row for Row<'_> {}", "a trait is expected"),
+        ("impl Tells for Unknown {}", "an impl block of something that is no type"),
+        ("impl Tells for u8 {}", "an impl block of something that is no type"),
+        ("struct Two { a: u8 } impl Tells for Two {}", "Tells asks for first, which is missing"),
+        ("impl Row<'_> { fn first(&self, k: usize) -> u8 { 0 } }", "first is declared twice here"),
+        ("impl Tells for Row<'_> { fn third(&self) {} }", "Tells has no function third"),
+        ("impl Tells for Row<'_> { const ONE: u8 = 1; }", "not read: more than functions for Tells"),
+        ("trait Unused { fn one(&self); }", "no type has the trait Unused"),
+        ("trait Wide { fn one(&self); } struct Two { a: u8 } impl Wide for Two { fn one(&self) {} } fn any<T: Tells + Wide>(x: &T) {}", "no type has the traits of T"),
+        ("trait Row { fn one(&self); }", "Row is declared twice here"),
+        ("trait u8 { fn one(&self); }", "u8 is the name of a number's type"),
+        ("trait Wide { const ONE: u8; }", "not read: a function is expected, Word(\"const\") was found"),
+        ("trait Wide: Tells { fn one(&self); }", "not read: { is expected, Symbol(\":\") was found"),
+        ("fn any();", "not read: { is expected, Symbol(\";\") was found"),
+        ("pub fn any<T: Tells>(bits: &T) { bits.third(); }", "the method third was not found"),
+        ("pub fn any(bits: &Tells) {}", "a type is expected"),
+        ("pub fn any(bits: &Row) { Tells::first(bits, 0); }", "what Tells::first names was not found"),
+        ("struct Two { a: u8 } pub fn any(two: &Two) { ask(0, two); }", "what T stands for lacks one of its traits"),
+        ("pub fn any(row: &&Row) { ask(0, row); }", "what T stands for lacks one of its traits"),
+        ("pub fn any(row: Row) { ask(0, row); }", "a reference is expected"),
+        ("struct Two { a: u8 } pub fn any(two: &Two) { two.second(); }", "the method second was not found"),
+        ("pub fn any() { none(); } fn none<T: Tells>() {}", "what a parameter stands for is not written"),
+    ] {
+        let found = beside("", &format!("{TELLS}{item}\n"));
+        is_refused(&found, &format!("{PROGRAMMING}:{line}: {problem}"));
+    }
+}
+
 #[test]
 fn what_is_not_resolved_is_refused() {
     let (line, below) = planted_lines();
@@ -477,6 +614,31 @@ pub fn program_more(n: u32, wanted: &[u16], program: &mut [u8]) -> Result<(), Fa
     );
     // A function for its crate alone is no call.
     let inside = beside("", &call.replace("pub fn", "pub(crate) fn"));
+    assert_eq!((bytes(&inside), inside.programming.len()), (2_560, 3));
+    // A trait's is one, by the trait's contract, where it is public.
+    let call = "\
+pub trait Programs {
+    fn program_by(&self, wanted: &[u16], program: &mut [u8]) -> Result<(), Fault>
+        ensures { more };
+}
+struct Size(u32);
+impl Programs for Size {
+    fn program_by(&self, wanted: &[u16], program: &mut [u8]) -> Result<(), Fault> {
+        program_permutation(self.0, wanted, program)
+    }
+}
+";
+    let found = beside("", &call.replace("{ more }", "{ program_result n }"));
+    let names: Vec<&str> = found.programming.iter().map(|one| &*one.call).collect();
+    assert!(names.contains(&"Size::program_by"), "{names:?}");
+    assert_eq!(bytes(&found), 2_560);
+    let line = below + 6;
+    let problem = "Size::program_by programs P, and its contract does not say so";
+    is_refused(
+        &beside("", call),
+        &format!("{PROGRAMMING}:{line}: {problem}"),
+    );
+    let inside = beside("", &call.replace("pub trait", "trait"));
     assert_eq!((bytes(&inside), inside.programming.len()), (2_560, 3));
 }
 

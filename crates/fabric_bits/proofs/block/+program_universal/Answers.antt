@@ -1,7 +1,7 @@
 -- By the number of gates: the upper half, the part between and the lower half are stored one behind the other.
 use Rattle.std.proofs.Common.{◌/◌, length, ap, ◌∙◌, arith}
 use Rattle.blocks.specs.Elements.{store_bits}
-use Rattle.fabric_lists.specs.GateLists.{listed_gates}
+use Rattle.fabric_lists.specs.GateLists.{gates_listed}
 use Rattle.fabric_bits.proofs.UniversalBitsLaws.{takes-half, upper-program-room, between_room, lower-program-room, length_between, length-upper, length-lower, upper-bits, lower-bits, more-gates, gate-takes, gate-stored, halves_stored}
 use Rattle.fabric_bits.proofs.block.+program_universal.Goals as goal
 
@@ -11,7 +11,7 @@ returns-then-list-eq1 t c =
     let gates = a.list.gates.now in
     record {
       behind = omega (arith, gate-takes {gates = length gates} (omega arith));
-      stored = c.store_table.ensures ∙ gate-stored (listed_gates a.list.before gates) (length gates) 0 a.start a.program.now (omega arith);
+      stored = c.store_table.ensures ∙ gate-stored (gates_listed a.list.before gates) (length gates) 0 a.start a.program.now (omega arith);
     }
 
 pub program_universal-between-requires : goal.program_universal-between-requires
@@ -36,7 +36,7 @@ program_universal-requires t c =
     let upper = c.program_universal-between in
     let between = c.program_between-behind in
     let first = rw (length-upper c.args.list.gates.now h c.halves.ensures.upper.1) at upper.ensures.behind in
-    let bits = length_between (listed_gates list.before list.gates.now) 0 (length list.gates.now / 2) in (
+    let bits = length_between (gates_listed list.before list.gates.now) 0 (length list.gates.now / 2) in (
       omega (arith, h.twice, h.some, size),
       lower-program-room c.requires h before size (omega (arith, between.ensures.behind, first, bits))
           (between.auto.wanted ∙ upper.auto.wanted) (between.auto.program ∙ upper.auto.program),
@@ -46,7 +46,7 @@ pub returns : goal.returns
 returns t c =
     let a = c.args in
     let list = a.list in
-    let G = listed_gates list.before list.gates.now in
+    let G = gates_listed list.before list.gates.now in
     let half = length list.gates.now / 2 in
     let h = more-gates c.requires.power c.if-list-eq1.false in
     let (upper-before, upper-gates) = c.halves.ensures.upper in

@@ -22,5 +22,5 @@ returns-clause-written c =
     let h = plan-program-passes _ _ (sym none) in
     let bits = plan_bits a.plan in
     let bytes = ap bytes_for (length-plan_bits a.plan) ∙ sym measured in
-    c.store_plan.ensures ∙ ap (λ s. store_bits s 0 bits) (c.fill_bytes.ensures ∙ bytes-filled _ 0 a.program.now (omega (arith, h.fits, measured)))
+    c.store_plan.ensures ∙ ap (λ s. store_bits s 0 bits) (c.fill_bytes.ensures ∙ bytes-filled c.in_ok-length.length 0 a.program.now (omega (arith, h.fits, measured)))
     ∙ store_zeroed bits a.program.now _ bytes ∙ filled-done _ _ _ none

@@ -1,19 +1,20 @@
--- The list holds the plan's gates, and the parts, stored one behind the other, are the whole.
+-- The list holds the plan's gates, and the parts, stored one behind the other, are the whole. A list of k gates would fit too: k is at most K.
 use Rattle.std.proofs.Common.{◌≤◌, length, refl, rules, arith}
+use Rattle.fabric_sizes.proofs.PartsLaws.{all-placed}
 use Rattle.fabric_bits.proofs.LoadedLaws.{few-held}
 use Rattle.fabric_bits.proofs.PlanBitsLaws.{gates-program-room, plan-stored, output-bits-fit}
 use Rattle.fabric_bits.proofs.programming.store_plan.Goals as goal
 
 pub slice_bounds-gates-end : goal.slice_bounds-gates-end
-slice_bounds-gates-end c = omega (arith, few-held c.args.plan c.requires.accepted)
+slice_bounds-gates-end c = omega (arith, few-held c.args.plan c.requires.accepted, all-placed c.args.plan c.requires.accepted)
 
 pub slice_bounds-gates-end-2 : goal.slice_bounds-gates-end-2
 slice_bounds-gates-end-2 c =
-    let few : c.from.result ≤ 256 = omega (arith, few-held c.args.plan c.requires.accepted) in search rules
+    let few : c.from.result ≤ 256 = omega (arith, few-held c.args.plan c.requires.accepted, all-placed c.args.plan c.requires.accepted) in search rules
 
 pub load_padded-requires : goal.load_padded-requires
 load_padded-requires c =
-    let few : c.from.result ≤ 256 = omega (arith, few-held c.args.plan c.requires.accepted) in search rules
+    let few : c.from.result ≤ 256 = omega (arith, few-held c.args.plan c.requires.accepted, all-placed c.args.plan c.requires.accepted) in search rules
 
 pub store_gates-next-requires : goal.store_gates-next-requires
 store_gates-next-requires c =

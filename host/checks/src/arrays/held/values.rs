@@ -435,20 +435,28 @@ impl Walk<'_> {
                         _ => return fail(line, "an array is expected"),
                     }
                 }
-                (Parameter::Type(name, bound @ Written::Callable(..)), None) => {
+                (Parameter::Type(name, bounds), None) => {
                     let place = Place {
                         meanings: &meanings,
                         ..*place
                     };
-                    (name, Meaning::Type(self.library.kind(place, bound, line)?))
-                }
-                (Parameter::Type(name, _), None) => {
-                    let is_it = |(_, of): &&(String, Written)| matches!(of, Written::Named(path) if path.words == [name.clone()]);
-                    let parameters = item.parameters.iter().skip(before).zip(arguments);
-                    let Some((_, argument)) = { parameters }.find(|(one, _)| is_it(one)) else {
-                        return fail(line, "what a parameter stands for is not written");
-                    };
-                    (name, Meaning::Type(self.type_of(argument)?))
+                    let types = self.library.bounded(place, bounds, line)?;
+                    if let Some([of @ Type::Callable(..)]) = types.as_deref() {
+                        (name, Meaning::Type(of.clone()))
+                    } else {
+                        let is_it = |of: &Written| is_named(of, name);
+                        let parameters = item.parameters.iter().skip(before).zip(arguments);
+                        let given = { parameters }.find(|((_, of), _)| is_it(of));
+                        let Some(((_, written), argument)) = given else {
+                            return fail(line, "what a parameter stands for is not written");
+                        };
+                        let of = behind(written, self.type_of(argument)?, line)?;
+                        if types.is_some_and(|types| !types.contains(&of)) {
+                            let problem = format!("what {name} stands for lacks one of its traits");
+                            return fail(line, problem);
+                        }
+                        (name, Meaning::Type(of))
+                    }
                 }
                 _ => return fail(line, "what a parameter stands for is not written"),
             };
@@ -563,6 +571,24 @@ fn is_array_of(of: &Written, name: &str) -> bool {
             matches!(&length.form, Of::Path(path) if path.words == [name.to_string()])
         }
         _ => false,
+    }
+}
+
+/// Whether a written type is this parameter's name, or a reference to it.
+fn is_named(of: &Written, name: &str) -> bool {
+    match of {
+        Written::Reference(of) => is_named(of, name),
+        Written::Named(path) => path.words == [name.to_string()],
+        _ => false,
+    }
+}
+
+/// What stands behind as many references as a written type has.
+fn behind(written: &Written, of: Type, line: usize) -> Walked<Type> {
+    match (written, of) {
+        (Written::Reference(written), Type::Reference(of)) => behind(written, *of, line),
+        (Written::Reference(_), _) => fail(line, "a reference is expected"),
+        (_, of) => Ok(of),
     }
 }
 
